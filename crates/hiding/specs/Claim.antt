@@ -1,0 +1,132 @@
+-- Document 01, "Two lists and their tapes": what demand 3 compares, over the rules' own run.
+use mathlib.Core.Path.{_≡_}
+use mathlib.Core.Bool.{true}
+use mathlib.Core.List.{List, [], _∷_, _++_, map}
+use Prim.Native.Nat.{ℕ, _≤_, _<_}
+use lib.ListN.{length, take, drop, replicate}
+use lib.Dec.{eqb}
+use Rattle.lists.specs.Tests.{if_then_else_}
+use Rattle.rules.specs.Shape.{Shape}
+use Rattle.rules.specs.State.{State, Command}
+use Rattle.rules.specs.Ranges.{isKind, bytesOf}
+use Rattle.rules.specs.Draws.{draws}
+use Rattle.rules.specs.Questions.{Ask, opening, request, turn, completion, collect, Call, bounds, number}
+use Rattle.rules.specs.Run.{Outcome, act, refuse, numbersOf, step, run}
+use Rattle.matching.specs.Draws.{Below}
+use Rattle.hiding.specs.Cache.{Later, AgreeUntil8, openOver}
+
+-- A call of a list: what is asked, and the lengths lent. The words themselves are no part of it.
+pub record Lent : Type 0 where
+  pub ask : Ask
+  pub memory : ℕ
+  pub words : ℕ
+  pub buffer : ℕ
+
+-- the call with these words lent
+abbrev pub lend : Lent → List ℕ → Call
+lend a ws = record { ask = a .ask; memory = a .memory; words = ws; buffer = a .buffer }
+
+-- ---- Two lists
+
+-- A request is well-formed
+pub record WellFormed (h : Shape) (k b : ℕ) (bs : List ℕ) : Type 0 where
+  pub kind : isKind k ≡ true
+  pub block : b < h .N
+  pub contents : length bs ≡ bytesOf h k
+
+-- The same call in both. No open is among these: a list has one, and it comes first.
+pub data Alike (h : Shape) : Ask → Ask → Type 0 where
+  wellFormed : {k b k′ b′ : ℕ} {bs bs′ : List ℕ} → WellFormed h k b bs → WellFormed h k′ b′ bs′ → Alike h (request k b bs) (request k′ b′ bs′)
+  anyOther : {k b : ℕ} {bs bs′ : List ℕ} → ¬ WellFormed h k b bs → length bs ≡ length bs′ → Alike h (request k b bs) (request k b bs′)
+  turns : Alike h turn turn
+  completions : {c : Command} {bs bs′ : List ℕ} → length bs ≡ length bs′ → Alike h (completion c bs) (completion c bs′)
+  collects : Alike h collect collect
+
+-- .. lent as many words, with all other lengths equal
+pub record Same (h : Shape) (a b : Lent) : Type 0 where
+  pub ask : Alike h (a .ask) (b .ask)
+  pub memory : a .memory ≡ b .memory
+  pub words : a .words ≡ b .words
+  pub buffer : a .buffer ≡ b .buffer
+
+-- at each place
+pub data Compared (h : Shape) : List Lent → List Lent → Type 0 where
+  none : Compared h [] []
+  more : {a b : Lent} {as′ bs′ : List Lent} → Same h a b → Compared h as′ bs′ → Compared h (a ∷ as′) (b ∷ bs′)
+
+-- ---- A list's tapes of drawn numbers
+
+-- the call's number depends on how many words are lent, not on which
+unfoldable pub numberOf : State → Lent → ℕ
+numberOf s a = number s (lend a (replicate (a .words) 0))
+
+-- the bounds of its draws; a refused call draws nothing
+unfoldable pub boundsOf : State → Lent → List ℕ
+boundsOf s a = if eqb (numberOf s a) 0 then bounds s (a .ask) else []
+
+unfoldable pub nextOf : State → Lent → List ℕ → State
+nextOf s a js = if eqb (numberOf s a) 0 then act s (a .ask) js else refuse s (a .ask)
+
+-- one number for each draw of the run, in turn, below the m of that draw, and no more
+abbrev pub Tape : State → List Lent → List ℕ → Type 0
+Tape s [] t = t ≡ []
+Tape s (a ∷ as′) t =
+    let n = length (boundsOf s a) in
+    Below (boundsOf s a) (take n t) × Tape (nextOf s a (take n t)) as′ (drop n t)
+
+-- ---- Words that give a tape
+
+-- the calls of a list, with as many words as it says
+pub data Lends : List Lent → List Call → Type 0 where
+  none : Lends [] []
+  more : {a : Lent} {ws : List ℕ} {as′ : List Lent} {cs : List Call} → length ws ≡ a .words → Lends as′ cs → Lends (a ∷ as′) (lend a ws ∷ cs)
+
+-- the numbers that a call draws, and those of a run
+unfoldable pub drawsOf : State → Call → List ℕ
+drawsOf s c = if eqb (number s c) 0 then numbersOf (draws (bounds s (c .ask)) (c .words)) else []
+
+unfoldable pub drawsIn : State → List Call → List ℕ
+drawsIn s [] = []
+drawsIn s (c ∷ cs) = drawsOf s c ++ drawsIn (step s c .0) cs
+
+-- these calls are the list's, lent words that give the tape
+pub record Gives (s : State) (as′ : List Lent) (t : List ℕ) (cs : List Call) : Type 0 where
+  pub calls : Lends as′ cs
+  pub tape : drawsIn s cs ≡ t
+
+-- ---- The claim
+
+-- each value of either has exactly one partner among the other's
+pub record Matching (P Q : List ℕ → Type 0) : Type 0 where
+  pub f : List ℕ → List ℕ
+  pub g : List ℕ → List ℕ
+  pub f-ok : (t : List ℕ) → P t → Q (f t)
+  pub g-ok : (t : List ℕ) → Q t → P (g t)
+  pub g-f : (t : List ℕ) → P t → g (f t) ≡ t
+  pub f-g : (t : List ℕ) → Q t → f (g t) ≡ t
+
+-- what is compared of an outcome: the number, the count of words, the command
+abbrev pub told : Outcome → ℕ × ℕ × Command
+told o = (o .number, o .taken, o .command)
+
+-- an open of the shape
+abbrev pub first : Shape → ℕ → ℕ → ℕ → Lent
+first h m w n = record { ask = opening h; memory = m; words = w; buffer = n }
+
+-- For every two compared lists, whatever was before the open in either
+abbrev pub Claim : Type 0
+Claim = (h : Shape) → h .E ≡ h .N → (m w n : ℕ) (as′ bs′ : List Lent) → Compared h as′ bs′ → (s s′ : State) →
+    (p : Matching (Tape s (first h m w n ∷ as′)) (Tape s′ (first h m w n ∷ bs′)))
+    × ((t : List ℕ) → Tape s (first h m w n ∷ as′) t → (cs ds : List Call) →
+    Gives s (first h m w n ∷ as′) t cs → Gives s′ (first h m w n ∷ bs′) (p .f t) ds →
+    map told (run s cs) ≡ map told (run s′ ds))
+
+-- For the smaller cache the requests may be any: the same list with the same words, with E equal to N and with any smaller E
+abbrev pub Smaller : Type 0
+Smaller = (h : Shape) (e : ℕ) → 1 ≤ e → e < h .N → (m n : ℕ) (ws : List ℕ) (cs : List Call) → Later cs → (s s′ : State) →
+    AgreeUntil8 (run s (openOver (h .N) h m ws n ∷ cs)) (run s′ (openOver e h m ws n ∷ cs))
+
+-- Demand 3
+pub record Hiding : Type 0 where
+  pub lists : Claim
+  pub cache : Smaller

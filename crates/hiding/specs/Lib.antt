@@ -1,0 +1,17 @@
+pub mod Cache
+pub mod Claim
+pub mod Public
+pub mod Middle
+pub mod Real
+pub mod Marks
+pub mod Steps
+pub mod Number
+pub mod Orders
+pub mod Ranks
+pub mod Follow
+pub mod First
+pub mod Second
+pub mod Theorem
+pub mod Proof
+pub mod Words
+pub mod Instance

@@ -1,0 +1,161 @@
+-- The machine in the middle: it knows which block is where, by level and by rank among the unread items, and no slot before it is shown.
+use mathlib.Core.List.{List, [], _∷_, _++_, map}
+use mathlib.Core.Bool.{_&&_, _||_}
+use mathlib.Core.Option.{Option, none, some}
+use Prim.Native.Nat.{ℕ, zero, suc, _-_, _^_}
+use lib.ListN.{length, getD, replicate}
+use lib.Dec.{ltb, eqb}
+use Rattle.lists.specs.Distinct.{index}
+use Rattle.lists.specs.Places.{removeAt}
+use Rattle.lists.specs.Tests.{if_then_else_}
+use Rattle.lists.specs.Search.{find, keep, below, member}
+use Rattle.lists.specs.Tables.{put}
+use Rattle.rules.specs.Shape.{Shape, slots}
+use Rattle.rules.specs.State.{Place, nowhere, stored, Request, State}
+use Rattle.rules.specs.Ranges.{others}
+use Rattle.rules.specs.Setters.{_▷_, setPartition, setPlace, setWaiting, setQueue, setRequest}
+use Rattle.rules.specs.Turn.{Step, idle, noDummy, readForRequest, readForJob, rebuild, writeNext, doStep}
+use Rattle.rules.specs.Request.{accept}
+use Rattle.rules.specs.Levels.{sources}
+use Rattle.rules.specs.Rebuild.{isChosen, leave, newPlace}
+use Rattle.rules.specs.Open.{fresh}
+use Rattle.matching.specs.Draws.{Below}
+use Rattle.matching.specs.Insert.{None}
+use Rattle.matching.specs.Machine.{Machine}
+use Rattle.matching.specs.Family.{Key, upd}
+use Rattle.reachable.specs.Live.{isBelow, storedIn}
+use Rattle.hiding.specs.Public.{Later, asks, turns, completes, collects, Play, first, later, seeLater, hide, unreadIn, decideP, numberP, numberOpen, Seen, nothingSent, seenOpen, seenIf, legalIf, rebuildP, completeP}
+
+-- what is kept of a state: of a block's place the level, and no slot, no bytes
+abbrev pub levelOnly : Place → Place
+levelOnly nowhere = nowhere
+levelOnly (stored ℓ i) = stored ℓ 0
+
+abbrev pub forget : State → State
+forget s = record {
+  shape = s .shape;
+  partition = s .partition;
+  place = λ b. levelOnly (s .place b);
+  bytes = λ b. [];
+  waiting = s .waiting;
+  counter = s .counter;
+  order = λ c. 0;
+  mark = s .mark;
+  holds = λ c. 0;
+  queue = s .queue;
+  cursor = s .cursor;
+  sent = s .sent;
+  outstanding = s .outstanding;
+  request = s .request;
+}
+
+-- of a level's unread items, in item order, what they hold: 0 for a dummy, b + 1 for block b
+abbrev pub Items : Type 0
+Items = Key → List ℕ
+
+-- the items of a level that is written with these blocks
+unfoldable pub newItems : ℕ → List ℕ → List ℕ
+newItems n blocks = map (λ k. getD (map suc blocks) k 0) (below n)
+
+-- the item that the request wants of these: its block, or a dummy
+unfoldable pub wanted : Option Request → List ℕ → ℕ
+wanted none its = 0
+wanted (some r) its = if member (suc (r .block)) its then suc (r .block) else 0
+
+unfoldable pub clamp : ℕ → ℕ → ℕ
+clamp n k = if ltb k n then k else 0
+
+-- its rank
+abbrev pub rank : State → List ℕ → Key → ℕ
+rank s its k = clamp (length (unreadIn (s .shape) (s .mark) k)) (index (wanted (s .request) its) its)
+
+-- ---- What a rebuild of q gathers, by the places: this machine has no slots to read. In a state that calls left it is what the rules gather
+
+unfoldable pub chosenM : State → ℕ → Option ℕ
+chosenM s q = if ltb (length (storedIn s q (s .shape .L))) (2 ^ (s .shape .L - 1)) then find (λ b. eqb (s .partition b) q) (s .waiting) else none
+
+unfoldable pub gatheredM : State → ℕ → List ℕ
+gatheredM s q = keep (λ b. isChosen (chosenM s q) b || (eqb (s .partition b) q && isBelow (sources (s .shape) (s .counter q)) (s .place b))) (below (s .shape .N))
+
+-- ---- The state after an accepted call
+
+abbrev pub nextStepM : State → Step → List ℕ → State
+nextStepM s idle e = s
+nextStepM s noDummy e = s
+nextStepM s (readForRequest q ℓ x) e = doStep (readForRequest q ℓ (getD e 0 0)) [] s
+nextStepM s (readForJob q ℓ x) e = doStep (readForJob q ℓ x) [] s
+nextStepM s (rebuild q t) e = rebuildP q t (newPlace t (gatheredM s q) [] (s .place)) (leave (chosenM s q) (s .waiting)) s
+nextStepM s (writeNext q t x) e = doStep (writeNext q t x) [] s
+
+unfoldable pub collectedM : Option Request → State → State
+collectedM none s = s
+collectedM (some r) s =
+    s ▷ setPlace (put (r .block) nowhere (s .place))
+    ▷ setWaiting (others (s .waiting) (r .block) ++ (r .block ∷ []))
+    ▷ setPartition (put (r .block) (r .next) (s .partition))
+    ▷ setQueue (s .queue ++ (s .partition (r .block) ∷ r .evict ∷ []))
+    ▷ setRequest none
+
+abbrev pub nextM : ℕ → State → Later → List ℕ → State
+nextM (suc n) s l e = s
+nextM zero s (asks k b bs) e = accept k b bs e s
+nextM zero s turns e = nextStepM s (decideP (hide s)) e
+nextM zero s (completes c bs) e = completeP c s
+nextM zero s collects e = collectedM (s .request) s
+
+abbrev pub itemsStep : State → Items → Step → List ℕ → Items
+itemsStep s it idle e = it
+itemsStep s it noDummy e = it
+itemsStep s it (readForRequest q ℓ x) e = upd (q, ℓ) (removeAt (rank s (it (q, ℓ)) (q, ℓ)) (it (q, ℓ))) it
+itemsStep s it (readForJob q ℓ x) e = upd (q, ℓ) (removeAt (getD e 0 0) (it (q, ℓ))) it
+itemsStep s it (rebuild q t) e = upd (q, t) (newItems (slots t) (gatheredM s q)) it
+itemsStep s it (writeNext q t x) e = it
+
+abbrev pub itemsM : ℕ → State → Items → Later → List ℕ → Items
+itemsM (suc n) s it l e = it
+itemsM zero s it (asks k b bs) e = it
+itemsM zero s it turns e = itemsStep s it (decideP (hide s)) e
+itemsM zero s it (completes c bs) e = it
+itemsM zero s it collects e = it
+
+-- ---- The machine
+
+pub data Mid : Type 0 where
+  shut dead : Mid
+  on : State → Items → Mid
+
+module _ (h : Shape) where
+  abbrev pub openM : ℕ → List ℕ → Mid
+  openM zero e = on (forget (fresh h e)) (λ k. [])
+  openM (suc n) e = dead
+
+  -- the bounds of the draws of an open
+  abbrev pub boundsOpen : ℕ → List ℕ
+  boundsOpen zero = replicate (h .N) (h .P)
+  boundsOpen (suc n) = []
+
+  abbrev pub mid-legal : Mid → Play → List ℕ → Type 0
+  mid-legal shut (first m w) e = Below (boundsOpen (numberOpen h m w)) e
+  mid-legal shut (later l m w n) e = None e
+  mid-legal dead c e = None e
+  mid-legal (on s it) (first m w) e = None e
+  mid-legal (on s it) (later l m w n) e = legalIf (numberP (hide s) (seeLater h l) m w n) (hide s) l e
+
+  abbrev pub mid-next : Mid → Play → List ℕ → Mid
+  mid-next shut (first m w) e = openM (numberOpen h m w) e
+  mid-next shut (later l m w n) e = shut
+  mid-next dead c e = dead
+  mid-next (on s it) (first m w) e = on s it
+  mid-next (on s it) (later l m w n) e =
+      let k = numberP (hide s) (seeLater h l) m w n in
+      on (nextM k s l e) (itemsM k s it l e)
+
+  abbrev pub mid-seen : Mid → Play → List ℕ → Seen
+  mid-seen shut (first m w) e = seenOpen h (numberOpen h m w)
+  mid-seen shut (later l m w n) e = (2, 0, nothingSent)
+  mid-seen dead c e = (2, 0, nothingSent)
+  mid-seen (on s it) (first m w) e = (2, 0, nothingSent)
+  mid-seen (on s it) (later l m w n) e = seenIf (numberP (hide s) (seeLater h l) m w n) (hide s) l e
+
+  abbrev pub mid : Machine Play (List ℕ) Seen
+  mid = record { State = Mid; Legal = mid-legal; next = mid-next; seen = mid-seen }

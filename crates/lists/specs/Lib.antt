@@ -1,0 +1,10 @@
+pub mod Tests
+pub mod Search
+pub mod All
+pub mod Lengths
+pub mod Distinct
+pub mod Members
+pub mod Totals
+pub mod Tables
+pub mod Ascending
+pub mod Places

@@ -1,0 +1,91 @@
+-- Which levels are live: the filled ones, where a job whose order is drawn counts as done.
+use mathlib.Core.Path.{_≡_, refl, sym}
+use mathlib.Core.Bool.{Bool, true, false, not, _&&_, _||_, true≢false}
+use mathlib.Core.Logic.{inl}
+use mathlib.Core.List.{List, [], _∷_}
+use mathlib.Core.Option.{Option, none, some}
+use Prim.Native.Nat.{ℕ, zero, suc, _-_, _<_}
+use lib.Dec.{eqb, ltb}
+use borrow.Author.Tests.{eqb-true, eq-eqb, ne-eqb}
+use Rattle.lists.specs.Tests.{if_then_else_}
+use Rattle.lists.specs.Search.{member, keep, below}
+use Rattle.lists.specs.Totals.{total}
+use Rattle.lists.specs.Distinct.{Mem}
+use Rattle.rules.specs.Shape.{Shape, cell, slots}
+use Rattle.rules.specs.State.{nowhere, stored, State, Request, Place}
+use Rattle.rules.specs.Levels.{sources, grown}
+
+-- the front job is for q
+unfoldable pub isFront : List ℕ → ℕ → Bool
+isFront [] q = false
+isFront (p ∷ _) q = eqb p q
+
+-- the front job is for q, and its order is drawn
+unfoldable pub drawn : State → ℕ → Bool
+drawn s q = isFront (s .queue) q && not (eqb (s .sent) 0)
+
+-- the counter of q, with a drawn job counted already: its bits are the live levels
+unfoldable pub counted : State → ℕ → ℕ
+counted s q = if drawn s q then grown (s .shape) (s .counter q) else s .counter q
+
+-- the jobs whose order is not drawn; n is the writes sent
+unfoldable pub undrawn : List ℕ → ℕ → List ℕ
+undrawn qs zero = qs
+undrawn [] (suc n) = []
+undrawn (q ∷ qs) (suc n) = qs
+
+-- the request in hand is for q and has sent its read to level ℓ
+unfoldable pub passedBy : (ℕ → ℕ) → Option Request → ℕ → ℕ → Bool
+passedBy partition none q ℓ = false
+passedBy partition (some r) q ℓ = eqb (partition (r .block)) q && ltb ℓ (r .level)
+
+-- a read of level ℓ of q that no drawn job has followed
+unfoldable pub pending : State → ℕ → ℕ → ℕ
+pending s q ℓ = if member q (undrawn (s .queue) (s .sent)) || passedBy (s .partition) (s .request) q ℓ then 1 else 0
+
+-- the slots of level ℓ of q that have been read
+unfoldable pub readsOf : Shape → (ℕ → ℕ) → ℕ → ℕ → ℕ
+readsOf h mark q ℓ = total (slots ℓ) (λ i. 1 - mark (cell h q ℓ i))
+
+-- level ℓ of q is a source of the front job, whose order is not drawn
+abbrev pub Gathers : State → ℕ → ℕ → Type 0
+Gathers s q ℓ = (isFront (s .queue) q ≡ true) × (s .sent ≡ 0) × (ℓ < sources (s .shape) (s .counter q))
+
+-- How `counted` computes
+module _ (s : State) (q : ℕ) where
+  pub counted-calm : s .sent ≡ 0 → counted s q ≡ s .counter q
+  unfolding counted drawn
+  counted-calm e = go (isFront (s .queue) q)
+    where
+      go : (t : Bool) → (if t && not (eqb (s .sent) 0) then grown (s .shape) (s .counter q) else s .counter q) ≡ s .counter q
+      go true = rw (eq-eqb (s .sent) 0 e)
+      go false = refl
+
+  pub counted-other : isFront (s .queue) q ≡ false → counted s q ≡ s .counter q
+  unfolding counted drawn
+  counted-other e = rw e
+
+  pub counted-drawn : isFront (s .queue) q ≡ true → (s .sent ≡ 0 → ⊥) → counted s q ≡ grown (s .shape) (s .counter q)
+  unfolding counted drawn
+  counted-drawn e n = rw (e, ne-eqb (s .sent) 0 n)
+
+pub front-is : (q : ℕ) (qs : List ℕ) → isFront (q ∷ qs) q ≡ true
+unfolding isFront
+front-is q qs = eq-eqb q q refl
+
+pub front-mem : (qs : List ℕ) (q : ℕ) → isFront qs q ≡ true → Mem q qs
+unfolding isFront
+front-mem [] q e = absurd (true≢false (sym e))
+front-mem (p ∷ qs) q e = inl (sym (eqb-true p q e))
+
+pub front-eq : (p q : ℕ) (qs rest : List ℕ) → qs ≡ q ∷ rest → isFront qs p ≡ true → p ≡ q
+unfolding isFront
+front-eq p q qs rest e k = sym (eqb-true q p (rw e at k))
+
+-- the blocks of q whose place is in levels below `top`: in a state that calls left, the slots that hold a block are as many
+unfoldable pub isBelow : ℕ → Place → Bool
+isBelow top nowhere = false
+isBelow top (stored ℓ i) = ltb ℓ top
+
+unfoldable pub storedIn : State → ℕ → ℕ → List ℕ
+storedIn s q top = keep (λ b. eqb (s .partition b) q && isBelow top (s .place b)) (below (s .shape .N))

@@ -1,0 +1,221 @@
+-- States that calls left never lack a dummy, and never gather more blocks than the target holds.
+use mathlib.Core.Path.{_≡_, refl, ap, sym, _∙_}
+use mathlib.Core.Logic.{_⊎_, inl, inr, ⊎-elim}
+use mathlib.Core.Bool.{Bool, true, false, _&&_, _||_, true≢false}
+use mathlib.Core.List.{List, [], _∷_, _++_, map}
+use mathlib.Core.Option.{Option, none, some}
+use Prim.Native.Nat.{ℕ, zero, suc, _+_, _-_, _%_, _^_, _≤_, _<_}
+use native.Mathlib.Nat.{mod-lt}
+use native.Mathlib.Omega.{arith}
+use native.Mathlib.Decide.{decLt}
+use lib.ListN.{length, length-append}
+use lib.Dec.{ltb}
+use lib.Pow.{pow-pos, pow-mono}
+use borrow.Author.Tests.{eq-eqb, lt-ltb, le-leb, ltb-true}
+use Rattle.lists.specs.Search
+use Rattle.lists.specs.Search.{below, member}
+use Rattle.lists.specs.Tests.{and-l, and-true, or-left, or-right}
+use Rattle.lists.specs.All.{All, cons, IfSome, find-none}
+use Rattle.lists.specs.Distinct.{Mem}
+use Rattle.lists.specs.Members.{not-member, all-mem, below-mem, decMem, nodup-le, nodup-sub, mem-member, map-mem, append-right, member-append}
+use Rattle.lists.specs.Totals.{total-gap}
+use Rattle.rules.specs.Blocks
+use Rattle.rules.specs.Request
+use Rattle.rules.specs.State.{State, stored, Request}
+use Rattle.rules.specs.Shape.{cell, slots}
+use Rattle.rules.specs.Ranges.{isKind}
+use Rattle.rules.specs.Questions
+use Rattle.rules.specs.Questions.{request, turn, possible, questions, firstNo}
+use Rattle.rules.specs.Levels.{filled, sources, target}
+use Rattle.rules.specs.Rebuild.{gathered, chosen}
+use Rattle.rules.specs.Turn.{decide, Step, idle, noDummy, readForRequest, readForJob, rebuild, writeNext}
+use Rattle.rules.specs.Laws.Levels.{sources-le}
+use Rattle.rules.specs.Laws.Range.{RequestIn}
+use Rattle.reachable.specs.Live
+use Rattle.reachable.specs.Live.{counted, pending, readsOf, Gathers, isFront, counted-other, front-mem}
+use Rattle.reachable.specs.Pending.{pending-cases, undrawn-mem}
+use Rattle.reachable.specs.Decided.{Decided, decided, Lacks}
+use Rattle.reachable.specs.Invariant.{Stored, taken, holdsOf, storedAt}
+use Rattle.reachable.specs.Steps.{passed-why}
+use Rattle.reachable.specs.Blocks.{gathered-lt, nodup-gathered, in-why, why-in, why-at, nodup-in, is-below, in-is, lt-below, target-min}
+use Rattle.reachable.specs.Slots.{front-in, gathered-why, chosen-room}
+
+pub not-front : (qs : List ℕ) (q : ℕ) → ¬ Mem q qs → isFront qs q ≡ false
+not-front qs q n = go (isFront qs q) refl
+  where
+    go : (t : Bool) → isFront qs q ≡ t → isFront qs q ≡ false
+    go true e = absurd (n (front-mem qs q e))
+    go false e = e
+
+taken-none : (n : ℕ) → taken n ≡ 0 → n ≡ 0
+unfolding taken
+taken-none zero e = refl
+taken-none (suc n) e = absurd (omega arith)
+
+named-none : (n : ℕ) → n ≡ 0 → Search.isNone (Blocks.named n) ≡ true
+unfolding Blocks.named Search.isNone
+named-none n e = rw e
+
+-- A request always finds an unread dummy
+pub never-lacks : (s : State) → Stored s → Lacks s → ⊥
+unfolding readsOf holdsOf
+never-lacks s f k = go (f .reads q ℓ hq (k .top) (ap (λ c. filled c ℓ) count ∙ k .full))
+  where
+    r : Request
+    r = k .asked
+
+    q : ℕ
+    q = s .partition (r .block)
+
+    ℓ : ℕ
+    ℓ = k .level
+
+    hb : r .block < s .shape .N
+    hb = in-range (s .request) (k .inHand) (f .range .request)
+      where
+        in-range : (o : Option Request) → o ≡ some r → IfSome (RequestIn (s .shape)) o → r .block < s .shape .N
+        in-range o e h = let h′ : RequestIn (s .shape) r = rw e at h in h′ .block
+
+    hq : q < s .shape .P
+    hq = f .range .partitions (r .block) hb
+
+    unqueued : ¬ Mem q (s .queue)
+    unqueued = not-member q (s .queue) (unfold Request.held in (k .unheld))
+
+    count : counted s q ≡ s .counter q
+    count = counted-other s q (not-front (s .queue) q unqueued)
+
+    free : pending s q ℓ ≡ 0
+    free = ⊎-elim (λ z. z) (λ x. ⊎-elim (λ j. absurd (unqueued (undrawn-mem q (s .queue) (s .sent) j)))
+        (λ j. let w = passed-why (s .partition) (s .request) r q ℓ (k .inHand) j in absurd (omega (arith, k .left, w .1))) x) (pending-cases s q ℓ)
+
+    found : (i : ℕ) → i < slots ℓ → s .mark (cell (s .shape) q ℓ i) ≡ 1 → taken (s .holds (cell (s .shape) q ℓ i)) ≡ 0 → ⊥
+    found i hi hm ht =
+        let o = f .orders .each q ℓ i hq (k .top) (ap (λ c. filled c ℓ) count ∙ k .full) hi in
+        let a : All (λ j. (Blocks.isUnread s q ℓ j && Search.isNone (Blocks.holder s q ℓ j)) ≡ false) (map (λ j. s .order (cell (s .shape) q ℓ j)) (below (slots ℓ))) = unfold Request.dummy in (find-none _ _ (k .none)) in
+        let m : Mem i (map (λ j. s .order (cell (s .shape) q ℓ j)) (below (slots ℓ))) = rw (o .1 .1) at (map-mem (λ j. s .order (cell (s .shape) q ℓ j)) (o .0) (below (slots ℓ)) (below-mem (slots ℓ) (o .0) (o .1 .0))) in
+        let yes-i : (Blocks.isUnread s q ℓ i && Search.isNone (Blocks.holder s q ℓ i)) ≡ true = unfold Blocks.isUnread Blocks.holder in (and-true (eq-eqb _ 1 hm) (named-none _ (taken-none _ ht))) in
+        true≢false (sym yes-i ∙ all-mem a i m)
+
+    go : Gathers s q ℓ ⊎ (readsOf (s .shape) (s .mark) q ℓ ≤ counted s q % 2 ^ ℓ + pending s q ℓ) → ⊥
+    go (inl g) = unqueued (front-mem (s .queue) q (g .0))
+    go (inr h) =
+        let t = f .taken q ℓ hq (k .top) in
+        let gap = total-gap (slots ℓ) (λ i. 1 - s .mark (cell (s .shape) q ℓ i)) (λ i. taken (s .holds (cell (s .shape) q ℓ i)))
+        (omega (arith, h, t, free, mod-lt (counted s q) (pow-pos ℓ), pow-mono {i = ℓ + 1} {j = suc ℓ} (omega arith), pow-mono {i = suc ℓ} {j = ℓ + 1} (omega arith))) in
+        found (gap .0) (gap .1 .0) (omega (arith, gap .1 .1, f .range .marks q ℓ (gap .0) hq (k .top) (gap .1 .0))) (gap .1 .2)
+
+-- The levels below n store fewer than 2^n blocks
+module _ (s : State) (f : Stored s) (q : ℕ) (hq : q < s .shape .P) where
+  split-in : (n b : ℕ) → Mem b (Live.storedIn s q (suc n)) → Mem b (Live.storedIn s q n ++ storedAt s q n)
+  split-in n b m =
+      let y = in-why s q (suc n) b m in
+      let x = is-below (suc n) (s .place b) (y .2) in
+      go y x (decLt (x .0) n)
+    where
+      go : (b < s .shape .N) × (s .partition b ≡ q) × (Live.isBelow (suc n) (s .place b) ≡ true) → (x : (ℓ : ℕ) × (i : ℕ) × ((s .place b ≡ stored ℓ i) × (ℓ < suc n))) → Dec (x .0 < n) → Mem b (Live.storedIn s q n ++ storedAt s q n)
+      go y x (yes l) = member-append b (Live.storedIn s q n) (storedAt s q n) (why-in s q n b (y .0) (y .1) (lt-below n (x .0) (x .1) (s .place b) (x .2 .0) l))
+      go y x (no l) =
+          let e : x .0 ≡ n = omega (arith, x .2 .1) in
+          append-right b (Live.storedIn s q n) (storedAt s q n) (why-at s q n b (y .0) (y .1) (in-is n (x .1) (s .place b) (x .2 .0 ∙ ap (λ k. stored k (x .1)) e)))
+
+  below-few : (n : ℕ) → length (Live.storedIn s q n) < 2 ^ n
+  below-few zero = omega (arith, nodup-sub (Live.storedIn s q 0) [] (nodup-in s q 0) (λ b m. let x = is-below 0 (s .place b) (in-why s q 0 b m .2) in omega (arith, x .2 .1)))
+  below-few (suc n) = omega (
+    arith,
+    below-few n,
+    f .counts .room q n,
+    length-append (Live.storedIn s q n) (storedAt s q n),
+    nodup-sub (Live.storedIn s q (suc n)) (Live.storedIn s q n ++ storedAt s q n) (nodup-in s q (suc n)) (split-in n),
+  )
+
+  from : ℕ
+  from = sources (s .shape) (s .counter q)
+
+  gathered-none : chosen s q ≡ none → length (gathered s q) ≤ length (Live.storedIn s q from)
+  unfolding from
+  gathered-none e = nodup-sub (gathered s q) (Live.storedIn s q from) (nodup-gathered s q)
+      (λ b m. ⊎-elim (λ k. let z : _≡_ {A = ℕ} 0 1 = cc in absurd (omega arith)) (λ k. why-in s q from b (gathered-lt s q b m) (k .0) (k .1)) (gathered-why s f q hq b m))
+
+  gathered-one : (a : ℕ) → chosen s q ≡ some a → length (gathered s q) ≤ suc (length (Live.storedIn s q from))
+  unfolding from
+  gathered-one a e = nodup-sub (gathered s q) (a ∷ Live.storedIn s q from) (nodup-gathered s q)
+      (λ b m. ⊎-elim (λ k. inl (cc)) (λ k. inr (why-in s q from b (gathered-lt s q b m) (k .0) (k .1))) (gathered-why s f q hq b m))
+
+  -- The target holds the blocks that are gathered
+  pub never-many : length (gathered s q) ≤ 2 ^ target (s .shape) (s .counter q)
+  unfolding from
+  never-many = go (chosen s q) refl (decLt from (s .shape .L))
+    where
+      some-goal : from < s .shape .L → target (s .shape) (s .counter q) ≡ from
+      some-goal l = omega (arith, target-min (s .shape) (s .counter q))
+
+      all-from : ¬ (from < s .shape .L) → from ≡ s .shape .L
+      all-from l = omega (arith, sources-le (s .shape) (s .counter q))
+
+      last : ¬ (from < s .shape .L) → target (s .shape) (s .counter q) ≡ s .shape .L - 1
+      last l = omega (arith, target-min (s .shape) (s .counter q))
+
+      go : (o : Option ℕ) → chosen s q ≡ o → Dec (from < s .shape .L) → length (gathered s q) ≤ 2 ^ target (s .shape) (s .counter q)
+      go none e (yes l) = rw (some-goal l) (omega (arith, gathered-none e, below-few from))
+      go (some a) e (yes l) = rw (some-goal l) (omega (arith, gathered-one a e, below-few from))
+      go none e (no l) = rw (last l) (omega (arith, gathered-none e, f .counts .full q, ap (λ n. length (Live.storedIn s q n)) (all-from l)))
+      go (some a) e (no l) = rw (last l) (omega (arith, gathered-one a e, chosen-room s f q hq a e, ap (λ n. length (Live.storedIn s q n)) (all-from l)))
+
+-- A step that a turn decides is possible
+pub possible-step : (s : State) → Stored s → (x : Step) → Decided s x → possible s x ≡ true
+unfolding possible
+possible-step s f idle d = refl
+possible-step s f noDummy d = absurd (never-lacks s f d)
+possible-step s f (readForRequest q ℓ i) d = refl
+possible-step s f (readForJob q ℓ i) d = refl
+possible-step s f (rebuild q t) d = rw (d .goal) (le-leb (length (gathered s q)) (2 ^ target (s .shape) (s .counter q)) (never-many s f q (front-in s f q (d .rest) (d .front))))
+possible-step s f (writeNext q t i) d = refl
+
+pub always-possible : (s : State) → Stored s → possible s (decide s) ≡ true
+always-possible s f = possible-step s f (decide s) (decided s)
+
+-- Document 01: after all its questions a turn answers no 2. A 2 means that the memory is too short
+last-two : (a b c d e : Bool) → firstNo ((a, 2) ∷ (b, 9) ∷ (c, 10) ∷ (d, 15) ∷ (e, 3) ∷ (true, 2) ∷ []) ≡ 2 → a ≡ false
+unfolding firstNo
+last-two false b c d e h = refl
+last-two true false c d e h = absurd (omega arith)
+last-two true true false d e h = absurd (omega arith)
+last-two true true true false e h = absurd (omega arith)
+last-two true true true true false h = absurd (omega arith)
+last-two true true true true true h = absurd (omega arith)
+
+pub never-late : (s : State) → Stored s → (m : ℕ) (ws : List ℕ) (k : ℕ) → firstNo (questions s turn m ws k) ≡ 2 → Questions.ready s m ≡ false
+unfolding questions
+never-late s f m ws k e = last-two _ _ _ _ _ (rw (always-possible s f) at e)
+
+-- Document 01: with E equal to N a request is never answered 8
+pub room-or-waits : (s : State) → Stored s → s .shape .E ≡ s .shape .N → (b : ℕ) → b < s .shape .N → (ltb (length (s .waiting)) (s .shape .E) || member b (s .waiting)) ≡ true
+room-or-waits s f e b hb = go (decMem b (s .waiting))
+  where
+    go : Dec (Mem b (s .waiting)) → (ltb (length (s .waiting)) (s .shape .E) || member b (s .waiting)) ≡ true
+    go (yes m) = or-right (ltb (length (s .waiting)) (s .shape .E)) (member b (s .waiting)) (mem-member b (s .waiting) m)
+    go (no m) = or-left (ltb (length (s .waiting)) (s .shape .E)) (member b (s .waiting))
+        (lt-ltb (length (s .waiting)) (s .shape .E) (omega (arith, nodup-le (s .shape .N) (b ∷ s .waiting) (m, f .waiting .once) (cons hb (f .range .waiting)))))
+
+eight : (a b c d e x y : Bool) → firstNo ((a, 2) ∷ (b, 4) ∷ (c, 5) ∷ (d, 6) ∷ (e, 7) ∷ (x, 8) ∷ (y, 3) ∷ []) ≡ 8 → (a ≡ true) × (c ≡ true) × (x ≡ false)
+unfolding firstNo
+eight false b c d e x y h = absurd (omega arith)
+eight true false c d e x y h = absurd (omega arith)
+eight true true false d e x y h = absurd (omega arith)
+eight true true true false e x y h = absurd (omega arith)
+eight true true true true false x y h = absurd (omega arith)
+eight true true true true true false y h = (refl, refl, refl)
+eight true true true true true true false h = absurd (omega arith)
+eight true true true true true true true h = absurd (omega arith)
+
+-- a request that is answered 8 was given a state in range
+pub full-ready : (s : State) (j b : ℕ) (bs : List ℕ) (m : ℕ) (ws : List ℕ) (k : ℕ) → firstNo (questions s (request j b bs) m ws k) ≡ 8 → Questions.ready s m ≡ true
+unfolding questions
+full-ready s j b bs m ws k h = and-l (Questions.ready s m) (isKind j) (eight _ _ _ _ _ _ _ h .0)
+
+pub never-full : (s : State) → Stored s → s .shape .E ≡ s .shape .N → (j b : ℕ) (bs : List ℕ) (m : ℕ) (ws : List ℕ) (k : ℕ) → firstNo (questions s (request j b bs) m ws k) ≡ 8 → ⊥
+unfolding questions
+never-full s f e j b bs m ws k h =
+    let x = eight _ _ _ _ _ _ _ h in
+    true≢false (sym (room-or-waits s f e b (ltb-true b (s .shape .N) (x .1))) ∙ x .2)

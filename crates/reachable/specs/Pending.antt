@@ -1,0 +1,111 @@
+-- Jobs that are not drawn, requests that have passed a level, and the reads of a level.
+use mathlib.Core.Path.{_≡_, refl, ap, sym, _∙_}
+use mathlib.Core.Logic.{_⊎_, inl, inr, ⊎-elim}
+use mathlib.Core.Bool.{Bool, true, false, _||_, true≢false}
+use mathlib.Core.List.{List, [], _∷_, _++_}
+use Prim.Native.Nat.{ℕ, zero, suc, _+_, _-_, _≤_, _<_}
+use native.Mathlib.Omega.{arith}
+use native.Mathlib.Decide.{ℕ-discrete}
+use Rattle.lists.specs.Tests.{if_then_else_, or-true, or-right}
+use Rattle.lists.specs.Search.{member}
+use Rattle.lists.specs.Tables.{put, put-same, put-other}
+use Rattle.lists.specs.Distinct.{Mem}
+use Rattle.lists.specs.Members.{mem-member, member-mem}
+use Rattle.lists.specs.Totals.{total-one, total-same}
+use Rattle.rules.specs.Shape.{Shape, cell, slots}
+use Rattle.rules.specs.State.{State}
+use Rattle.rules.specs.Laws.Layout.{cell-inj}
+use Rattle.reachable.specs.Live.{isFront, undrawn, passedBy, pending, readsOf}
+
+pub undrawn-mem : (x : ℕ) (qs : List ℕ) (n : ℕ) → Mem x (undrawn qs n) → Mem x qs
+unfolding undrawn
+undrawn-mem x qs zero m = m
+undrawn-mem x [] (suc n) m = m
+undrawn-mem x (q ∷ qs) (suc n) m = inr m
+
+pub undrawn-busy : (qs : List ℕ) (m n : ℕ) → (m ≡ 0 → ⊥) → (n ≡ 0 → ⊥) → undrawn qs m ≡ undrawn qs n
+unfolding undrawn
+undrawn-busy qs zero n a b = absurd (a refl)
+undrawn-busy qs (suc m) zero a b = absurd (b refl)
+undrawn-busy [] (suc m) (suc n) a b = refl
+undrawn-busy (q ∷ qs) (suc m) (suc n) a b = refl
+
+pub undrawn-rest : (q : ℕ) (rest : List ℕ) (n : ℕ) → (n ≡ 0 → ⊥) → undrawn (q ∷ rest) n ≡ undrawn rest 0
+unfolding undrawn
+undrawn-rest q rest zero a = absurd (a refl)
+undrawn-rest q rest (suc n) a = refl
+
+-- a queue that has jobs where writes were sent
+abbrev pub Filled : List ℕ → ℕ → Type 0
+Filled qs n = (n ≡ 0 → ⊥) → (q : ℕ) × (rest : List ℕ) × (qs ≡ q ∷ rest)
+
+pub undrawn-append : (qs xs : List ℕ) (n : ℕ) → Filled qs n → undrawn (qs ++ xs) n ≡ undrawn qs n ++ xs
+unfolding undrawn
+undrawn-append qs xs zero f = refl
+undrawn-append [] xs (suc n) f = let r = f (λ e. omega arith) in let z : _≡_ {A = ℕ} 0 1 = no (r .0) (r .1) (r .2) in absurd (omega arith)
+  where
+    no : (q : ℕ) (rest : List ℕ) → [] ≡ q ∷ rest → _≡_ {A = ℕ} 0 1
+    no q rest e = cc
+undrawn-append (q ∷ qs) xs (suc n) f = refl
+
+pub front-append : (qs xs : List ℕ) (q : ℕ) → isFront qs q ≡ true → isFront (qs ++ xs) q ≡ true
+unfolding isFront
+front-append [] xs q e = absurd (true≢false (sym e))
+front-append (p ∷ qs) xs q e = e
+
+pub front-more : (qs xs : List ℕ) (q p : ℕ) (rest : List ℕ) → qs ≡ p ∷ rest → isFront (qs ++ xs) q ≡ isFront qs q
+unfolding isFront
+front-more qs xs q p rest e = rw e
+
+module _ (s : State) (p ℓ : ℕ) where
+  pub pending-job : Mem p (undrawn (s .queue) (s .sent)) → pending s p ℓ ≡ 1
+  unfolding pending
+  pending-job m = rw (mem-member p (undrawn (s .queue) (s .sent)) m)
+
+  pub pending-request : passedBy (s .partition) (s .request) p ℓ ≡ true → pending s p ℓ ≡ 1
+  unfolding pending
+  pending-request e = rw (or-right (member p (undrawn (s .queue) (s .sent))) (passedBy (s .partition) (s .request) p ℓ) e)
+
+  pub pending-cases : (pending s p ℓ ≡ 0) ⊎ (Mem p (undrawn (s .queue) (s .sent)) ⊎ (passedBy (s .partition) (s .request) p ℓ ≡ true))
+  unfolding pending
+  pending-cases = go (member p (undrawn (s .queue) (s .sent)) || passedBy (s .partition) (s .request) p ℓ) refl
+    where
+      go : (t : Bool) → (member p (undrawn (s .queue) (s .sent)) || passedBy (s .partition) (s .request) p ℓ) ≡ t
+          → (_≡_ {A = ℕ} (if t then 1 else 0) 0) ⊎ (Mem p (undrawn (s .queue) (s .sent)) ⊎ (passedBy (s .partition) (s .request) p ℓ ≡ true))
+      go false e = inl refl
+      go true e = inr (⊎-elim (λ k. inl (member-mem p (undrawn (s .queue) (s .sent)) k)) inr (or-true (member p (undrawn (s .queue) (s .sent))) (passedBy (s .partition) (s .request) p ℓ) e))
+
+pub pending-le : (s : State) (p ℓ : ℕ) → pending s p ℓ ≤ 1
+unfolding pending
+pending-le s p ℓ = go (member p (undrawn (s .queue) (s .sent)) || passedBy (s .partition) (s .request) p ℓ)
+  where
+    go : (t : Bool) → (if t then 1 else 0) ≤ 1
+    go true = omega arith
+    go false = omega arith
+
+pub pending-more : (s u : State) (p ℓ : ℕ) → (Mem p (undrawn (s .queue) (s .sent)) → Mem p (undrawn (u .queue) (u .sent)) ⊎ (passedBy (u .partition) (u .request) p ℓ ≡ true))
+    → (passedBy (s .partition) (s .request) p ℓ ≡ true → Mem p (undrawn (u .queue) (u .sent)) ⊎ (passedBy (u .partition) (u .request) p ℓ ≡ true)) → pending s p ℓ ≤ pending u p ℓ
+pending-more s u p ℓ a b = ⊎-elim (λ e. omega arith) (λ k. ⊎-elim (λ m. one (a m)) (λ m. one (b m)) k) (pending-cases s p ℓ)
+  where
+    one : Mem p (undrawn (u .queue) (u .sent)) ⊎ (passedBy (u .partition) (u .request) p ℓ ≡ true) → pending s p ℓ ≤ pending u p ℓ
+    one (inl m) = omega (arith, pending-job u p ℓ m, pending-le s p ℓ)
+    one (inr e) = omega (arith, pending-request u p ℓ e, pending-le s p ℓ)
+
+-- one slot read
+module _ (h : Shape) (q ℓ i : ℕ) (hℓ : ℓ < h .L) (hi : i < slots ℓ) (mark : ℕ → ℕ) (p m : ℕ) (hm : m < h .L) where
+  pub mark-more : readsOf h (put (cell h q ℓ i) 0 mark) p m ≤ readsOf h mark p m + 1
+  unfolding readsOf
+  mark-more = total-one (slots m) i (λ j. 1 - mark (cell h p m j)) (λ j. 1 - put (cell h q ℓ i) 0 mark (cell h p m j)) at
+      (λ j hj n. ap (λ v. 1 - v) (put-other (cell h q ℓ i) 0 mark (cell h p m j) (λ e. n (cell-inj h p q m ℓ j i hm hℓ hj hi e .2))))
+    where
+      at : 1 - put (cell h q ℓ i) 0 mark (cell h p m i) ≤ 1 - mark (cell h p m i) + 1
+      at = go (ℕ-discrete (cell h p m i) (cell h q ℓ i))
+        where
+          go : Dec (cell h p m i ≡ cell h q ℓ i) → 1 - put (cell h q ℓ i) 0 mark (cell h p m i) ≤ 1 - mark (cell h p m i) + 1
+          go (yes e) = omega (arith, ap (put (cell h q ℓ i) 0 mark) e ∙ put-same (cell h q ℓ i) 0 mark)
+          go (no e) = omega (arith, put-other (cell h q ℓ i) 0 mark (cell h p m i) e)
+
+  pub mark-same : ((p ≡ q) × (m ≡ ℓ) → ⊥) → readsOf h (put (cell h q ℓ i) 0 mark) p m ≡ readsOf h mark p m
+  unfolding readsOf
+  mark-same n = total-same (slots m) (λ j. 1 - put (cell h q ℓ i) 0 mark (cell h p m j)) (λ j. 1 - mark (cell h p m j))
+      (λ j hj. ap (λ v. 1 - v) (put-other (cell h q ℓ i) 0 mark (cell h p m j) (λ e. let r = cell-inj h p q m ℓ j i hm hℓ hj hi e in n (r .0, r .1))))

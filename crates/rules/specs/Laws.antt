@@ -1,0 +1,9 @@
+pub mod Answers
+pub mod Layout
+pub mod Levels
+pub mod Orders
+pub mod Waiting
+pub mod Range
+pub mod RangeSetters
+pub mod Decided
+pub mod Kept

@@ -1,0 +1,127 @@
+-- Two plain laws of the calls.
+use mathlib.Core.Path.{_≡_, refl, ap, sym, _∙_}
+use mathlib.Core.Bool.{Bool, true, false, not, true≢false}
+use mathlib.Core.List.{List, [], _∷_}
+use Prim.Native.Nat.{ℕ, suc, _≤_}
+use native.Mathlib.Omega.{arith}
+use mathlib.Core.Option.{Option, none, some}
+use lib.ListN.{length}
+use lib.Dec.{eqb}
+use borrow.Author.Tests.{ne-eqb, eqb-true, eq-eqb}
+use Rattle.lists.specs.Search.{isNone}
+use Rattle.rules.specs.State.{State}
+use Rattle.rules.specs.Draws.{Drawn, draw, draws, drawnFirst}
+use Rattle.rules.specs.Questions.{Ask, opening, request, turn, completion, collect, Call, questions, firstNo, number, bounds}
+use Rattle.rules.specs.Run.{Outcome, refuse, refused, accepted, step, takenOf}
+
+-- each number of a list of questions is at most m
+abbrev UpTo : ℕ → List (Bool × ℕ) → Type 0
+UpTo m [] = Unit {0}
+UpTo m (x ∷ xs) = (x .1 ≤ m) × UpTo m xs
+
+firstNo-le : (m : ℕ) (xs : List (Bool × ℕ)) → UpTo m xs → firstNo xs ≤ m
+unfolding firstNo
+firstNo-le m [] h = omega arith
+firstNo-le m ((true, n) ∷ xs) h = firstNo-le m xs (h .1)
+firstNo-le m ((false, n) ∷ xs) h = h .0
+
+questions-le : (s : State) (a : Ask) (m : ℕ) (ws : List ℕ) (n : ℕ) → UpTo 15 (questions s a m ws n)
+unfolding questions
+questions-le s (opening h) m ws n = omega arith
+questions-le s (request k b bs) m ws n = omega arith
+questions-le s turn m ws n = omega arith
+questions-le s (completion c bs) m ws n = omega arith
+questions-le s collect m ws n = omega arith
+
+-- Every call's number is at most 15
+pub number-le : (s : State) (c : Call) → number s c ≤ 15
+unfolding number
+number-le s c = firstNo-le 15 (questions s (c .ask) (c .memory) (c .words) (c .buffer)) (questions-le s (c .ask) (c .memory) (c .words) (c .buffer))
+
+-- A refused call changes the state as `refuse` says
+pub step-refused : (s : State) (c : Call) → (number s c ≡ 0 → ⊥) → step s c ≡ (refuse s (c .ask), refused (number s c))
+unfolding step
+step-refused s c h = rw (ne-eqb (number s c) 0 h)
+
+unfoldable pub opens : Ask → Bool
+opens (opening h) = true
+opens (request k b bs) = false
+opens turn = false
+opens (completion c bs) = false
+opens collect = false
+
+pub refuse-keeps : (s : State) (a : Ask) → opens a ≡ false → refuse s a ≡ s
+unfolding refuse opens
+refuse-keeps s (opening h) e = absurd (true≢false e)
+refuse-keeps s (request k b bs) e = refl
+refuse-keeps s turn e = refl
+refuse-keeps s (completion c bs) e = refl
+refuse-keeps s collect e = refl
+
+-- Every other refused call leaves the state as it was
+pub refused-keeps : (s : State) (c : Call) → opens (c .ask) ≡ false → (number s c ≡ 0 → ⊥) → step s c .0 ≡ s
+refused-keeps s c e h = ap (λ (r : State × Outcome). r .0) (step-refused s c h) ∙ refuse-keeps s (c .ask) e
+
+-- The outcome reports that number, and 0 words if it is a refusal
+pub step-number : (s : State) (c : Call) → step s c .1 .number ≡ number s c
+unfolding step accepted refused
+step-number s c = go (eqb (number s c) 0) refl
+  where
+    go : (t : Bool) → eqb (number s c) 0 ≡ t → step s c .1 .number ≡ number s c
+    go true e = rw e (sym (eqb-true (number s c) 0 e))
+    go false e = rw e
+
+-- All answers are yes
+abbrev pub Passed : List (Bool × ℕ) → Type 0
+Passed [] = Unit {0}
+Passed (x ∷ xs) = (x .0 ≡ true) × Passed xs
+
+abbrev Positive : List (Bool × ℕ) → Type 0
+Positive [] = Unit {0}
+Positive (x ∷ xs) = (1 ≤ x .1) × Positive xs
+
+firstNo-zero : (xs : List (Bool × ℕ)) → Positive xs → firstNo xs ≡ 0 → Passed xs
+unfolding firstNo
+firstNo-zero [] p h = tt
+firstNo-zero ((true, n) ∷ xs) p h = (refl, firstNo-zero xs (p .1) h)
+firstNo-zero ((false, n) ∷ xs) p h = absurd (omega arith)
+
+questions-positive : (s : State) (a : Ask) (m : ℕ) (ws : List ℕ) (n : ℕ) → Positive (questions s a m ws n)
+unfolding questions
+questions-positive s (opening h) m ws n = omega arith
+questions-positive s (request k b bs) m ws n = omega arith
+questions-positive s turn m ws n = omega arith
+questions-positive s (completion c bs) m ws n = omega arith
+questions-positive s collect m ws n = omega arith
+
+-- An accepted call has passed every question
+pub accepted-passed : (s : State) (c : Call) → number s c ≡ 0 → Passed (questions s (c .ask) (c .memory) (c .words) (c .buffer))
+unfolding number
+accepted-passed s c h = firstNo-zero (questions s (c .ask) (c .memory) (c .words) (c .buffer)) (questions-positive s (c .ask) (c .memory) (c .words) (c .buffer)) h
+
+-- An accepted call's result
+pub step-accepted : (s : State) (c : Call) → number s c ≡ 0 → step s c ≡ accepted s (c .ask) (draws (bounds s (c .ask)) (c .words))
+unfolding step
+step-accepted s c h = rw (eq-eqb (number s c) 0 h)
+
+-- An accepted call takes one word for each of its bounds, as long as a draw takes one word
+draws-taken : (ms ws : List ℕ) → not (isNone (draws ms ws)) ≡ true → takenOf (draws ms ws) ≡ length ms
+unfolding draws drawnFirst takenOf isNone
+draws-taken [] ws e = refl
+draws-taken (m ∷ ms) [] e = absurd (true≢false (sym e))
+draws-taken (m ∷ ms) (w ∷ ws) e = go (draws ms ws) e (draws-taken ms ws)
+  where
+    go : (o : Option Drawn) → not (isNone (drawnFirst (draw m w) o)) ≡ true → (not (isNone o) ≡ true → takenOf o ≡ length ms) → takenOf (drawnFirst (draw m w) o) ≡ suc (length ms)
+    go none e k = absurd (true≢false (sym e))
+    go (some d) e k = ap suc (k refl)
+
+passed-taken : (s : State) (a : Ask) (m : ℕ) (ws : List ℕ) (n : ℕ) → Passed (questions s a m ws n) → takenOf (draws (bounds s a) ws) ≡ length (bounds s a)
+unfolding questions
+passed-taken s (opening h) m ws n p = draws-taken _ ws (p .1 .1 .0)
+passed-taken s (request k b bs) m ws n p = draws-taken _ ws (p .1 .1 .1 .1 .1 .1 .0)
+passed-taken s turn m ws n p = draws-taken _ ws (p .1 .1 .1 .1 .0)
+passed-taken s (completion c bs) m ws n p = unfold bounds draws takenOf in refl
+passed-taken s collect m ws n p = unfold bounds draws takenOf in refl
+
+pub accepted-taken : (s : State) (c : Call) → number s c ≡ 0 → step s c .1 .taken ≡ length (bounds s (c .ask))
+accepted-taken s c h = rw (step-accepted s c h) (unfold accepted in (passed-taken s (c .ask) (c .memory) (c .words) (c .buffer) (accepted-passed s c h)))

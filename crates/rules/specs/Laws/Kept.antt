@@ -1,0 +1,299 @@
+-- Every accepted call leaves each number of the state in its range.
+use mathlib.Core.Path.{_≡_, refl, sym}
+use mathlib.Core.Bool.{Bool, true, false, not, true≢false}
+use mathlib.Core.List.{List, [], _∷_, _++_, map}
+use mathlib.Core.Option.{Option, none, some}
+use Prim.Native.Nat.{ℕ, zero, suc, _+_, _-_, _^_, _≤_, _<_}
+use native.Mathlib.Nat.{mod-lt}
+use native.Mathlib.Omega.{arith}
+use lib.ListN.{length, getD, replicate, length-append}
+use lib.Dec.{eqb, leb}
+use lib.Pow.{pow-pos}
+use borrow.Author.Tests.{eqb-true, eqb-false, leb-true, ltb-true}
+use Rattle.lists.specs.Tests
+use Rattle.lists.specs.Tests.{if_then_else_, and-l, and-r}
+use Rattle.lists.specs.Search
+use Rattle.lists.specs.Search.{indexOf}
+use Rattle.lists.specs.Tables.{put, putAll-has, put-has}
+use Rattle.lists.specs.All.{All, nil, cons, IfSome, all-append, all-keep, all-without, all-getD, map-below, all-replicate, below-below}
+use Rattle.rules.specs.Collect
+use Rattle.rules.specs.Memory
+use Rattle.rules.specs.Request
+use Rattle.rules.specs.Open
+use Rattle.rules.specs.Completion
+use Rattle.rules.specs.Blocks
+use Rattle.rules.specs.Rebuild
+use Rattle.rules.specs.Rebuild.{places}
+use Rattle.rules.specs.Shape.{Shape, cell, slots, within}
+use Rattle.rules.specs.State.{State, closed, Command, Place, nowhere, stored, Request}
+use Rattle.rules.specs.Ranges.{inRange, others, isKind}
+use Rattle.rules.specs.Draws.{newOrder, Drawn, draw, draws, drawnFirst}
+use Rattle.rules.specs.Questions
+use Rattle.rules.specs.Questions.{Ask, opening, request, turn, completion, collect, Call, bounds, questions, number}
+use Rattle.rules.specs.Run
+use Rattle.rules.specs.Run.{act, step, after}
+use Rattle.rules.specs.Turn
+use Rattle.rules.specs.Turn.{Step, idle, noDummy, readForRequest, readForJob, rebuild, writeNext, decide, doStep}
+use Rattle.rules.specs.Levels.{grown}
+use Rattle.rules.specs.Laws.Layout.{cell-inj, offset-in}
+use Rattle.rules.specs.Laws.Answers.{Passed, accepted-passed, step-accepted, step-refused}
+use Rattle.rules.specs.Laws.Waiting.{Waits, leave-waits, pass-waits, others-room, waits-le}
+use Rattle.rules.specs.Laws.Range.{PlaceIn, CommandIn, RequestIn, JobsIn, InRange, range-facts}
+use Rattle.rules.specs.Laws.RangeSetters.{inPlace, inBytes, inCounter, inOrder, inMark, inHolds, inWaiting, inQueue, inCursor, inSent, inOutstanding, inRequest}
+use Rattle.rules.specs.Laws.Decided.{StepIn, stepBounds-pos, decide-in}
+use Rattle.rules.specs.Laws.Orders.{Drew, order-below, done, length-order, one}
+use Rattle.lists.specs.Lengths.{without-length}
+use Rattle.rules.specs.Laws.Levels.{grown-lt, partitions-pos, levels-pos, slots-le}
+
+-- Commands sent
+pub kind-read : isKind 1 ≡ true
+unfolding isKind Tests.between
+kind-read = refl
+
+pub kind-write : isKind 2 ≡ true
+unfolding isKind Tests.between
+kind-write = refl
+
+pub send-in : (s : State) → InRange s → (c : Command) → CommandIn (s .shape) c → length (s .outstanding) < s .shape .W → InRange (Turn.send c s)
+unfolding Turn.send
+send-in s f c k h = inOutstanding s f (s .outstanding ++ (c ∷ [])) (all-append (f .outstanding) (cons k nil)) (rw length-append (omega arith))
+
+pub mark-in : (s : State) → InRange s → (q ℓ i : ℕ) → InRange (Turn.markRead q ℓ i s)
+unfolding Turn.markRead
+mark-in s f q ℓ i = inMark s f (put (cell (s .shape) q ℓ i) 0 (s .mark)) (λ p m j hp hm hj. put-has (λ v. v ≤ 1) (cell (s .shape) q ℓ i) 0 (s .mark) (cell (s .shape) p m j) (omega arith) (f .marks p m j hp hm hj))
+
+pub pass-in : (h : Shape) (ℓ : ℕ) (r : Option Request) → ℓ < h .L → IfSome (RequestIn h) r → IfSome (RequestIn h) (Request.passLevel ℓ r)
+unfolding Request.passLevel
+pass-in h ℓ none k f = tt
+pass-in h ℓ (some r) k f = record { kind = f .kind; block = f .block; bytes = f .bytes; next = f .next; evict = f .evict; level = k }
+
+pub pass-jobs : (qs : List ℕ) (ℓ : ℕ) (r : Option Request) → JobsIn qs r → JobsIn qs (Request.passLevel ℓ r)
+unfolding Request.passLevel
+pass-jobs qs ℓ none h = h
+pass-jobs qs ℓ (some r) h = h
+
+pub all-leave : {P : ℕ → Type 0} (o : Option ℕ) {xs : List ℕ} → All P xs → All P (Rebuild.leave o xs)
+unfolding Rebuild.leave
+all-leave none h = h
+all-leave (some b) h = all-without _ h
+
+pub itemPlace-in : (top t : ℕ) (o : List ℕ) (k : Option ℕ) (x : Place) → t < top → All (λ v. v < slots t) o → PlaceIn top x → PlaceIn top (Rebuild.itemPlace t o k x)
+unfolding Rebuild.itemPlace
+itemPlace-in top t o none x ht ho hx = hx
+itemPlace-in top t o (some k) x ht ho hx = (ht, all-getD k ho (pow-pos (t + 1)))
+
+pub itemHolds-in : (n : ℕ) (blocks : List ℕ) (k : Option ℕ) → All (λ b. b < n) blocks → Rebuild.itemHolds blocks k ≤ n
+unfolding Rebuild.itemHolds
+itemHolds-in n blocks none h = omega arith
+itemHolds-in n blocks (some k) h = all-getD k (more blocks h) (omega arith)
+  where
+    more : (xs : List ℕ) → All (λ b. b < n) xs → All (λ v. v ≤ n) (map suc xs)
+    more [] nil = nil
+    more (x ∷ xs) (cons a t) = cons a (more xs t)
+
+pub newHolds-in : (n m : ℕ) (blocks o : List ℕ) → All (λ b. b < n) blocks → All (λ v. v ≤ n) (Rebuild.newHolds m blocks o)
+unfolding Rebuild.newHolds
+newHolds-in n m blocks o h = map-below (λ v. v ≤ n) (λ i. Rebuild.itemHolds blocks (indexOf i o)) m (λ i k. itemHolds-in n blocks (indexOf i o) h)
+
+pub gathered-in : (s : State) (q : ℕ) → All (λ b. b < s .shape .N) (Rebuild.gathered s q)
+unfolding Rebuild.gathered
+gathered-in s q = all-keep _ (below-below (s .shape .N))
+
+pub emptied-in : (at : ℕ → ℕ → ℕ) (n : ℕ) (x : Place) (f : ℕ → ℕ) (c : ℕ) → f c ≤ n → Collect.emptied at x f c ≤ n
+unfolding Collect.emptied
+emptied-in at n nowhere f c k = k
+emptied-in at n (stored ℓ i) f c k = put-has (λ v. v ≤ n) (at ℓ i) 0 f c (omega arith) k
+
+pub cleared-in : (n a m : ℕ) (f : ℕ → ℕ) (c : ℕ) → f c ≤ n → Rebuild.cleared a m f c ≤ n
+unfolding Rebuild.cleared
+cleared-in n a m f c k = putAll-has (λ v. v ≤ n) a (replicate m 0) f c (λ x y. all-getD _ (all-replicate (λ v. v ≤ n) m 0 (omega arith)) (omega arith)) k
+
+-- a rebuild
+module _ (s : State) (f : InRange s) (q t : ℕ) (ht : t < s .shape .L) (o : List ℕ) (ho : All (λ v. v < slots t) o) (lo : length o ≡ slots t) where
+  start : ℕ
+  start = cell (s .shape) q t 0
+
+  level-of : (p ℓ i : ℕ) → ℓ < s .shape .L → i < slots ℓ → start ≤ cell (s .shape) p ℓ i → cell (s .shape) p ℓ i < start + length o → t ≡ ℓ
+  unfolding start
+  level-of p ℓ i hℓ hi a b = cell-inj (s .shape) q p t ℓ k i ht hℓ (omega arith) hi same .1
+    where
+      k : ℕ
+      k = cell (s .shape) p ℓ i - start
+
+      same : cell (s .shape) q t k ≡ cell (s .shape) p ℓ i
+      same = unfold cell in (omega arith)
+
+  pub rebuild-in : InRange (Rebuild.doRebuild q t o s)
+  unfolding Rebuild.doRebuild Rebuild.newPlace start
+  rebuild-in = inSent _ (inHolds _ (inMark _ (inOrder _ (inWaiting _ (inPlace s f _
+      (λ b hb. itemPlace-in (s .shape .L) t o (indexOf b (Rebuild.gathered s q)) (s .place b) ht ho (f .places b hb)))
+      _ (all-leave (Rebuild.chosen s q) (f .waiting)) (leave-waits (s .shape .E) (s .waiting) (Rebuild.chosen s q) (s .request) (f .cache)))
+      _ (λ p ℓ i hp hℓ hi. putAll-has (λ v. v < slots ℓ) start o (s .order) (cell (s .shape) p ℓ i)
+      (λ a b. rw (← level-of p ℓ i hℓ hi a b) (all-getD _ ho (pow-pos (t + 1)))) (f .orders p ℓ i hp hℓ hi)))
+      _ (λ p ℓ i hp hℓ hi. putAll-has (λ v. v ≤ 1) start (replicate (slots t) 1) (s .mark) (cell (s .shape) p ℓ i)
+      (λ a b. all-getD _ (all-replicate (λ v. v ≤ 1) (slots t) 1 (omega arith)) (omega arith)) (f .marks p ℓ i hp hℓ hi)))
+      _ (λ p ℓ i hp hℓ hi. putAll-has (λ v. v ≤ s .shape .N) start (Rebuild.newHolds (slots t) (Rebuild.gathered s q) o) _ (cell (s .shape) p ℓ i)
+      (λ a b. all-getD _ (newHolds-in (s .shape .N) (slots t) (Rebuild.gathered s q) o (gathered-in s q)) (omega arith))
+      (cleared-in (s .shape .N) _ _ (s .holds) (cell (s .shape) p ℓ i) (f .holds p ℓ i hp hℓ hi))))
+      1 (pow-pos (s .shape .L))
+
+pub jobs-tail : (q : ℕ) (l : List ℕ) (r : Option Request) → JobsIn (q ∷ l) r → JobsIn l r
+jobs-tail q l none h = omega arith
+jobs-tail q l (some r) h = omega arith
+
+module _ (s : State) (f : InRange s) where
+  pub doStep-in : (x : Step) (js : List ℕ) → StepIn (s .shape) x → length (s .outstanding) < s .shape .W → InRange (doStep x js s)
+  unfolding doStep Turn.markRead Rebuild.doRebuild
+  doStep-in idle js h w = f
+  doStep-in noDummy js h w = f
+  doStep-in (readForRequest q ℓ i) js h w = send-in _ (inRequest _ (mark-in s f q ℓ i) _
+      (pass-in (s .shape) ℓ (s .request) (h .1) (f .request)) (pass-jobs (s .queue) ℓ (s .request) (f .jobs)) (pass-waits (s .shape .E) ℓ (s .waiting) (s .request) (f .cache)))
+      _ (record { kind = kind-read; partition = h .0; level = h .1; slot = h .2 }) w
+  doStep-in (readForJob q ℓ i) js h w = send-in _ (inCursor _ (mark-in s f q ℓ i) _ (offset-in (s .shape .L) ℓ i (h .1) (h .2))) _ (record { kind = kind-read; partition = h .0; level = h .1; slot = h .2 }) w
+  doStep-in (rebuild q t) js h w = send-in _ (rebuild-in s f q t (h .1) (newOrder (slots t) js) (order-below (slots t) js (pow-pos (t + 1))) (length-order (slots t) js))
+      _ (record { kind = kind-write; partition = h .0; level = h .1; slot = pow-pos (t + 1) }) w
+  doStep-in (writeNext q t i) js h w = send-in _ (inSent s f (suc i) (omega (arith, slots-le (s .shape) t (h .1)))) _ (record { kind = kind-write; partition = h .0; level = h .1; slot = h .2 }) w
+
+  pub finishJob-in : (l : List ℕ) → All (λ q. q < s .shape .P) l → JobsIn l (s .request) → InRange (Completion.finishJob l s)
+  unfolding Completion.finishJob Completion.endJob
+  finishJob-in [] a b = f
+  finishJob-in (q ∷ l) (cons a t) b = go (Completion.jobDone s q)
+    where
+      go : (u : Bool) → InRange (if u then Completion.endJob q l s else s)
+      go true = inSent _ (inCursor _ (inQueue _ (inCounter s f _ (λ p hp. put-has (λ c. c < 2 ^ s .shape .L) q (grown (s .shape) (s .counter q)) (s .counter) p
+          (grown-lt (s .shape) (s .counter q) (levels-pos (s .shape) (f .shape)) (f .counters q a)) (f .counters p hp))) l t (jobs-tail q l (s .request) b)) 0 (omega arith)) 0 (omega arith)
+      go false = f
+
+  pub gatherBytes-in : (o : Option ℕ) (bs : List ℕ) → InRange (Completion.gatherBytes o bs s)
+  unfolding Completion.gatherBytes
+  gatherBytes-in none bs = f
+  gatherBytes-in (some b) bs = inBytes s f _
+
+  pub completed-in : (c : Command) → InRange (Completion.completed c s)
+  unfolding Completion.completed
+  completed-in c = inOutstanding s f (Search.without (Completion.isCommand c) (s .outstanding)) (all-without _ (f .outstanding)) (omega (arith, without-length (Completion.isCommand c) (s .outstanding), f .free))
+
+  pub collected-in : (r : Option Request) → IfSome (RequestIn (s .shape)) r → JobsIn (s .queue) r → Waits (s .shape .E) (s .waiting) r → InRange (Collect.collected r s)
+  unfolding Collect.collected Collect.finish others
+  collected-in none a b c = f
+  collected-in (some r) a b c = record {
+    shape = f .shape;
+    partitions = λ k hk. put-has (λ p. p < s .shape .P) (r .block) (r .next) (s .partition) k (a .next) (f .partitions k hk);
+    places = λ k hk. put-has (PlaceIn (s .shape .L)) (r .block) nowhere (s .place) k tt (f .places k hk);
+    counters = f .counters;
+    orders = f .orders;
+    marks = f .marks;
+    holds = λ q ℓ i hq hℓ hi. emptied-in (cell (s .shape) (s .partition (r .block))) (s .shape .N) (s .place (r .block)) (s .holds) (cell (s .shape) q ℓ i) (f .holds q ℓ i hq hℓ hi);
+    waiting = all-append (all-keep _ (f .waiting)) (cons (a .block) nil);
+    queue = all-append (f .queue) (cons (f .partitions (r .block) (a .block)) (cons (a .evict) nil));
+    outstanding = f .outstanding;
+    cursor = f .cursor;
+    sent = f .sent;
+    free = f .free;
+    request = tt;
+    jobs = rw length-append (omega arith);
+    cache = rw length-append (omega (arith, c .1));
+  }
+
+-- A fresh state
+pub drew-below : (n p b : ℕ) {ms js : List ℕ} → 0 < p → All (λ m. m ≡ p) ms → Drew ms js → getD js b 0 < p
+drew-below n p b h nil done = h
+drew-below n p zero h (cons e t) (one k d) = rw e at k
+drew-below n p (suc b) h (cons e t) (one k d) = drew-below n p b h t d
+
+pub fresh-in : (h : Shape) (js : List ℕ) → within h ≡ true → Drew (replicate (h .N) (h .P)) js → InRange (Open.fresh h js)
+unfolding Open.fresh
+fresh-in h js w d = record {
+  shape = w;
+  partitions = λ b hb. drew-below 0 (h .P) b (partitions-pos h w) (all-replicate (λ m. m ≡ h .P) (h .N) (h .P) refl) d;
+  places = λ b hb. tt;
+  counters = λ q hq. pow-pos (h .L);
+  orders = λ q ℓ i hq hℓ hi. pow-pos (ℓ + 1);
+  marks = λ q ℓ i hq hℓ hi. omega arith;
+  holds = λ q ℓ i hq hℓ hi. omega arith;
+  waiting = nil;
+  queue = nil;
+  outstanding = nil;
+  cursor = omega arith;
+  sent = omega arith;
+  free = omega arith;
+  request = tt;
+  jobs = omega arith;
+  cache = omega arith;
+}
+
+module _ (s : State) (f : InRange s) where
+  pub complete-in : (c : Command) (bs : List ℕ) → InRange (Completion.complete c bs s)
+  unfolding Completion.complete Completion.completeRead Completion.completeWrite Completion.completed
+  complete-in c bs = go (eqb (c .kind) 1)
+    where
+      go : (t : Bool) → InRange (if t then Completion.completeRead c bs s else Completion.completeWrite c s)
+      go true = gatherBytes-in (Completion.completed c s) (completed-in s f c) (Blocks.holder s (c .partition) (c .level) (c .slot)) bs
+      go false = finishJob-in (Completion.completed c s) (completed-in s f c) (s .queue) (f .queue) (f .jobs)
+
+  -- Every accepted call leaves a state in range
+  pub act-in : (a : Ask) (m : ℕ) (ws : List ℕ) (k : ℕ) (js : List ℕ) → Passed (questions s a m ws k) → Drew (bounds s a) js → InRange (act s a js)
+  unfolding act questions bounds Request.accept
+  act-in (opening h) m ws k js p d = fresh-in h js (p .0) d
+  act-in (request j b bs) m ws k js p (one a (one c done)) = inRequest s f _
+      (record { kind = and-r (Questions.ready s m) (isKind j) (p .0); block = ltb-true b (s .shape .N) (p .1 .1 .0); bytes = eqb-true _ _ (p .1 .1 .1 .0); next = a; evict = c; level = omega arith })
+      (leb-true (length (s .queue)) 62 (p .1 .1 .1 .1 .0))
+      (let h = waits-le (s .shape .E) (s .waiting) (s .request) (f .cache) in (h, others-room (s .shape .E) b (s .waiting) h (p .1 .1 .1 .1 .1 .0)))
+  act-in turn m ws k js p d = doStep-in s f (decide s) js (decide-in s f) (ltb-true (length (s .outstanding)) (s .shape .W) (p .1 .0))
+  act-in (completion c bs) m ws k js p d = complete-in c bs
+  act-in collect m ws k js p d = collected-in s f (s .request) (f .request) (f .jobs) (f .cache)
+
+-- The words lent give such numbers
+pub drew-of : (ms ws : List ℕ) → All (λ m. 0 < m) ms → not (Search.isNone (draws ms ws)) ≡ true → Drew ms (Run.numbersOf (draws ms ws))
+unfolding draws drawnFirst draw Run.numbersOf Search.isNone
+drew-of [] ws h e = done
+drew-of (m ∷ ms) [] h e = absurd (true≢false (sym e))
+drew-of (m ∷ ms) (w ∷ ws) (cons h t) e = go (draws ms ws) e (drew-of ms ws t)
+  where
+    go : (o : Option Drawn) → not (Search.isNone (drawnFirst (draw m w) o)) ≡ true → (not (Search.isNone o) ≡ true → Drew ms (Run.numbersOf o)) → Drew (m ∷ ms) (Run.numbersOf (drawnFirst (draw m w) o))
+    go none e k = absurd (true≢false (sym e))
+    go (some d) e k = one (mod-lt w h) (k refl)
+
+-- an accepted call that is no open was given a state in range
+pub given-in : (s : State) (m : ℕ) → Questions.ready s m ≡ true → InRange s
+unfolding Questions.ready
+given-in s m e = range-facts s (and-r (leb (Memory.needed (s .shape)) m) (inRange s) e)
+
+-- Whatever state a call was given, if it is accepted it leaves a state in range
+pub accepted-in : (s : State) (a : Ask) (m : ℕ) (ws : List ℕ) (k : ℕ) → Passed (questions s a m ws k) → InRange (act s a (Run.numbersOf (draws (bounds s a) ws)))
+unfolding questions bounds
+accepted-in s (opening h) m ws k p = unfold act in (fresh-in h _ (p .0) (drew-of _ ws (all-replicate (λ m. 0 < m) (h .N) (h .P) (partitions-pos h (p .0))) (p .1 .1 .0)))
+accepted-in s (request j b bs) m ws k p =
+    let f = given-in s m (and-l (Questions.ready s m) (isKind j) (p .0)) in
+    let h = partitions-pos (s .shape) (f .shape) in
+    act-in s f (request j b bs) m ws k _ p (drew-of _ ws (cons h (cons h nil)) (p .1 .1 .1 .1 .1 .1 .0))
+accepted-in s turn m ws k p = act-in s (given-in s m (p .0)) turn m ws k _ p (drew-of _ ws (stepBounds-pos (decide s)) (p .1 .1 .1 .1 .0))
+accepted-in s (completion c bs) m ws k p = act-in s (given-in s m (and-l (Questions.ready s m) (isKind (c .kind)) (p .0))) (completion c bs) m ws k _ p (unfold draws Run.numbersOf in done)
+accepted-in s collect m ws k p = act-in s (given-in s m (p .0)) collect m ws k _ p (unfold draws Run.numbersOf in done)
+
+-- A state that calls left is closed or in range
+pub data Left (s : State) : Type 0 where
+  shut : s ≡ closed → Left s
+  live : InRange s → Left s
+
+pub refuse-left : (s : State) (a : Ask) → Left s → Left (Run.refuse s a)
+unfolding Run.refuse
+refuse-left s (opening h) l = shut refl
+refuse-left s (request k b bs) l = l
+refuse-left s turn l = l
+refuse-left s (completion c bs) l = l
+refuse-left s collect l = l
+
+pub step-left : (s : State) (c : Call) → Left s → Left (step s c .0)
+step-left s c l = go (eqb (number s c) 0) refl
+  where
+    go : (t : Bool) → eqb (number s c) 0 ≡ t → Left (step s c .0)
+    go true e = let z = eqb-true (number s c) 0 e in
+        rw (step-accepted s c z) (live (unfold Run.accepted in (accepted-in s (c .ask) (c .memory) (c .words) (c .buffer) (accepted-passed s c z))))
+    go false e = rw (step-refused s c (eqb-false (number s c) 0 e)) (refuse-left s (c .ask) l)
+
+-- Document 01: each number of a state that calls left is in its range
+pub after-left : (cs : List Call) (s : State) → Left s → Left (after s cs)
+unfolding after
+after-left [] s l = l
+after-left (c ∷ cs) s l = after-left cs (step s c .0) (step-left s c l)

@@ -1,0 +1,114 @@
+-- The order that is drawn: its slots are below n, there are n of them, and none stands twice.
+use mathlib.Core.Path.{_≡_, refl, ap, sym, _∙_}
+use mathlib.Core.List.{List, [], _∷_}
+use Prim.Native.Nat.{ℕ, zero, suc, _-_, _<_}
+use native.Mathlib.Omega.{arith}
+use lib.ListN.{length, getD, set, length-set}
+use mathlib.Core.Logic.{ite}
+use native.Mathlib.Decide.{ℕ-discrete}
+use lib.Seq.{getD-set-same, getD-set-other}
+use Rattle.lists.specs.Search.{below}
+use Rattle.lists.specs.All.{All, nil, cons, all-getD, all-set, below-below}
+use Rattle.lists.specs.Lengths.{length-count, length-below}
+use Rattle.lists.specs.Distinct.{NoDup, nodup-inj, inj-nodup}
+use Rattle.lists.specs.Members.{nodup-below}
+use Rattle.rules.specs.Shape.{slots}
+use Rattle.rules.specs.Draws.{exchange, shuffle, newOrder, orderBounds}
+use Rattle.rules.specs.Questions.{bounds}
+use Rattle.rules.specs.Run.{after}
+
+-- An order's slots
+pub exchange-below : (n i j : ℕ) (o : List ℕ) → 0 < n → All (λ x. x < n) o → All (λ x. x < n) (exchange o i j)
+unfolding exchange
+exchange-below n i j o p h = all-set j (all-set i h (all-getD j h p)) (all-getD i h p)
+
+pub shuffle-below : (n i : ℕ) (js o : List ℕ) → 0 < n → All (λ x. x < n) o → All (λ x. x < n) (shuffle i js o)
+unfolding shuffle
+shuffle-below n zero js o p h = h
+shuffle-below n (suc i) [] o p h = h
+shuffle-below n (suc i) (j ∷ js) o p h = shuffle-below n i js (exchange o (suc i) j) p (exchange-below n (suc i) j o p h)
+
+pub length-shuffle : (i : ℕ) (js o : List ℕ) → length (shuffle i js o) ≡ length o
+unfolding shuffle exchange
+length-shuffle zero js o = refl
+length-shuffle (suc i) [] o = refl
+length-shuffle (suc i) (j ∷ js) o = length-shuffle i js (exchange o (suc i) j) ∙ simp length-set
+
+pub order-below : (n : ℕ) (js : List ℕ) → 0 < n → All (λ x. x < n) (newOrder n js)
+unfolding newOrder
+order-below n js p = shuffle-below n (n - 1) js (below n) p (below-below n)
+
+pub length-order : (n : ℕ) (js : List ℕ) → length (newOrder n js) ≡ n
+unfolding newOrder below
+length-order n js = length-shuffle (n - 1) js (below n) ∙ length-count 0 n
+
+pub orderBounds-pos : (n : ℕ) → All (λ m. 0 < m) (orderBounds n)
+unfolding orderBounds
+orderBounds-pos zero = nil
+orderBounds-pos (suc zero) = nil
+orderBounds-pos (suc (suc i)) = let here : 0 < suc (suc i) = omega arith in cons here (orderBounds-pos (suc i))
+
+-- The numbers drawn for a list of bounds: document 01's tape
+pub data Drew : List ℕ → List ℕ → Type 0 where
+  done : Drew [] []
+  one : {m j : ℕ} {ms js : List ℕ} → j < m → Drew ms js → Drew (m ∷ ms) (j ∷ js)
+
+-- item k has after the exchange of i and j the slot that item `other i j k` had before it
+other : ℕ → ℕ → ℕ → ℕ
+other i j k = ite (ℕ-discrete k j) i (ite (ℕ-discrete k i) j k)
+
+by-other : {A : Type 0} (i j k : ℕ) → (k ≡ j → other i j k ≡ i → A) → (¬ (k ≡ j) → k ≡ i → other i j k ≡ j → A) → (¬ (k ≡ j) → ¬ (k ≡ i) → other i j k ≡ k → A) → A
+unfolding other
+by-other {A} i j k f g h = go (ℕ-discrete k j) (ℕ-discrete k i) refl
+  where
+    go : (d : Dec (k ≡ j)) (e : Dec (k ≡ i)) → other i j k ≡ ite d i (ite e j k) → A
+    go (yes p) e q = f p q
+    go (no p) (yes r) q = g p r q
+    go (no p) (no r) q = h p r q
+
+other-lt : (i j k n : ℕ) → i < n → j < n → k < n → other i j k < n
+other-lt i j k n hi hj hk = by-other i j k (λ p q. omega arith) (λ p q r. omega arith) (λ p q r. omega arith)
+
+other-same : (i j : ℕ) → other i j i ≡ j
+other-same i j = by-other i j i (λ p q. omega arith) (λ p q r. omega arith) (λ p q r. omega arith)
+
+other-first : (i j : ℕ) → other i j j ≡ i
+other-first i j = by-other i j j (λ p q. q) (λ p q r. absurd (p refl)) (λ p q r. absurd (p refl))
+
+other-back : (i j k : ℕ) → other i j (other i j k) ≡ k
+other-back i j k = by-other i j k (λ p q. rw (q, p) (other-same i j)) (λ p q r. rw (r, q) (other-first i j)) (λ p q r. ap (other i j) r ∙ r)
+
+module _ (o : List ℕ) (i j : ℕ) (hi : i < length o) (hj : j < length o) where
+  get-exchange : (k : ℕ) → getD (exchange o i j) k 0 ≡ getD o (other i j k) 0
+  unfolding exchange
+  get-exchange k =
+      let s = set o i (getD o j 0) in
+      let hs : j < length s = omega (arith, length-set o i (getD o j 0)) in
+      by-other i j k
+      (λ p q. rw (q, p, getD-set-same s j (getD o i 0) 0 hs))
+      (λ p q r. getD-set-other s j k (getD o i 0) 0 p ∙ rw (r, q, getD-set-same o i (getD o j 0) 0 hi))
+      (λ p q r. getD-set-other s j k (getD o i 0) 0 p ∙ rw r (getD-set-other o i k (getD o j 0) 0 q))
+
+  length-exchange : length (exchange o i j) ≡ length o
+  unfolding exchange
+  length-exchange = simp length-set
+
+  nodup-exchange : NoDup o → NoDup (exchange o i j)
+  nodup-exchange u = inj-nodup (exchange o i j) (λ k l hk hl e.
+      let hk′ : k < length o = omega (arith, length-exchange) in
+      let hl′ : l < length o = omega (arith, length-exchange) in
+      let q = nodup-inj o (other i j k) (other i j l) u (other-lt i j k (length o) hi hj hk′) (other-lt i j l (length o) hi hj hl′) (sym (get-exchange k) ∙ e ∙ get-exchange l) in
+      sym (other-back i j k) ∙ ap (other i j) q ∙ other-back i j l)
+
+nodup-shuffle : (i : ℕ) (js o : List ℕ) → i < length o → Drew (orderBounds (suc i)) js → NoDup o → NoDup (shuffle i js o)
+unfolding shuffle orderBounds
+nodup-shuffle zero js o h d u = u
+nodup-shuffle (suc i) (j ∷ js) o h (one k d) u =
+    nodup-shuffle i js (exchange o (suc i) j) (omega (arith, length-exchange o (suc i) j h (omega arith))) d (nodup-exchange o (suc i) j h (omega arith) u)
+
+pub nodup-order : (n : ℕ) (js : List ℕ) → 0 < n → Drew (orderBounds n) js → NoDup (newOrder n js)
+unfolding newOrder
+nodup-order zero js p d = absurd (omega arith)
+nodup-order (suc n) js p d =
+    let e : suc n - 1 ≡ n = omega arith in
+    rw e (nodup-shuffle n js (below (suc n)) (omega (arith, length-below (suc n))) d (nodup-below (suc n)))

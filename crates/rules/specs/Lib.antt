@@ -1,0 +1,21 @@
+-- Document 01 as definitions, in its order. A reader has to believe these.
+pub mod Shape
+pub mod State
+pub mod Setters
+pub mod Ranges
+pub mod Memory
+pub mod Draws
+pub mod Levels
+pub mod Blocks
+pub mod Open
+pub mod Request
+pub mod Rebuild
+pub mod Turn
+pub mod Completion
+pub mod Collect
+pub mod Questions
+pub mod Run
+-- Theorems: sessions and edges that the checker computes, and laws
+pub mod Unfold
+pub mod Checked
+pub mod Laws

@@ -1,0 +1,97 @@
+-- Document 01, "Turn sends one command": what it is, and what it changes.
+use mathlib.Core.Bool.{Bool}
+use mathlib.Core.List.{List, [], _∷_, _++_}
+use mathlib.Core.Option.{Option, none, some, Option·getD}
+use Prim.Native.Nat.{ℕ, suc}
+use lib.Dec.{ltb, eqb}
+use Rattle.lists.specs.Tests.{if_then_else_}
+use Rattle.lists.specs.Search.{any, orElse}
+use Rattle.lists.specs.Tables.{put}
+use Rattle.rules.specs.Shape.{slots, cell, offset}
+use Rattle.rules.specs.State.{Command, cmd, read, write, Place, Request, State}
+use Rattle.rules.specs.Setters.{_▷_, setMark, setCursor, setSent, setOutstanding, setRequest}
+use Rattle.rules.specs.Draws.{newOrder, orderBounds}
+use Rattle.rules.specs.Levels.{target}
+use Rattle.rules.specs.Request.{held, levelsLeft, slotIn, dummy, passLevel}
+use Rattle.rules.specs.Rebuild.{unread, doRebuild}
+
+pub data Step : Type 0 where
+  idle : Step  -- there is no command to send
+  noDummy : Step  -- the request lacks an unread dummy
+  readForRequest : ℕ → ℕ → ℕ → Step  -- partition, level, slot
+  readForJob : ℕ → ℕ → ℕ → Step
+  rebuild : ℕ → ℕ → Step  -- partition, target: draws the order and sends the first write
+  writeNext : ℕ → ℕ → ℕ → Step
+
+-- ---- What a turn does next
+
+unfoldable pub readStep : ℕ → ℕ → Option ℕ → Step
+readStep q ℓ none = noDummy
+readStep q ℓ (some i) = readForRequest q ℓ i
+
+-- "One read to each filled level of p, level 0 first: the block's slot if its place is there, else the slot of the lowest-numbered unread dummy
+-- item": the read of the first of these levels. A block waiting or nowhere has its place in none
+unfoldable pub firstRead : ℕ → Place → (ℕ → Option ℕ) → List ℕ → Option Step
+firstRead q place dummyOf [] = none
+firstRead q place dummyOf (ℓ ∷ _) = some (readStep q ℓ (orElse (slotIn ℓ place) (dummyOf ℓ)))
+
+unfoldable pub requestStep : State → Option Request → Option Step
+requestStep s none = none
+requestStep s (some r) = let q = s .partition (r .block) in
+    if held s r then none else firstRead q (s .place (r .block)) (dummy s q) (levelsLeft s r)
+
+-- the job's next read, if a slot of its sources is left to read
+unfoldable pub gatherStep : ℕ → Option (ℕ × ℕ) → Step → Step
+gatherStep q none after = after
+gatherStep q (some p) after = readForJob q (p .0) (p .1)
+
+-- "When those have completed, the next turn .. draws an order of 2^(t+1) slots .. and sends the first of 2^(t+1) writes": nothing of q is outstanding
+unfoldable pub rebuildStep : State → ℕ → Step
+rebuildStep s q = if any (λ c. eqb (c .partition) q) (s .outstanding) then idle else rebuild q (target (s .shape) (s .counter q))
+
+-- ".. of 2^(t+1) writes, slots ascending"
+unfoldable pub writeStep : State → ℕ → Step
+writeStep s q = let t = target (s .shape) (s .counter q) in if ltb (s .sent) (slots t) then writeNext q t (s .sent) else idle
+
+-- "The front job, for partition q, runs so"
+unfoldable pub jobStep : State → List ℕ → Step
+jobStep s [] = idle
+jobStep s (q ∷ _) = if eqb (s .sent) 0 then gatherStep q (unread s q) (rebuildStep s q) else writeStep s q
+
+-- "A request's reads go before a job's commands."
+unfoldable pub decide : State → Step
+decide s = Option·getD (requestStep s (s .request)) (jobStep s (s .queue))
+
+unfoldable pub command : Step → Command
+command idle = cmd 0 0 0 0
+command noDummy = cmd 0 0 0 0
+command (readForRequest q ℓ i) = cmd read q ℓ i
+command (readForJob q ℓ i) = cmd read q ℓ i
+command (rebuild q t) = cmd write q t 0
+command (writeNext q t i) = cmd write q t i
+
+-- the bounds of its draws: "draws an order of 2^(t+1) slots"
+unfoldable pub stepBounds : Step → List ℕ
+stepBounds idle = []
+stepBounds noDummy = []
+stepBounds (readForRequest q ℓ i) = []
+stepBounds (readForJob q ℓ i) = []
+stepBounds (rebuild q t) = orderBounds (slots t)
+stepBounds (writeNext q t i) = []
+
+-- ---- What a turn changes
+
+unfoldable pub send : Command → State → State
+send c s = s ▷ setOutstanding (s .outstanding ++ (c ∷ []))
+
+-- "A slot counts as read once its read is sent."
+unfoldable pub markRead : ℕ → ℕ → ℕ → State → State
+markRead q ℓ i s = s ▷ setMark (put (cell (s .shape) q ℓ i) 0 (s .mark))
+
+unfoldable pub doStep : Step → List ℕ → State → State
+doStep idle js s = s
+doStep noDummy js s = s
+doStep (readForRequest q ℓ i) js s = s ▷ markRead q ℓ i ▷ setRequest (passLevel ℓ (s .request)) ▷ send (cmd read q ℓ i)
+doStep (readForJob q ℓ i) js s = s ▷ markRead q ℓ i ▷ setCursor (suc (offset ℓ i)) ▷ send (cmd read q ℓ i)
+doStep (rebuild q t) js s = s ▷ doRebuild q t (newOrder (slots t) js) ▷ send (cmd write q t 0)
+doStep (writeNext q t i) js s = s ▷ setSent (suc i) ▷ send (cmd write q t i)
