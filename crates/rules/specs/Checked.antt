@@ -1,2 +1,5 @@
 pub mod Worked
 pub mod Edges
+pub mod SessionsA
+pub mod SessionsB
+pub mod SessionsC

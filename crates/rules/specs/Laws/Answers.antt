@@ -1,17 +1,21 @@
--- Two plain laws of the calls.
+-- What holds of every call's answer, on every state: its number, what a refusal leaves, the words taken.
 use mathlib.Core.Path.{_≡_, refl, ap, sym, _∙_}
-use mathlib.Core.Bool.{Bool, true, false, not, true≢false}
+use mathlib.Core.Bool.{Bool, true, false, not, _&&_, true≢false}
 use mathlib.Core.List.{List, [], _∷_}
 use Prim.Native.Nat.{ℕ, suc, _≤_}
 use native.Mathlib.Omega.{arith}
 use mathlib.Core.Option.{Option, none, some}
 use lib.ListN.{length}
-use lib.Dec.{eqb}
+use lib.Dec.{eqb, leb}
 use borrow.Author.Tests.{ne-eqb, eqb-true, eq-eqb}
 use Rattle.lists.specs.Search.{isNone}
-use Rattle.rules.specs.State.{State}
+use Rattle.lists.specs.Tests.{every, between}
+use Rattle.rules.specs.Shape.{Shape, within}
+use Rattle.rules.specs.State.{State, closed}
+use Rattle.rules.specs.Ranges.{inRange, ranges}
+use Rattle.rules.specs.Memory.{needed}
 use Rattle.rules.specs.Draws.{Drawn, draw, draws, drawnFirst}
-use Rattle.rules.specs.Questions.{Ask, opening, request, turn, completion, collect, Call, questions, firstNo, number, bounds}
+use Rattle.rules.specs.Questions.{Ask, opening, request, turn, completion, collect, Call, ready, questions, firstNo, number, bounds}
 use Rattle.rules.specs.Run.{Outcome, refuse, refused, accepted, step, takenOf}
 
 -- each number of a list of questions is at most m
@@ -62,7 +66,36 @@ refuse-keeps s collect e = refl
 pub refused-keeps : (s : State) (c : Call) → opens (c .ask) ≡ false → (number s c ≡ 0 → ⊥) → step s c .0 ≡ s
 refused-keeps s c e h = ap (λ (r : State × Outcome). r .0) (step-refused s c h) ∙ refuse-keeps s (c .ask) e
 
--- The outcome reports that number, and 0 words if it is a refusal
+-- A refused open leaves the closed state
+pub refused-open : (s : State) (c : Call) (h : Shape) → c .ask ≡ opening h → (number s c ≡ 0 → ⊥) → step s c .0 ≡ closed
+unfolding refuse
+refused-open s c h e n = ap (λ (r : State × Outcome). r .0) (step-refused s c n) ∙ ap (refuse s) e
+
+-- A refusal takes no word, sends no command and hands nothing out
+pub refused-outcome : (s : State) (c : Call) → (number s c ≡ 0 → ⊥) → step s c .1 ≡ refused (number s c)
+refused-outcome s c h = ap (λ (r : State × Outcome). r .1) (step-refused s c h)
+
+-- "A closed state, to which the other four reply 2"
+closed-unready : (m : ℕ) → ready closed m ≡ false
+unfolding ready inRange ranges within closed between every
+closed-unready m = and-false (leb (needed (closed .shape)) m)
+  where
+    and-false : (t : Bool) → (t && false) ≡ false
+    and-false true = refl
+    and-false false = refl
+
+pub closed-two : (c : Call) → opens (c .ask) ≡ false → number closed c ≡ 2
+unfolding number
+closed-two c e = go (c .ask) e
+  where
+    go : (a : Ask) → opens a ≡ false → firstNo (questions closed a (c .memory) (c .words) (c .buffer)) ≡ 2
+    go (opening h) e = absurd (true≢false (unfold opens in e))
+    go (request k b bs) e = unfold questions firstNo in (rw (closed-unready (c .memory)))
+    go turn e = unfold questions firstNo in (rw (closed-unready (c .memory)))
+    go (completion d bs) e = unfold questions firstNo in (rw (closed-unready (c .memory)))
+    go collect e = unfold questions firstNo in (rw (closed-unready (c .memory)))
+
+-- The outcome reports that number
 pub step-number : (s : State) (c : Call) → step s c .1 .number ≡ number s c
 unfolding step accepted refused
 step-number s c = go (eqb (number s c) 0) refl

@@ -1,0 +1,271 @@
+//! The five calls, their questions and their outcomes.
+
+use crate::mistakes::Mistake;
+use crate::shape::Shape;
+use crate::state::{Command, Place, READ, Request, State, Step, WRITE};
+
+#[derive(Clone, Debug, PartialEq, Eq)]
+pub enum Ask {
+    Open(Shape),
+    Request {
+        kind: usize,
+        block: usize,
+        contents: Vec<u8>,
+    },
+    Turn,
+    Completion {
+        command: Command,
+        bytes: Vec<u8>,
+    },
+    Collect,
+}
+
+/// A call with what it is lent: bytes of memory, words of the tape, and the
+/// length of a turn's write buffer or a collect's answer buffer.
+#[derive(Clone, Debug, PartialEq, Eq)]
+pub struct Call {
+    pub ask: Ask,
+    pub memory: usize,
+    pub words: Vec<u16>,
+    pub buffer: usize,
+}
+
+/// The number answered, the words taken, a turn's command and the bytes put
+/// in the lent buffer. The default is that of an accepted completion.
+#[derive(Clone, Debug, Default, PartialEq, Eq)]
+pub struct Outcome {
+    pub number: u8,
+    pub taken: usize,
+    pub command: Command,
+    pub bytes: Vec<u8>,
+}
+
+impl Outcome {
+    fn refused(number: u8) -> Outcome {
+        Outcome {
+            number,
+            ..Outcome::default()
+        }
+    }
+
+    fn taking(taken: usize) -> Outcome {
+        Outcome {
+            taken,
+            ..Outcome::default()
+        }
+    }
+}
+
+/// A question: a no answers the number.
+pub fn ask(yes: bool, no: u8) -> Result<(), u8> {
+    if yes { Ok(()) } else { Err(no) }
+}
+
+/// The words lent with a call. The bound of each draw is noted, so that all
+/// tapes of a list can be enumerated.
+pub struct Draws<'a> {
+    words: &'a [u16],
+    bounds: &'a mut Vec<usize>,
+}
+
+impl<'a> Draws<'a> {
+    pub fn new(words: &'a [u16], bounds: &'a mut Vec<usize>) -> Draws<'a> {
+        Draws { words, bounds }
+    }
+
+    pub fn left(&self) -> usize {
+        self.words.len() - self.bounds.len()
+    }
+
+    pub fn taken(&self) -> usize {
+        self.bounds.len()
+    }
+
+    pub fn below(&mut self, m: usize) -> usize {
+        let word = self.words[self.bounds.len()];
+        self.bounds.push(m);
+        usize::from(word) % m
+    }
+}
+
+/// A store as the calls see it: closed, or with a state.
+#[derive(Clone, Debug)]
+pub struct Store {
+    pub mistake: Mistake,
+    pub state: Option<State>,
+    /// The bounds of the last call's draws, in turn.
+    pub bounds: Vec<usize>,
+}
+
+impl Store {
+    pub fn new(mistake: Mistake) -> Store {
+        Store {
+            mistake,
+            state: None,
+            bounds: Vec::new(),
+        }
+    }
+
+    pub fn call(&mut self, call: &Call) -> Outcome {
+        self.bounds.clear();
+        let mut draws = Draws::new(&call.words, &mut self.bounds);
+        if let Ask::Open(shape) = call.ask {
+            let opened = open(shape, self.mistake, call.memory, &mut draws);
+            let outcome = match &opened {
+                Ok(_) => Outcome::taking(draws.taken()),
+                Err(number) => Outcome::refused(*number),
+            };
+            // A refused open leaves the store closed.
+            self.state = opened.ok();
+            return outcome;
+        }
+        let answer = match &mut self.state {
+            Some(state) if call.memory >= state.shape.needed() => state.call(call, &mut draws),
+            _ => Err(2),
+        };
+        answer.unwrap_or_else(Outcome::refused)
+    }
+
+    /// Whether this call may draw; if not, it has only one way to go on.
+    pub fn may_draw(&self, call: &Call) -> bool {
+        match (&call.ask, &self.state) {
+            (Ask::Open(_), _) => true,
+            (Ask::Request { .. }, Some(_)) => true,
+            (Ask::Turn, Some(state)) => state.step() == Some(Step::FirstWrite),
+            _ => false,
+        }
+    }
+}
+
+fn open(shape: Shape, mistake: Mistake, memory: usize, draws: &mut Draws) -> Result<State, u8> {
+    ask(shape.in_bounds(), 1)?;
+    ask(memory >= shape.needed(), 2)?;
+    ask(draws.left() >= shape.blocks, 3)?;
+    let partition = (0..shape.blocks)
+        .map(|_| draws.below(shape.partitions))
+        .collect();
+    Ok(State::fresh(shape, mistake, partition))
+}
+
+impl State {
+    fn call(&mut self, call: &Call, draws: &mut Draws) -> Result<Outcome, u8> {
+        let mut outcome = Outcome::default();
+        match &call.ask {
+            Ask::Open(_) => return Err(2),
+            Ask::Request {
+                kind,
+                block,
+                contents,
+            } => self.ask_for(*kind, *block, contents, draws)?,
+            Ask::Turn => (outcome.command, outcome.bytes) = self.turn(call.buffer, draws)?,
+            Ask::Completion { command, bytes } => self.complete(*command, bytes)?,
+            Ask::Collect => outcome.bytes = self.collect(call.buffer)?,
+        }
+        outcome.taken = draws.taken();
+        if self.mistake == Mistake::WordsInvented && matches!(call.ask, Ask::Request { .. }) {
+            outcome.taken = 3;
+        }
+        Ok(outcome)
+    }
+
+    fn ask_for(
+        &mut self,
+        kind: usize,
+        block: usize,
+        contents: &[u8],
+        draws: &mut Draws,
+    ) -> Result<(), u8> {
+        ask(kind == READ || kind == WRITE, 2)?;
+        ask(self.request.is_none(), 4)?;
+        ask(block < self.shape.blocks, 5)?;
+        let length = if kind == WRITE { self.shape.bytes } else { 0 };
+        ask(contents.len() == length, 6)?;
+        ask(self.queue.len() <= 62, 7)?;
+        let moves = self.is_waiting(block) && self.mistake != Mistake::EightForWaiting;
+        ask(self.waiting() < self.shape.places || moves, 8)?;
+        ask(draws.left() >= 2, 3)?;
+        self.request = Some(Request {
+            kind,
+            block,
+            contents: contents.to_vec(),
+            next: draws.below(self.shape.partitions),
+            evict: self.draw_eviction(draws),
+            level: 0,
+        });
+        Ok(())
+    }
+
+    fn draw_eviction(&self, draws: &mut Draws) -> usize {
+        let all = 0..self.shape.partitions;
+        if self.mistake == Mistake::EvictionAmongWaiting {
+            let waits = |q: &usize| {
+                (0..self.shape.blocks).any(|b| self.is_waiting(b) && self.partition[b] == *q)
+            };
+            let some: Vec<usize> = all.filter(waits).collect();
+            if !some.is_empty() {
+                return some[draws.below(some.len())];
+            }
+        }
+        draws.below(self.shape.partitions)
+    }
+
+    fn complete(&mut self, command: Command, bytes: &[u8]) -> Result<(), u8> {
+        ask(command.kind == READ || command.kind == WRITE, 2)?;
+        let found = self.outstanding.iter().position(|c| *c == command);
+        let index = found.ok_or(11)?;
+        let reads = command.kind == READ;
+        let length = if reads { self.shape.bytes } else { 0 };
+        ask(bytes.len() == length, 12)?;
+        self.outstanding.remove(index);
+        let q = command.partition;
+        let level = &self.levels[q][command.level];
+        if reads {
+            if let Some(block) = level.block_at[command.slot] {
+                self.contents[block] = bytes.to_vec();
+            }
+        } else if self.writing == Some(level.slots()) && !self.busy(q) {
+            self.end_job();
+        }
+        Ok(())
+    }
+
+    /// The contents before the request.
+    fn collect(&mut self, buffer: usize) -> Result<Vec<u8>, u8> {
+        let request = self.request.as_ref().ok_or(13)?;
+        ask(self.finished(request), 14)?;
+        ask(buffer == self.shape.bytes, 15)?;
+        let request = self.request.take().ok_or(13)?;
+        let before = self.contents[request.block].clone();
+        if request.kind == WRITE {
+            self.contents[request.block] = request.contents.clone();
+        }
+        let after = self.contents[request.block].clone();
+        self.enter_cache(&request);
+        Ok(match self.mistake {
+            Mistake::ZerosForever => vec![0; self.shape.bytes],
+            Mistake::NewContentsHandedOut => after,
+            _ => before,
+        })
+    }
+
+    /// Moves the block to the young end of the cache under its next partition
+    /// and queues the two jobs.
+    fn enter_cache(&mut self, request: &Request) {
+        let p = self.partition[request.block];
+        if let Place::Stored { level, item } = self.place[request.block]
+            && self.mistake != Mistake::SlotKept
+        {
+            let level = &mut self.levels[p][level];
+            level.block_at[level.slot_of[item]] = None;
+        }
+        self.place[request.block] = Place::Waiting(self.age);
+        self.age += 1;
+        if self.mistake != Mistake::KeepsPartition {
+            self.partition[request.block] = request.next;
+        }
+        self.queue.extend(match self.mistake {
+            Mistake::QueueOtherOrder => [request.evict, p],
+            _ => [p, request.evict],
+        });
+    }
+}

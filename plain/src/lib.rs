@@ -1,0 +1,16 @@
+//! A plain implementation of document 01's block store. It is written from that
+//! document alone and made to be read, so that other implementations and
+//! definitions can be compared with it.
+
+pub mod antt;
+pub mod array;
+pub mod calls;
+pub mod host;
+pub mod lists;
+
+pub mod mistakes;
+pub mod rng;
+pub mod script;
+pub mod shape;
+pub mod state;
+pub mod turn;

@@ -1,0 +1,69 @@
+//! Wrong rules that can be switched on in the model. A test that compares
+//! outcomes or transcripts has to tell each of them from the right rules.
+
+#[derive(Clone, Copy, Debug, PartialEq, Eq)]
+pub enum Mistake {
+    /// The right rules.
+    None,
+    /// A dummy read takes the lowest unread dummy slot, not the lowest item.
+    LowestDummySlot,
+    /// A request for a block that waits in the cache sends no reads.
+    WaitingSendsNothing,
+    /// A request is finished once its block's own slot has been read, though
+    /// other reads are unsent or outstanding.
+    FinishedEarly,
+    /// The eviction partition is drawn among those with a block waiting.
+    EvictionAmongWaiting,
+    /// A level keeps the order of its first rebuild; later ones take their
+    /// words and ignore them.
+    OrderDrawnOnce,
+    /// As OrderDrawnOnce, but later rebuilds take no words.
+    OrderNotTaken,
+    /// The eviction partition's job is queued before p's.
+    QueueOtherOrder,
+    /// A full cache refuses a waiting block, too.
+    EightForWaiting,
+    /// A full counter goes on to 2^L, which wraps to 0.
+    FullCounterGrows,
+    /// A request reports three words taken.
+    WordsInvented,
+    /// The source slots of a rebuild keep naming their blocks.
+    SourcesKept,
+    /// The room test of a partition counts the blocks of source levels only.
+    OnlySourcesCounted,
+    /// The slot that a collected block leaves keeps naming it.
+    SlotKept,
+    /// A collected block keeps its partition.
+    KeepsPartition,
+    /// An order draws j below i (at least 1), so no item stays in place.
+    DrawBelowI,
+    /// Collect hands out the contents after a write.
+    NewContentsHandedOut,
+    /// Collect hands out zeros.
+    ZerosForever,
+    /// A full partition takes a waiting block nevertheless.
+    FullPartitionTakesBlock,
+}
+
+impl Mistake {
+    pub const ALL: [Mistake; 18] = [
+        Mistake::LowestDummySlot,
+        Mistake::WaitingSendsNothing,
+        Mistake::FinishedEarly,
+        Mistake::EvictionAmongWaiting,
+        Mistake::OrderDrawnOnce,
+        Mistake::OrderNotTaken,
+        Mistake::QueueOtherOrder,
+        Mistake::EightForWaiting,
+        Mistake::FullCounterGrows,
+        Mistake::WordsInvented,
+        Mistake::SourcesKept,
+        Mistake::OnlySourcesCounted,
+        Mistake::SlotKept,
+        Mistake::KeepsPartition,
+        Mistake::DrawBelowI,
+        Mistake::NewContentsHandedOut,
+        Mistake::ZerosForever,
+        Mistake::FullPartitionTakesBlock,
+    ];
+}

@@ -1,0 +1,240 @@
+//! The client's state: position map, eviction cache, partitions with their
+//! levels, the queue of rebuild jobs and the request in hand.
+
+use crate::mistakes::Mistake;
+use crate::shape::Shape;
+use std::collections::VecDeque;
+
+pub const READ: usize = 1;
+pub const WRITE: usize = 2;
+
+/// What a turn sends and a completion names. The default is the command of
+/// zeros that a refusal reports.
+#[derive(Clone, Copy, Debug, Default, PartialEq, Eq, Hash, PartialOrd, Ord)]
+pub struct Command {
+    pub kind: usize,
+    pub partition: usize,
+    pub level: usize,
+    pub slot: usize,
+}
+
+#[derive(Clone, Copy, Debug, PartialEq, Eq)]
+pub enum Place {
+    Nowhere,
+    /// In the eviction cache; a lower age number has waited longer.
+    Waiting(u64),
+    /// An item of a level of the block's partition.
+    Stored {
+        level: usize,
+        item: usize,
+    },
+}
+
+#[derive(Clone, Debug)]
+pub struct Level {
+    /// The order: the slot of each item.
+    pub slot_of: Vec<usize>,
+    /// The slot-to-block index; a slot without a block is a dummy's.
+    pub block_at: Vec<Option<usize>>,
+    /// Which slots have been read since the level was written. A slot counts
+    /// as read once its read is sent.
+    pub read: Vec<bool>,
+    /// Whether an order was ever drawn; only two mistakes look at this.
+    pub drawn: bool,
+}
+
+impl Level {
+    fn empty(level: usize) -> Level {
+        let slots = 2 << level;
+        Level {
+            slot_of: (0..slots).collect(),
+            block_at: vec![None; slots],
+            read: vec![false; slots],
+            drawn: false,
+        }
+    }
+
+    pub fn slots(&self) -> usize {
+        self.slot_of.len()
+    }
+
+    /// The slot of the lowest-numbered unread dummy item. A slot whose block
+    /// was collected has been read, so it is never taken for a dummy.
+    pub fn dummy(&self, mistake: Mistake) -> Option<usize> {
+        let free = |slot: &usize| !self.read[*slot] && self.block_at[*slot].is_none();
+        if mistake == Mistake::LowestDummySlot {
+            return (0..self.slots()).find(free);
+        }
+        self.slot_of.iter().copied().find(free)
+    }
+}
+
+#[derive(Clone, Debug)]
+pub struct Request {
+    pub kind: usize,
+    pub block: usize,
+    pub contents: Vec<u8>,
+    /// The block's next partition.
+    pub next: usize,
+    /// The eviction partition.
+    pub evict: usize,
+    /// Levels below this one need no further read.
+    pub level: usize,
+}
+
+#[derive(Clone, Debug)]
+pub struct State {
+    pub shape: Shape,
+    pub mistake: Mistake,
+    /// The position map: each block's partition and its place there.
+    pub partition: Vec<usize>,
+    pub place: Vec<Place>,
+    /// The bytes of blocks that wait or have been gathered.
+    pub contents: Vec<Vec<u8>>,
+    pub counter: Vec<usize>,
+    /// By partition, then by level.
+    pub levels: Vec<Vec<Level>>,
+    pub queue: VecDeque<usize>,
+    pub request: Option<Request>,
+    /// The next slot the front job writes, once it has drawn its order.
+    pub writing: Option<usize>,
+    pub outstanding: Vec<Command>,
+    /// The age number of the next block that enters the cache.
+    pub age: u64,
+}
+
+/// What the next turn does.
+#[derive(Clone, Copy, Debug, PartialEq, Eq)]
+pub enum Step {
+    /// The request's read in this level.
+    RequestRead(usize),
+    /// The front job's read of a level's slot.
+    JobRead(usize, usize),
+    /// The front job chooses a block, draws an order and writes slot 0.
+    FirstWrite,
+    /// The front job's write of this slot.
+    Write(usize),
+}
+
+impl State {
+    pub fn fresh(shape: Shape, mistake: Mistake, partition: Vec<usize>) -> State {
+        State {
+            shape,
+            mistake,
+            partition,
+            place: vec![Place::Nowhere; shape.blocks],
+            contents: vec![vec![0; shape.bytes]; shape.blocks],
+            counter: vec![0; shape.partitions],
+            levels: vec![(0..shape.levels).map(Level::empty).collect(); shape.partitions],
+            queue: VecDeque::new(),
+            request: None,
+            writing: None,
+            outstanding: Vec::new(),
+            age: 0,
+        }
+    }
+
+    pub fn filled(&self, partition: usize, level: usize) -> bool {
+        self.counter[partition] >> level & 1 == 1
+    }
+
+    /// The level a rebuild writes: the lowest empty one, or the last one.
+    pub fn target(&self, partition: usize) -> usize {
+        let empty = (!self.counter[partition]).trailing_zeros() as usize;
+        empty.min(self.shape.levels - 1)
+    }
+
+    /// How many levels, from 0 on, a rebuild reads: the trailing ones of the
+    /// counter. These include the target only if all levels are filled.
+    pub fn sources(&self, partition: usize) -> usize {
+        (!self.counter[partition]).trailing_zeros() as usize
+    }
+
+    pub fn is_waiting(&self, block: usize) -> bool {
+        matches!(self.place[block], Place::Waiting(_))
+    }
+
+    pub fn waiting(&self) -> usize {
+        (0..self.shape.blocks)
+            .filter(|b| self.is_waiting(*b))
+            .count()
+    }
+
+    pub fn busy(&self, partition: usize) -> bool {
+        self.outstanding.iter().any(|c| c.partition == partition)
+    }
+
+    /// The level of the request's next read. A held request has none.
+    pub fn request_read(&self) -> Option<usize> {
+        let request = self.request.as_ref()?;
+        let p = self.partition[request.block];
+        let skips = self.mistake == Mistake::WaitingSendsNothing && self.is_waiting(request.block);
+        if self.queue.contains(&p) || skips {
+            return None;
+        }
+        (request.level..self.shape.levels).find(|level| self.filled(p, *level))
+    }
+
+    /// Not held, and all reads sent and completed. While the request isn't
+    /// held no job touches p, so what is outstanding there is the request's.
+    pub fn finished(&self, request: &Request) -> bool {
+        let p = self.partition[request.block];
+        if self.queue.contains(&p) {
+            return false;
+        }
+        if self.mistake == Mistake::FinishedEarly
+            && let Place::Stored { level, item } = self.place[request.block]
+        {
+            let slot = self.levels[p][level].slot_of[item];
+            let own = |c: &Command| (c.partition, c.level, c.slot) == (p, level, slot);
+            return request.level > level && !self.outstanding.iter().any(own);
+        }
+        self.request_read().is_none() && !self.busy(p)
+    }
+
+    /// The command the next turn sends, if there is one to send.
+    pub fn step(&self) -> Option<Step> {
+        if let Some(level) = self.request_read() {
+            return Some(Step::RequestRead(level));
+        }
+        let q = *self.queue.front()?;
+        if let Some(slot) = self.writing {
+            let slots = self.levels[q][self.target(q)].slots();
+            return (slot < slots).then_some(Step::Write(slot));
+        }
+        for level in 0..self.sources(q) {
+            if let Some(slot) = self.levels[q][level].read.iter().position(|read| !read) {
+                return Some(Step::JobRead(level, slot));
+            }
+        }
+        (!self.busy(q)).then_some(Step::FirstWrite)
+    }
+
+    /// The blocks a partition's levels name, below a level.
+    pub fn stored(&self, partition: usize, below: usize) -> impl Iterator<Item = usize> {
+        let levels = &self.levels[partition][..below];
+        levels
+            .iter()
+            .flat_map(|l| l.block_at.iter().flatten().copied())
+    }
+
+    /// The waiting block the front job takes: the one that has waited longest
+    /// for q, if q has room.
+    pub fn chosen(&self, q: usize) -> Option<usize> {
+        let counted = match self.mistake {
+            Mistake::OnlySourcesCounted => self.sources(q),
+            _ => self.shape.levels,
+        };
+        let room = self.stored(q, counted).count() < self.shape.capacity();
+        if !room && self.mistake != Mistake::FullPartitionTakesBlock {
+            return None;
+        }
+        (0..self.shape.blocks)
+            .filter_map(|b| match self.place[b] {
+                Place::Waiting(age) if self.partition[b] == q => Some((age, b)),
+                _ => None,
+            })
+            .min()
+            .map(|(_, b)| b)
+    }
+}

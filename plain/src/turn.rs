@@ -1,0 +1,143 @@
+//! The turn: a request's reads, and the reads, the order and the writes of a
+//! rebuild.
+
+use crate::calls::{Draws, ask};
+use crate::mistakes::Mistake;
+use crate::state::{Command, Place, READ, State, Step, WRITE};
+
+/// An order of n slots: the slot of each item.
+pub fn order(n: usize, mistake: Mistake, draws: &mut Draws) -> Vec<usize> {
+    let mut slot_of: Vec<usize> = (0..n).collect();
+    for i in (1..n).rev() {
+        let below = match mistake {
+            Mistake::DrawBelowI => i,
+            _ => i + 1,
+        };
+        let j = draws.below(below);
+        slot_of.swap(i, j);
+    }
+    slot_of
+}
+
+impl State {
+    /// The command sent, and the bytes of a write.
+    pub fn turn(&mut self, buffer: usize, draws: &mut Draws) -> Result<(Command, Vec<u8>), u8> {
+        ask(self.outstanding.len() < self.shape.window, 9)?;
+        let step = self.step().ok_or(10)?;
+        let writes = matches!(step, Step::FirstWrite | Step::Write(_));
+        ask(!writes || buffer == self.shape.bytes, 15)?;
+        match step {
+            Step::RequestRead(level) => self.send_request_read(level),
+            Step::JobRead(level, slot) => Ok(self.send_read(self.queue[0], level, slot)),
+            Step::FirstWrite => {
+                self.rebuild(draws)?;
+                Ok(self.send_write(0))
+            }
+            Step::Write(slot) => Ok(self.send_write(slot)),
+        }
+    }
+
+    fn send_request_read(&mut self, level: usize) -> Result<(Command, Vec<u8>), u8> {
+        let request = self.request.as_mut().ok_or(2)?;
+        let p = self.partition[request.block];
+        let table = &self.levels[p][level];
+        let slot = match self.place[request.block] {
+            Place::Stored { level: own, item } if own == level => table.slot_of[item],
+            _ => table.dummy(self.mistake).ok_or(2)?,
+        };
+        request.level = level + 1;
+        Ok(self.send_read(p, level, slot))
+    }
+
+    fn send_read(&mut self, partition: usize, level: usize, slot: usize) -> (Command, Vec<u8>) {
+        self.levels[partition][level].read[slot] = true;
+        let command = Command {
+            kind: READ,
+            partition,
+            level,
+            slot,
+        };
+        self.outstanding.push(command);
+        (command, Vec::new())
+    }
+
+    fn send_write(&mut self, slot: usize) -> (Command, Vec<u8>) {
+        let partition = self.queue[0];
+        let level = self.target(partition);
+        let bytes = match self.levels[partition][level].block_at[slot] {
+            Some(block) => self.contents[block].clone(),
+            None => vec![0; self.shape.bytes],
+        };
+        let command = Command {
+            kind: WRITE,
+            partition,
+            level,
+            slot,
+        };
+        self.writing = Some(slot + 1);
+        self.outstanding.push(command);
+        (command, bytes)
+    }
+
+    /// Gathers the source levels' blocks and the chosen waiting block, draws
+    /// the target's order and gives the blocks their new place.
+    fn rebuild(&mut self, draws: &mut Draws) -> Result<(), u8> {
+        let q = self.queue[0];
+        let (target, sources) = (self.target(q), self.sources(q));
+        let old = &self.levels[q][target];
+        let words = match self.mistake {
+            Mistake::OrderNotTaken if old.drawn => 0,
+            _ => old.slots() - 1,
+        };
+        ask(draws.left() >= words, 3)?;
+        let mut gathered: Vec<usize> = self.stored(q, sources).chain(self.chosen(q)).collect();
+        gathered.sort();
+        gathered.dedup();
+        ask(gathered.len() <= 1 << target, 2)?;
+        let slot_of = self.new_order(q, target, draws);
+        if self.mistake != Mistake::SourcesKept {
+            for level in &mut self.levels[q][..sources] {
+                level.block_at.fill(None);
+            }
+        }
+        let level = &mut self.levels[q][target];
+        level.drawn = true;
+        level.read.fill(false);
+        level.block_at.fill(None);
+        for (item, block) in gathered.into_iter().enumerate() {
+            level.block_at[slot_of[item]] = Some(block);
+            self.place[block] = Place::Stored {
+                level: target,
+                item,
+            };
+        }
+        level.slot_of = slot_of;
+        Ok(())
+    }
+
+    fn new_order(&self, q: usize, target: usize, draws: &mut Draws) -> Vec<usize> {
+        let old = &self.levels[q][target];
+        match self.mistake {
+            Mistake::OrderNotTaken if old.drawn => old.slot_of.clone(),
+            Mistake::OrderDrawnOnce if old.drawn => {
+                order(old.slots(), self.mistake, draws);
+                old.slot_of.clone()
+            }
+            _ => order(old.slots(), self.mistake, draws),
+        }
+    }
+
+    /// The front job's last write has completed.
+    pub fn end_job(&mut self) {
+        let Some(q) = self.queue.pop_front() else {
+            return;
+        };
+        self.writing = None;
+        let full = (1 << self.shape.levels) - 1;
+        self.counter[q] = match self.counter[q] {
+            c if c < full => c + 1,
+            _ if self.mistake == Mistake::FullCounterGrows => 0,
+            _ => self.shape.capacity(),
+        };
+    }
+}
