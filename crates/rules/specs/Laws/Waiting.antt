@@ -7,13 +7,13 @@ use Prim.Native.Nat.{ℕ, suc, _≤_, _<_}
 use native.Mathlib.Omega.{arith}
 use lib.ListN.{length}
 use lib.Dec.{eqb, ltb}
-use borrow.Author.Tests.{eqb-true, eq-eqb, le-leb, ltb-true, lt-ltb}
+use borrow.Author.Tests.{eqb-true, eqb-false, eq-eqb, ne-eqb, le-leb, ltb-true, lt-ltb}
 use Rattle.lists.specs.Search.{keep, any, member, keep-yes, keep-no}
 use Rattle.rules.specs.Request
 use Rattle.rules.specs.Rebuild
 use Rattle.rules.specs.State.{Request}
 use Rattle.rules.specs.Ranges.{cacheFits, others}
-use Rattle.lists.specs.Tests.{and-true}
+use Rattle.lists.specs.Tests.{and-true, or-left, or-right}
 use Rattle.lists.specs.Lengths.{without-length, keep-le, keep-without-le}
 
 -- The blocks that wait fit a cache of e places, with the request's own
@@ -64,3 +64,20 @@ unfolding Rebuild.leave others
 leave-waits e xs none r h = h
 leave-waits e xs (some b) none h = omega (arith, without-length (eqb b) xs)
 leave-waits e xs (some b) (some r) h = omega (arith, without-length (eqb b) xs, keep-without-le (eqb b) (λ a. not (eqb a (r .block))) xs)
+
+-- where b does not wait, the others are all
+others-none : (b : ℕ) (xs : List ℕ) → member b xs ≡ false → length (others xs b) ≡ length xs
+unfolding member any others
+others-none b [] h = unfold keep in refl
+others-none b (x ∷ xs) h = go (eqb b x) refl h (others-none b xs)
+  where
+    go : (t : Bool) → eqb b x ≡ t → (t || member b xs) ≡ false → (member b xs ≡ false → length (others xs b) ≡ length xs) → length (others (x ∷ xs) b) ≡ suc (length xs)
+    go true e m ih = absurd (true≢false m)
+    go false e m ih = rw (keep-yes (λ a. not (eqb a b)) x xs (ap not (ne-eqb x b (λ w. eqb-false b x e (sym w))))) (ap suc (ih m))
+
+pub room-others : (e b : ℕ) (xs : List ℕ) → length (others xs b) < e → (ltb (length xs) e || member b xs) ≡ true
+room-others e b xs h = go (member b xs) refl
+  where
+    go : (t : Bool) → member b xs ≡ t → (ltb (length xs) e || t) ≡ true
+    go true m = or-right (ltb (length xs) e) true refl
+    go false m = or-left (ltb (length xs) e) false (lt-ltb (length xs) e (omega (arith, others-none b xs m)))

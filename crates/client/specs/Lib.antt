@@ -1,0 +1,5 @@
+pub mod View
+pub mod Rows
+pub mod Changes
+pub mod Ready
+pub mod Moves

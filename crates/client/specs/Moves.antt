@@ -1,0 +1,48 @@
+-- A client with one number changed; and what it means that a function moves client and memory to another state.
+use mathlib.Core.Path.{_≡_, refl, ap, sym, _∙_}
+use mathlib.Core.List.{List}
+use Prim.Native.Nat.{ℕ}
+use lib.ListN.{length, drop}
+use Rattle.rules.specs.State.{State}
+use Rattle.rules.specs.Memory.{needed}
+use Rattle.memory.specs.Tables.{Tables, tablesOf}
+use Rattle.memory.specs.Fits.{shapeOf, Fits}
+use Rattle.client.specs.declared.Client.{Client}
+use Rattle.client.specs.declared.Request.{Request}
+use Rattle.client.specs.View.{view, stateOf}
+
+abbrev pub withRequest : Request → Client → Client
+withRequest x c = record { shape = c .shape; request = x; jobs = c .jobs; cursor = c .cursor; sent = c .sent; waiting = c .waiting; out = c .out }
+
+abbrev pub withJobs : ℕ → Client → Client
+withJobs x c = record { shape = c .shape; request = c .request; jobs = x; cursor = c .cursor; sent = c .sent; waiting = c .waiting; out = c .out }
+
+abbrev pub withCursor : ℕ → Client → Client
+withCursor x c = record { shape = c .shape; request = c .request; jobs = c .jobs; cursor = x; sent = c .sent; waiting = c .waiting; out = c .out }
+
+abbrev pub withSent : ℕ → Client → Client
+withSent x c = record { shape = c .shape; request = c .request; jobs = c .jobs; cursor = c .cursor; sent = x; waiting = c .waiting; out = c .out }
+
+abbrev pub withWaiting : ℕ → Client → Client
+withWaiting x c = record { shape = c .shape; request = c .request; jobs = c .jobs; cursor = c .cursor; sent = c .sent; waiting = x; out = c .out }
+
+abbrev pub withOut : ℕ → Client → Client
+withOut x c = record { shape = c .shape; request = c .request; jobs = c .jobs; cursor = c .cursor; sent = c .sent; waiting = c .waiting; out = x }
+
+-- the memory m is long enough for the client's shape, whose numbers are within bounds
+abbrev pub Room : Client → List ℕ → Type 0
+Room c m = Fits (shapeOf (c .shape)) (length m)
+
+-- Client and memory stand for the state s, and what is past the memory that the shape needs is as it was in m₀
+pub record Stands (c : Client) (m₀ m : List ℕ) (s : State) : Type 0 where
+  pub state : stateOf c m ≡ s
+  pub tail : drop (needed (shapeOf (c .shape))) m ≡ drop (needed (shapeOf (c .shape))) m₀
+
+-- from the tables
+pub stands : (c : Client) (m₀ m : List ℕ) (t : Tables) (s : State) → tablesOf (shapeOf (c .shape)) m ≡ t → t .tail ≡ drop (needed (shapeOf (c .shape))) m₀ → view c t ≡ s → Stands c m₀ m s
+unfolding stateOf tablesOf
+stands c m₀ m t s e l v = record { state = ap (view c) e ∙ v; tail = ap (λ (x : Tables). x .tail) e ∙ l }
+
+-- one move after the other
+pub then : (c c′ : Client) (m₀ m m′ : List ℕ) (s s′ : State) → c′ .shape ≡ c .shape → Stands c m₀ m s → Stands c′ m m′ s′ → Stands c′ m₀ m′ s′
+then c c′ m₀ m m′ s s′ e a b = record { state = b .state; tail = b .tail ∙ rw e (a .tail) }

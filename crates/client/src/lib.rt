@@ -1,0 +1,74 @@
+// The client's state: small numbers by value, beside the tables in the lent memory.
+use memory::Shape;
+ghost use mathlib.Core.Path.{_≡_};
+ghost use Rattle.client.specs.Moves.{withRequest, withJobs, withCursor, withSent, withWaiting, withOut};
+
+// A request in hand, of kind 1 read or 2 write; or none, of kind 0. The contents of a write are block N of the memory.
+pub struct Request {
+    pub kind: usize,
+    pub block: usize,
+    pub next: usize,
+    pub evict: usize,
+    pub level: usize,
+}
+
+// How many jobs are queued, blocks wait and commands are outstanding; how far the front job is.
+pub struct Client {
+    pub shape: Shape,
+    pub request: Request,
+    pub jobs: usize,
+    pub cursor: usize,
+    pub sent: usize,
+    pub waiting: usize,
+    pub out: usize,
+}
+
+// What a search finds: a place, or nothing.
+pub enum Found {
+    At(usize),
+    Nothing,
+}
+
+impl Client {
+    pub fn with_jobs(mut self, n: usize) -> Self
+        ensures { λ r. ⌜ r ≡ withJobs n self ⌝ }
+    {
+        self.jobs = n;
+        self
+    }
+
+    pub fn with_cursor(mut self, n: usize) -> Self
+        ensures { λ r. ⌜ r ≡ withCursor n self ⌝ }
+    {
+        self.cursor = n;
+        self
+    }
+
+    pub fn with_sent(mut self, n: usize) -> Self
+        ensures { λ r. ⌜ r ≡ withSent n self ⌝ }
+    {
+        self.sent = n;
+        self
+    }
+
+    pub fn with_waiting(mut self, n: usize) -> Self
+        ensures { λ r. ⌜ r ≡ withWaiting n self ⌝ }
+    {
+        self.waiting = n;
+        self
+    }
+
+    pub fn with_out(mut self, n: usize) -> Self
+        ensures { λ r. ⌜ r ≡ withOut n self ⌝ }
+    {
+        self.out = n;
+        self
+    }
+
+    pub fn with_request(mut self, x: Request) -> Self
+        ensures { λ r. ⌜ r ≡ withRequest x self ⌝ }
+    {
+        self.request = x;
+        self
+    }
+}

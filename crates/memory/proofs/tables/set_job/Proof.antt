@@ -1,0 +1,21 @@
+use native.Mathlib.Nat.{zero-add}
+use native.Mathlib.Omega.{arith}
+use Rattle.memory.specs.Tables.{set-queue}
+use Rattle.memory.specs.Fits.{shapeOf}
+use Rattle.rules.specs.Memory.{needed}
+use Rattle.memory.proofs.tables.set_job.Statement.{statement}
+use Rattle.memory.proofs.tables.set_job.Tie as tie
+use Rattle.memory.proofs.set_word.Reads as set-word-reads
+
+set-word-requires : tie.Need-set-word-requires
+set-word-requires c κs = omega arith
+
+same-length : tie.Need-same-length
+same-length c = omega arith
+
+returns : tie.Need-returns
+unfolding needed
+returns c = let a = c .before .before .before .before .before in rw (c .before .before .set-word .ensures) (rw (zero-add (a .args .i)) at (set-queue (shapeOf (a .args .h)) (a .args .m .now) (a .pre .0 .long) (a .args .i) (a .args .v) (a .pre .2) (a .pre .1)))
+
+pub set-job-spec : {M : Type 1} → statement M
+set-job-spec = tie.close (tie.spec set-word-requires same-length returns)

@@ -1,0 +1,50 @@
+use native.Mathlib.Omega.{arith}
+use Rattle.memory.specs.Tables.{set-mark}
+use Rattle.memory.specs.Fits.{shapeOf}
+use Rattle.rules.specs.Memory.{needed}
+use Rattle.memory.proofs.tables.set_mark.Statement.{statement}
+use Rattle.memory.proofs.tables.set_mark.Tie as tie
+use Rattle.memory.proofs.set_word.Reads as set-word-reads
+use Rattle.memory.proofs.tables.cells.Reads as cells-reads
+
+cells-requires : tie.Need-cells-requires
+cells-requires c κs = omega arith
+
+mul-set-word : tie.Need-mul-set-word
+mul-set-word c = omega arith
+
+add-set-word : tie.Need-add-set-word
+add-set-word c = omega arith
+
+mul-set-word-2 : tie.Need-mul-set-word-2
+mul-set-word-2 c = omega arith
+
+add-set-word-2 : tie.Need-add-set-word-2
+add-set-word-2 c = omega arith
+
+add-set-word-3 : tie.Need-add-set-word-3
+add-set-word-3 c = omega arith
+
+set-word-requires : tie.Need-set-word-requires
+set-word-requires c κs = omega arith
+
+same-length : tie.Need-same-length
+same-length c = omega arith
+
+returns : tie.Need-returns
+unfolding needed
+returns c = let a = c .before .before .before .before .before .before .before in rw (c .before .before .set-word .ensures, c .before .before .before .before .before .cells .ensures) (set-mark (shapeOf (a .args .h)) (a .args .m .now) (a .pre .0 .long) (a .args .c) (a .args .v) (a .pre .2) (a .pre .1))
+
+pub set-mark-spec : {M : Type 1} → statement M
+set-mark-spec =
+    tie.close
+    (tie.spec
+    cells-requires
+    mul-set-word
+    add-set-word
+    mul-set-word-2
+    add-set-word-2
+    add-set-word-3
+    set-word-requires
+    same-length
+    returns)
