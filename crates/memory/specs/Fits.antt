@@ -37,7 +37,7 @@ pub record Fits (h : Shape) (len : ℕ) : Type 0 where
   pub contents : (h .N + 1) * h .B ≤ 2097664
   pub long : 384 + 6 * h .N + 6 * (h .P * slots (h .L)) + (h .N + 1) * h .B ≤ len
 
-parts-le : (p : ℕ) → member p (1 ∷ 2 ∷ 4 ∷ 8 ∷ 16 ∷ 32 ∷ 64 ∷ []) ≡ true → (1 ≤ p) × (p ≤ 64)
+pub parts-le : (p : ℕ) → member p (1 ∷ 2 ∷ 4 ∷ 8 ∷ 16 ∷ 32 ∷ 64 ∷ []) ≡ true → (1 ≤ p) × (p ≤ 64)
 unfolding member any
 parts-le p e = go p e
   where
