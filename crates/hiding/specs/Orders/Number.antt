@@ -7,27 +7,28 @@ use Prim.Native.Nat.{ℕ, suc}
 use lib.ListN.{length, replicate, length-replicate}
 use lib.Dec.{eqb, leb, ltb, leb·zero, leb·suc-zero, leb·suc-suc}
 use borrow.Author.Tests.{leb-true, ltb-true, lt-ltb}
+use Rattle.lists.specs.Members.{mem-member}
 use Rattle.lists.specs.Tests.{if_then_else_, between, and-l, and-r, every-yes}
 use Rattle.lists.specs.Search.{isNone, any, orElse, member}
 use Rattle.lists.specs.Distinct.{Mem}
-use Rattle.rules.specs.Blocks
-use Rattle.rules.specs.Rebuild
-use Rattle.rules.specs.Levels
-use Rattle.rules.specs.Shape.{Shape, within}
-use Rattle.rules.specs.State.{State, Request, nowhere, read}
-use Rattle.rules.specs.Ranges.{isKind, bytesOf, inRange}
-use Rattle.rules.specs.Draws.{Drawn, draw, draws, drawnFirst}
-use Rattle.rules.specs.Laws.Range.{range-facts}
-use Rattle.rules.specs.Turn
-use Rattle.rules.specs.Turn.{Step, idle, noDummy, readForRequest, readForJob, rebuild, writeNext, firstRead, readStep, requestStep, jobStep, decide, command, stepBounds}
 use Rattle.rules.specs.Request.{held, levelsLeft, slotIn, dummy}
 use Rattle.rules.specs.Questions.{possible, inHand, sends, bounds, ready, questions, firstNo, number}
-use Rattle.rules.specs.Collect.{finished}
 use Rattle.rules.specs.Memory.{needed}
-use Rattle.hiding.specs.Public.{Later, asks, turns, completes, collects, ask, formed, seeRequest, seeLater, publicRequest, blank, hide, requestStepP, rawP, fit, isNil, decideP, boundsP, questionsP, numberP}
-use Rattle.hiding.specs.Real.{Reachable, numberR}
-use Rattle.hiding.specs.Marks.{mem-member}
-use Rattle.hiding.specs.Steps.{OpenStep, decide-open}
+use Rattle.rules.specs.Levels
+use Rattle.rules.specs.Shape.{Shape, within}
+use Rattle.rules.specs.Draws.{Drawn, draw, draws, drawnFirst}
+use Rattle.rules.specs.Collect.{finished}
+use Rattle.rules.specs.State.{State, Request, nowhere, read}
+use Rattle.rules.specs.Turn
+use Rattle.rules.specs.Turn.{Step, idle, noDummy, readForRequest, readForJob, rebuild, writeNext, firstRead, readStep, requestStep, jobStep, decide, command, stepBounds}
+use Rattle.rules.specs.Blocks
+use Rattle.rules.specs.Ranges.{isKind, bytesOf, inRange}
+use Rattle.rules.specs.Rebuild
+use Rattle.rules.specs.Laws.Range.{range-facts}
+use Rattle.hiding.specs.Orders.Decides.{OpenStep, decide-open}
+use Rattle.hiding.specs.Machines.Rules.{numberR}
+use Rattle.hiding.specs.Machines.Public.{Later, later-request, later-turn, later-completion, later-collect, ask, formed, publicAsk, publicLater, publicRequest, blank, hide, requestStepP, plannedP, checked, isNil, decideP, boundsP, questionsP, numberP}
+use Rattle.hiding.specs.Machines.Needs.{Reachable}
 
 -- words are enough if there is one for each draw
 pub enough : (ms ws : List ℕ) → not (isNone (draws ms ws)) ≡ leb (length ms) (length ws)
@@ -46,13 +47,13 @@ enough-zeros ms w = enough ms (replicate w 0) ∙ simp length-replicate
 -- ---- the step
 
 -- a step without the slot of a request's read
-abbrev pub blind : Step → Step
-blind idle = idle
-blind noDummy = noDummy
-blind (readForRequest q ℓ x) = readForRequest q ℓ 0
-blind (readForJob q ℓ x) = readForJob q ℓ x
-blind (rebuild q t) = rebuild q t
-blind (writeNext q t x) = writeNext q t x
+abbrev pub slotless : Step → Step
+slotless idle = idle
+slotless noDummy = noDummy
+slotless (readForRequest q ℓ x) = readForRequest q ℓ 0
+slotless (readForJob q ℓ x) = readForJob q ℓ x
+slotless (rebuild q t) = rebuild q t
+slotless (writeNext q t x) = writeNext q t x
 
 jobStep-hide : (s : State) (qs : List ℕ) → jobStep (hide s) qs ≡ jobStep s qs
 unfolding jobStep Rebuild.unread Turn.rebuildStep Turn.writeStep Blocks.isUnread
@@ -60,14 +61,14 @@ jobStep-hide s [] = refl
 jobStep-hide s (q ∷ qs) = refl
 
 -- a job's step has no slot to lose
-job-blind : (s : State) (qs : List ℕ) → blind (jobStep s qs) ≡ jobStep s qs
+job-slotless : (s : State) (qs : List ℕ) → slotless (jobStep s qs) ≡ jobStep s qs
 unfolding jobStep Turn.gatherStep Turn.rebuildStep Turn.writeStep
-job-blind s [] = refl
-job-blind s (q ∷ qs) = go (eqb (s .sent) 0) (Rebuild.unread s q) (any (λ c. eqb (c .partition) q) (s .outstanding)) (ltb (s .sent) _)
+job-slotless s [] = refl
+job-slotless s (q ∷ qs) = go (eqb (s .sent) 0) (Rebuild.unread s q) (any (λ c. eqb (c .partition) q) (s .outstanding)) (ltb (s .sent) _)
   where
     go : (t : Bool) (o : Option (ℕ × ℕ)) (a b : Bool) →
         let x = if t then Turn.gatherStep q o (if a then idle else rebuild q (Levels.target (s .shape) (s .counter q))) else (if b then writeNext q (Levels.target (s .shape) (s .counter q)) (s .sent) else idle) in
-        blind x ≡ x
+        slotless x ≡ x
     go true none true b = refl
     go true none false b = refl
     go true (some p) a b = refl
@@ -89,57 +90,57 @@ finished-hide s r e = rw (held-hide s r e, left-hide s r e) (rw e)
 module _ (s : State) where
   -- the step of a state that lacks no dummy
   decide-some : (o : Option Request) → s .request ≡ o → possible s (Option·getD (requestStep s o) (jobStep s (s .queue))) ≡ true →
-      blind (Option·getD (requestStep s o) (jobStep s (s .queue))) ≡ Option·getD (requestStepP (hide s) (blank o)) (jobStep (hide s) (s .queue))
+      slotless (Option·getD (requestStep s o) (jobStep s (s .queue))) ≡ Option·getD (requestStepP (hide s) (blank o)) (jobStep (hide s) (s .queue))
   unfolding requestStep requestStepP firstRead readStep possible slotIn orElse
-  decide-some none e p = job-blind s (s .queue) ∙ sym (jobStep-hide s (s .queue))
+  decide-some none e p = job-slotless s (s .queue) ∙ sym (jobStep-hide s (s .queue))
   decide-some (some r) e p =
       rw (held-hide s r e, left-hide s r e) (go (held s r) (levelsLeft s r) p)
     where
       q : ℕ
       q = s .partition (r .block)
 
-      at-level : (ℓ : ℕ) (o : Option ℕ) → possible s (readStep q ℓ o) ≡ true → blind (readStep q ℓ o) ≡ readForRequest ((hide s) .partition 0) ℓ 0
+      at-level : (ℓ : ℕ) (o : Option ℕ) → possible s (readStep q ℓ o) ≡ true → slotless (readStep q ℓ o) ≡ readForRequest ((hide s) .partition 0) ℓ 0
       at-level ℓ none p = absurd (true≢false (sym p))
       at-level ℓ (some i) p = rw e
 
       go : (t : Bool) (ls : List ℕ) → possible s (Option·getD (if t then none else firstRead q (s .place (r .block)) (dummy s q) ls) (jobStep s (s .queue))) ≡ true →
-          blind (Option·getD (if t then none else firstRead q (s .place (r .block)) (dummy s q) ls) (jobStep s (s .queue)))
+          slotless (Option·getD (if t then none else firstRead q (s .place (r .block)) (dummy s q) ls) (jobStep s (s .queue)))
           ≡ Option·getD (if t then none else firstRead ((hide s) .partition 0) nowhere (λ ℓ. some 0) ls) (jobStep (hide s) (s .queue))
-      go true ls p = job-blind s (s .queue) ∙ sym (jobStep-hide s (s .queue))
-      go false [] p = job-blind s (s .queue) ∙ sym (jobStep-hide s (s .queue))
+      go true ls p = job-slotless s (s .queue) ∙ sym (jobStep-hide s (s .queue))
+      go false [] p = job-slotless s (s .queue) ∙ sym (jobStep-hide s (s .queue))
       go false (ℓ ∷ ls) p = at-level ℓ (orElse (slotIn ℓ (s .place (r .block))) (dummy s q ℓ)) p
 
-  decide-hide : possible s (decide s) ≡ true → blind (decide s) ≡ rawP (hide s)
-  unfolding decide rawP
+  decide-hide : possible s (decide s) ≡ true → slotless (decide s) ≡ plannedP (hide s)
+  unfolding decide plannedP
   decide-hide p = decide-some (s .request) refl p
 
 -- what a blind step tells
-pub blind-bounds : (x : Step) → stepBounds (blind x) ≡ stepBounds x
+pub slotless-bounds : (x : Step) → stepBounds (slotless x) ≡ stepBounds x
 unfolding stepBounds
-blind-bounds idle = refl
-blind-bounds noDummy = refl
-blind-bounds (readForRequest q ℓ x) = refl
-blind-bounds (readForJob q ℓ x) = refl
-blind-bounds (rebuild q t) = refl
-blind-bounds (writeNext q t x) = refl
+slotless-bounds idle = refl
+slotless-bounds noDummy = refl
+slotless-bounds (readForRequest q ℓ x) = refl
+slotless-bounds (readForJob q ℓ x) = refl
+slotless-bounds (rebuild q t) = refl
+slotless-bounds (writeNext q t x) = refl
 
-blind-sends : (x : Step) → sends (blind x) ≡ sends x
+slotless-sends : (x : Step) → sends (slotless x) ≡ sends x
 unfolding sends
-blind-sends idle = refl
-blind-sends noDummy = refl
-blind-sends (readForRequest q ℓ x) = refl
-blind-sends (readForJob q ℓ x) = refl
-blind-sends (rebuild q t) = refl
-blind-sends (writeNext q t x) = refl
+slotless-sends idle = refl
+slotless-sends noDummy = refl
+slotless-sends (readForRequest q ℓ x) = refl
+slotless-sends (readForJob q ℓ x) = refl
+slotless-sends (rebuild q t) = refl
+slotless-sends (writeNext q t x) = refl
 
-blind-kind : (x : Step) → command (blind x) .kind ≡ command x .kind
+slotless-kind : (x : Step) → command (slotless x) .kind ≡ command x .kind
 unfolding command
-blind-kind idle = refl
-blind-kind noDummy = refl
-blind-kind (readForRequest q ℓ x) = refl
-blind-kind (readForJob q ℓ x) = refl
-blind-kind (rebuild q t) = refl
-blind-kind (writeNext q t x) = refl
+slotless-kind idle = refl
+slotless-kind noDummy = refl
+slotless-kind (readForRequest q ℓ x) = refl
+slotless-kind (readForJob q ℓ x) = refl
+slotless-kind (rebuild q t) = refl
+slotless-kind (writeNext q t x) = refl
 
 -- a step that is open fits
 isNil-mem : (x : ℕ) (xs : List ℕ) → Mem x xs → isNil xs ≡ false
@@ -147,14 +148,14 @@ unfolding isNil
 isNil-mem x [] m = absurd m
 isNil-mem x (y ∷ ys) m = refl
 
-fit-open : (s : State) (x : Step) → OpenStep (s .shape) (s .mark) x → fit (hide s) (blind x) ≡ blind x
-unfolding fit
-fit-open s idle o = refl
-fit-open s noDummy o = refl
-fit-open s (readForRequest q ℓ x) o = rw (isNil-mem x _ o)
-fit-open s (readForJob q ℓ x) o = rw (mem-member x _ o)
-fit-open s (rebuild q t) o = rw (lt-ltb q (s .shape .P) (o .0), lt-ltb t (s .shape .L) (o .1))
-fit-open s (writeNext q t x) o = refl
+checked-open : (s : State) (x : Step) → OpenStep (s .shape) (s .mark) x → checked (hide s) (slotless x) ≡ slotless x
+unfolding checked
+checked-open s idle o = refl
+checked-open s noDummy o = refl
+checked-open s (readForRequest q ℓ x) o = rw (isNil-mem x _ o)
+checked-open s (readForJob q ℓ x) o = rw (mem-member x _ o)
+checked-open s (rebuild q t) o = rw (lt-ltb q (s .shape .P) (o .0), lt-ltb t (s .shape .L) (o .1))
+checked-open s (writeNext q t x) o = refl
 
 -- ---- the number
 
@@ -203,32 +204,32 @@ module _ (h : Shape) (reach : Reachable h) (s : State) (k : reach .Holds s) wher
   in-shape : within h ≡ true
   in-shape = rw (reach .shape s k) at (range-facts s (reach .range s k) .shape)
 
-  pub step-hide : blind (decide s) ≡ decideP (hide s)
+  pub step-hide : slotless (decide s) ≡ decideP (hide s)
   unfolding decideP
   step-hide = rw (← decide-hide s (reach .able s k)) (sym (fits (decide s) (decide-open h reach s k)))
     where
-      fits : (x : Step) → OpenStep (s .shape) (s .mark) x → fit (hide s) (blind x) ≡ blind x
-      fits x o = fit-open s x o
+      fits : (x : Step) → OpenStep (s .shape) (s .mark) x → checked (hide s) (slotless x) ≡ slotless x
+      fits x o = checked-open s x o
 
   pub bounds-hide : (l : Later) → bounds s (ask l) ≡ boundsP (hide s) l
   unfolding bounds
-  bounds-hide (asks j b bs) = refl
-  bounds-hide turns = sym (blind-bounds (decide s)) ∙ ap stepBounds step-hide
-  bounds-hide (completes c bs) = refl
-  bounds-hide collects = refl
+  bounds-hide (later-request j b bs) = refl
+  bounds-hide later-turn = sym (slotless-bounds (decide s)) ∙ ap stepBounds step-hide
+  bounds-hide (later-completion c bs) = refl
+  bounds-hide later-collect = refl
 
   -- the public part of a call has the same bounds
-  pub bounds-see : (l : Later) → boundsP (hide s) l ≡ boundsP (hide s) (seeLater h l)
-  bounds-see (asks j b bs) = go (formed h j b (length bs))
+  pub bounds-public : (l : Later) → boundsP (hide s) l ≡ boundsP (hide s) (publicLater h l)
+  bounds-public (later-request j b bs) = go (formed h j b (length bs))
     where
-      go : (t : Bool) → boundsP (hide s) (asks j b bs) ≡ boundsP (hide s) (seeRequest t j b (length bs))
+      go : (t : Bool) → boundsP (hide s) (later-request j b bs) ≡ boundsP (hide s) (publicAsk t j b (length bs))
       go true = refl
       go false = refl
-  bounds-see turns = refl
-  bounds-see (completes c bs) = refl
-  bounds-see collects = refl
+  bounds-public later-turn = refl
+  bounds-public (later-completion c bs) = refl
+  bounds-public later-collect = refl
 
-  number-request : (j b : ℕ) (bs : List ℕ) (m w n : ℕ) → numberR s (asks j b bs) m w n ≡ numberP (hide s) (seeLater h (asks j b bs)) m w n
+  number-request : (j b : ℕ) (bs : List ℕ) (m w n : ℕ) → numberR s (later-request j b bs) m w n ≡ numberP (hide s) (publicLater h (later-request j b bs)) m w n
   unfolding number questions bounds numberP questionsP
   number-request j b bs m w n = rw (ready-in s m (reach .range s k), enough-zeros (s .shape .P ∷ s .shape .P ∷ []) w)
       (seven _ _ _ _ _ _ _ room ∙ go (formed h j b (length bs)) refl)
@@ -239,15 +240,15 @@ module _ (h : Shape) (reach : Reachable h) (s : State) (k : reach .Holds s) wher
       go : (t : Bool) → formed h j b (length bs) ≡ t →
           firstNo ((leb (needed (s .shape)) m && isKind j, 2) ∷ (isNone (s .request), 4) ∷ (ltb b (s .shape .N), 5)
           ∷ (eqb (length bs) (bytesOf (s .shape) j), 6) ∷ (leb (length (s .queue)) 62, 7) ∷ (leb 2 w, 3) ∷ [])
-          ≡ numberP (hide s) (seeRequest t j b (length bs)) m w n
+          ≡ numberP (hide s) (publicAsk t j b (length bs)) m w n
       go true e = let f = formed-facts h j b (length bs) e in
           rw (none-blank (s .request), same-shape, f .0, f .1, f .2, kind-read, bytes-read h, blocks-pos h in-shape)
       go false e = simp (none-blank, length-replicate)
 
-  number-turn : (m w n : ℕ) → numberR s turns m w n ≡ numberP (hide s) turns m w n
+  number-turn : (m w n : ℕ) → numberR s later-turn m w n ≡ numberP (hide s) later-turn m w n
   unfolding firstNo number questions bounds numberP questionsP
   number-turn m w n =
-      rw (ready-in s m (reach .range s k), enough-zeros (stepBounds (decide s)) w, reach .able s k, ← step-hide, blind-sends (decide s), blind-kind (decide s), blind-bounds (decide s))
+      rw (ready-in s m (reach .range s k), enough-zeros (stepBounds (decide s)) w, reach .able s k, ← step-hide, slotless-sends (decide s), slotless-kind (decide s), slotless-bounds (decide s))
 
   inHand-hide : (o : Option Request) → s .request ≡ o → inHand (finished (hide s)) (blank o) ≡ inHand (finished s) o
   unfolding inHand
@@ -259,10 +260,10 @@ module _ (h : Shape) (reach : Reachable h) (s : State) (k : reach .Holds s) wher
   inHand-true none = refl
   inHand-true (some r) = refl
 
-  -- THE NUMBER is that of the public parts
-  pub number-hide : (l : Later) (m w n : ℕ) → numberR s l m w n ≡ numberP (hide s) (seeLater h l) m w n
+  -- The number is that of the public parts
+  pub number-hide : (l : Later) (m w n : ℕ) → numberR s l m w n ≡ numberP (hide s) (publicLater h l) m w n
   unfolding number questions numberP questionsP
-  number-hide (asks j b bs) m w n = number-request j b bs m w n
-  number-hide turns m w n = number-turn m w n
-  number-hide (completes c bs) m w n = rw (ready-in s m (reach .range s k)) (simp length-replicate)
-  number-hide collects m w n = rw (ready-in s m (reach .range s k), inHand-hide (s .request) refl, inHand-true (s .request))
+  number-hide (later-request j b bs) m w n = number-request j b bs m w n
+  number-hide later-turn m w n = number-turn m w n
+  number-hide (later-completion c bs) m w n = rw (ready-in s m (reach .range s k)) (simp length-replicate)
+  number-hide later-collect m w n = rw (ready-in s m (reach .range s k), inHand-hide (s .request) refl, inHand-true (s .request))

@@ -1,65 +1,40 @@
 -- The item that is read: its rank among the unread items is where its slot stands in the hidden order.
 use mathlib.Core.Path.{_≡_, refl, ap, sym, _∙_}
 use mathlib.Core.Bool.{Bool, true, false, _&&_}
-use mathlib.Core.Logic.{inl, inr}
+use mathlib.Core.Logic.{inl, inr, ⊎-elim}
 use mathlib.Core.List.{List, [], _∷_, map}
 use mathlib.Core.Option.{Option, none, some}
 use Prim.Native.Nat.{ℕ, zero, suc, _<_}
 use native.Mathlib.Omega.{arith}
-use native.Mathlib.Decide.{ℕ-discrete}
 use lib.ListN.{length, getD, length-map}
 use lib.Dec.{eqb}
 use borrow.Author.Tests.{eq-eqb, lt-ltb}
-use Rattle.lists.specs.Distinct.{Mem, index, index-mem, index-at}
-use Rattle.lists.specs.Places.{removeAt}
-use Rattle.lists.specs.Search.{keep, find, isNone, below, orElse, member, keep-yes, keep-no, find-yes, find-no}
+use Rattle.lists.specs.Members.{member-mem, mem-member, mem-below, map-mem, mem-map}
+use Rattle.lists.specs.Places.{index-map}
+use Rattle.lists.specs.Search.{keep, find, isNone, below, member, keep-yes, keep-no, find-yes, find-no}
+use Rattle.lists.specs.Distinct.{Mem, index, index-mem, index-at, index-here, index-there}
+use Rattle.rules.specs.Request.{slotIn, dummy}
 use Rattle.rules.specs.Shape.{Shape, slots, cell}
-use Rattle.rules.specs.State.{State, Request, stored}
-use Rattle.rules.specs.Laws.Range.{range-facts}
 use Rattle.rules.specs.Laws.Decided.{StepIn, decide-in}
+use Rattle.rules.specs.State.{State, Request, stored}
 use Rattle.rules.specs.Turn
 use Rattle.rules.specs.Turn.{readForRequest, decide}
-use Rattle.rules.specs.Request.{slotIn, dummy}
 use Rattle.rules.specs.Blocks
 use Rattle.rules.specs.Blocks.{named}
-use Rattle.matching.specs.Insert.{Arranges}
-use Rattle.matching.specs.Family.{Key, arranges-mem}
-use Rattle.hiding.specs.Public.{unreadIn}
-use Rattle.hiding.specs.Middle.{wanted, clamp}
-use Rattle.hiding.specs.Real.{Reachable, itemSlots, itemsIn, ordersOf, itemsOf}
-use Rattle.hiding.specs.Marks.{index-here, index-there, member-mem, mem-member, open-in, open-mem, mem-below}
-use Rattle.hiding.specs.Steps.{RequestReads, request-read, slotIn-some, decide-open}
-
--- ---- maps
-
-pub map-remove : (f : ℕ → ℕ) (n : ℕ) (l : List ℕ) → map f (removeAt n l) ≡ removeAt n (map f l)
-map-remove f n [] = refl
-map-remove f zero (x ∷ l) = refl
-map-remove f (suc n) (x ∷ l) = ap (λ r. f x ∷ r) (map-remove f n l)
-
-pub mem-map : (f : ℕ → ℕ) (z : ℕ) (l : List ℕ) → Mem z (map f l) → (x : ℕ) × Mem x l × (f x ≡ z)
-mem-map f z [] m = absurd m
-mem-map f z (x ∷ l) (inl e) = (x, inl refl, sym e)
-mem-map f z (x ∷ l) (inr m) = let r = mem-map f z l m in (r .0, inr (r .1), r .2)
-
-pub map-mem : (f : ℕ → ℕ) (x : ℕ) (l : List ℕ) → Mem x l → Mem (f x) (map f l)
-map-mem f x [] m = absurd m
-map-mem f x (y ∷ l) (inl e) = inl (ap f e)
-map-mem f x (y ∷ l) (inr m) = inr (map-mem f x l m)
-
--- the place of f x in the mapped list is that of x, if no other element has that value
-pub index-map : (f : ℕ → ℕ) (x : ℕ) (l : List ℕ) → Mem x l → ((y : ℕ) → Mem y l → f y ≡ f x → y ≡ x) → index (f x) (map f l) ≡ index x l
-index-map f x [] m h = absurd m
-index-map f x (y ∷ l) m h = go (ℕ-discrete x y) m (λ k. index-map f x l k (λ z q. h z (inr q)))
-  where
-    go : Dec (x ≡ y) → Mem x (y ∷ l) → (Mem x l → index (f x) (map f l) ≡ index x l) → index (f x) (f y ∷ map f l) ≡ index x (y ∷ l)
-    go (yes e) m k = index-here (f x) (f y) (map f l) (ap f e) ∙ sym (index-here x y l e)
-    go (no e) (inl e′) k = absurd (e e′)
-    go (no e) (inr q) k =
-        index-there (f x) (f y) (map f l) (λ d. e (sym (h y (inl refl) (sym d)))) ∙ ap suc (k q) ∙ sym (index-there x y l e)
+use Rattle.rules.specs.Laws.Range.{range-facts}
+use Rattle.matching.specs.Reads.{Arranges, arranges-mem}
+use Rattle.matching.specs.Keyed.{Key}
+use Rattle.reachable.specs.SentSteps.{slot-own}
+use Rattle.reachable.specs.Decided.{RequestReads, decided}
+use Rattle.hiding.specs.Machines.Middle.{wanted, clamp}
+use Rattle.hiding.specs.Orders.Unread.{open-in, open-mem}
+use Rattle.hiding.specs.Orders.Decides.{decide-open}
+use Rattle.hiding.specs.Machines.Rules.{itemSlots, itemsIn, ordersOf, itemsOf}
+use Rattle.hiding.specs.Machines.Public.{unreadIn}
+use Rattle.hiding.specs.Machines.Needs.{Reachable}
 
 -- the first of the kept elements that has value 0
-pub find-zero : (p : ℕ → Bool) (f : ℕ → ℕ) (xs : List ℕ) (x : ℕ) → find (λ i. p i && isNone (named (f i))) xs ≡ some x →
+find-zero : (p : ℕ → Bool) (f : ℕ → ℕ) (xs : List ℕ) (x : ℕ) → find (λ i. p i && isNone (named (f i))) xs ≡ some x →
     Mem x (keep p xs) × (f x ≡ 0) × (getD (keep p xs) (index 0 (map f (keep p xs))) 0 ≡ x)
 find-zero p f [] x e = absurd (let z : _≡_ {A = ℕ} 0 1 = unfold find in (cc) in omega arith)
 find-zero p f (y ∷ ys) x e = go (p y) refl (f y) refl (find-zero p f ys x)
@@ -99,7 +74,7 @@ wanted-dummy : (r : Request) (its : List ℕ) → member (suc (r .block)) its �
 unfolding wanted
 wanted-dummy r its e = rw e
 
-pub slotIn-own : (ℓ i : ℕ) → slotIn ℓ (stored ℓ i) ≡ some i
+slotIn-own : (ℓ i : ℕ) → slotIn ℓ (stored ℓ i) ≡ some i
 unfolding slotIn
 slotIn-own ℓ i = rw (eq-eqb ℓ ℓ refl)
 
@@ -134,36 +109,38 @@ module _ (h : Shape) (reach : Reachable h) (s : State) (k : reach .Holds s)
     unfolding itemsIn
     its-is = refl
 
-    rank-of : (r : Request) → RequestReads s q ℓ x r → index (wanted (some r) (map at-slot hs)) (map at-slot hs) ≡ index x hs
-    rank-of r w = pick (slotIn ℓ (s .place (r .block))) refl (w .slot)
+    reads : RequestReads s q ℓ x
+    reads = rw e at (decided s)
+
+    -- a slot that holds the request's block is its place
+    place-of : (y : ℕ) → Mem y hs → at-slot y ≡ suc (reads .asked .block) → s .place (reads .asked .block) ≡ stored ℓ y
+    place-of y m f = let u = unread-slot y m in reach .owned s (reads .asked) q ℓ x y k e (reads .inHand) (u .0) (u .1) f
+
+    rank-of : index (wanted (some (reads .asked)) (map at-slot hs)) (map at-slot hs) ≡ index x hs
+    rank-of = ⊎-elim of-block of-dummy (reads .slot)
       where
+        r : Request
+        r = reads .asked
+
         b : ℕ
         b = r .block
 
-        -- a slot that holds the block is its place
-        place-of : (y : ℕ) → Mem y hs → at-slot y ≡ suc b → s .place b ≡ stored ℓ y
-        place-of y m f = let u = unread-slot y m in reach .owned s r q ℓ x y k e (w .hand) (u .0) (u .1) f
-
-        pick : (o : Option ℕ) → slotIn ℓ (s .place b) ≡ o → orElse o (dummy s q ℓ) ≡ some x → index (wanted (some r) (map at-slot hs)) (map at-slot hs) ≡ index x hs
-        pick (some i) f g =
-            let j : i ≡ x = own-slot i g in
-            let p : s .place b ≡ stored ℓ x = slotIn-some ℓ x (s .place b) (f ∙ ap (λ (u : ℕ). some u) j) in
-            let v : at-slot x ≡ suc b = reach .own s r q ℓ x x k e (w .hand) p .1 in
+        -- its block is there
+        of-block : slotIn ℓ (s .place b) ≡ some x → index (wanted (some r) (map at-slot hs)) (map at-slot hs) ≡ index x hs
+        of-block f =
+            let p : s .place b ≡ stored ℓ x = slot-own ℓ x (s .place b) f in
+            let v : at-slot x ≡ suc b = reach .own s r q ℓ x x k e (reads .inHand) p in
             let m : member (suc b) (map at-slot hs) ≡ true = mem-member (suc b) (map at-slot hs) (rw v at (map-mem at-slot x hs in-order)) in
             let want : wanted (some r) (map at-slot hs) ≡ suc b = wanted-block r (map at-slot hs) m in
-            rw (want, ← v) (index-map at-slot x hs in-order (λ y m′ d.
-            let p′ = place-of y m′ (d ∙ v) in
-            let z : y ≡ x = same-slot y x (sym p′ ∙ p) in
-            z))
+            rw (want, ← v) (index-map at-slot x hs in-order (λ y m′ d. same-slot y x (sym (place-of y m′ (d ∙ v)) ∙ p)))
           where
-            own-slot : (i : ℕ) → orElse (some i) (dummy s q ℓ) ≡ some x → i ≡ x
-            own-slot i g = let g′ : _≡_ {A = Option ℕ} (some i) (some x) = unfold orElse in g in cc
-
             same-slot : (y z : ℕ) → stored ℓ y ≡ stored ℓ z → y ≡ z
             same-slot y z d = cc
-        pick none f g =
-            let g′ : dummy s q ℓ ≡ some x = unfold orElse in g in
-            let d = dummy-at g′ in
+
+        -- it is not, and the slot is the lowest unread dummy's
+        of-dummy : (slotIn ℓ (s .place b) ≡ none) × (dummy s q ℓ ≡ some x) → index (wanted (some r) (map at-slot hs)) (map at-slot hs) ≡ index x hs
+        of-dummy g =
+            let d = dummy-at (g .1) in
             let n : member (suc b) (map at-slot hs) ≡ false = not-there (member (suc b) (map at-slot hs)) refl in
             let want : wanted (some r) (map at-slot hs) ≡ 0 = wanted-dummy r (map at-slot hs) n in
             let l = index-mem 0 (map at-slot hs) (rw (d .1) at (map-mem at-slot x hs in-order)) in
@@ -178,13 +155,12 @@ module _ (h : Shape) (reach : Reachable h) (s : State) (k : reach .Holds s)
             not-there false c = c
             not-there true c =
                 let y = mem-map at-slot (suc b) hs (member-mem (suc b) (map at-slot hs) c) in
-                let p = place-of (y .0) (y .1) (y .2) in
-                let z : _≡_ {A = Option ℕ} none (some (y .0)) = sym f ∙ ap (slotIn ℓ) p ∙ slotIn-own ℓ (y .0) in
+                let p = place-of (y .0) (y .1 .0) (sym (y .1 .1)) in
+                let z : _≡_ {A = Option ℕ} none (some (y .0)) = sym (g .0) ∙ ap (slotIn ℓ) p ∙ slotIn-own ℓ (y .0) in
                 absurd (let z′ : _≡_ {A = ℕ} 0 1 = cc in omega arith)
 
     -- the rank of the wanted item is the place of the slot that is read
     pub rank-is : clamp (length (unreadIn (s .shape) (s .mark) (q, ℓ))) (index (wanted (s .request) (itemsOf s (q, ℓ))) (itemsOf s (q, ℓ))) ≡ index x hs
     rank-is =
-        let r = request-read s q ℓ x e in
-        let i : index (wanted (s .request) (itemsOf s (q, ℓ))) (itemsOf s (q, ℓ)) ≡ index x hs = rw (its-is, r .1 .hand) (rank-of (r .0) (r .1)) in
+        let i : index (wanted (s .request) (itemsOf s (q, ℓ))) (itemsOf s (q, ℓ)) ≡ index x hs = rw (its-is, reads .inHand) rank-of in
         rw i (clamp-id _ (index x hs) (omega (arith, hid (q, ℓ) .0, index-mem x hs in-order .0)))

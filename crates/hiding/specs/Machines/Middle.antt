@@ -5,26 +5,28 @@ use mathlib.Core.Option.{Option, none, some}
 use Prim.Native.Nat.{ℕ, zero, suc, _-_, _^_}
 use lib.ListN.{length, getD, replicate}
 use lib.Dec.{ltb, eqb}
-use Rattle.lists.specs.Distinct.{index}
-use Rattle.lists.specs.Places.{removeAt}
-use Rattle.lists.specs.Tests.{if_then_else_}
-use Rattle.lists.specs.Search.{find, keep, below, member}
 use Rattle.lists.specs.Tables.{put}
-use Rattle.rules.specs.Shape.{Shape, slots}
-use Rattle.rules.specs.State.{Place, nowhere, stored, Request, State}
-use Rattle.rules.specs.Ranges.{others}
-use Rattle.rules.specs.Setters.{_▷_, setPartition, setPlace, setWaiting, setQueue, setRequest}
-use Rattle.rules.specs.Turn.{Step, idle, noDummy, readForRequest, readForJob, rebuild, writeNext, doStep}
+use Rattle.lists.specs.Tests.{if_then_else_}
+use Rattle.lists.specs.Places.{removeAt}
+use Rattle.lists.specs.Search.{find, keep, below, member}
+use Rattle.lists.specs.Distinct.{index}
 use Rattle.rules.specs.Request.{accept}
+use Rattle.rules.specs.Completion.{complete}
+use Rattle.rules.specs.Setters.{_▷_, setPartition, setPlace, setWaiting, setQueue, setRequest}
 use Rattle.rules.specs.Levels.{sources}
-use Rattle.rules.specs.Rebuild.{isChosen, leave, newPlace}
+use Rattle.rules.specs.Shape.{Shape, slots}
+use Rattle.rules.specs.Turn.{Step, idle, noDummy, readForRequest, readForJob, rebuild, writeNext, doStep}
+use Rattle.rules.specs.State.{Place, nowhere, stored, Request, State}
+use Rattle.rules.specs.Laws.Orders.{Drew}
+use Rattle.rules.specs.Ranges.{others}
 use Rattle.rules.specs.Open.{fresh}
-use Rattle.matching.specs.Draws.{Below}
-use Rattle.matching.specs.Insert.{None}
+use Rattle.rules.specs.Rebuild.{isChosen, leave, newPlace}
 use Rattle.matching.specs.Machine.{Machine}
-use Rattle.matching.specs.Family.{Key, upd}
+use Rattle.matching.specs.Keyed.{Key, update}
+use Rattle.matching.specs.Trades.{None}
 use Rattle.reachable.specs.Live.{isBelow, storedIn}
-use Rattle.hiding.specs.Public.{Later, asks, turns, completes, collects, Play, first, later, seeLater, hide, unreadIn, decideP, numberP, numberOpen, Seen, nothingSent, seenOpen, seenIf, legalIf, rebuildP, completeP}
+use Rattle.hiding.specs.Machines.Ideal.{Seen, nothingSent, seenOpen, seenIf, legalIf, rebuildP}
+use Rattle.hiding.specs.Machines.Public.{Later, later-request, later-turn, later-completion, later-collect, Entry, first, later, publicLater, hide, unreadIn, decideP, numberP, numberOpen}
 
 -- what is kept of a state: of a block's place the level, and no slot, no bytes
 abbrev pub levelOnly : Place → Place
@@ -98,25 +100,25 @@ collectedM (some r) s =
 
 abbrev pub nextM : ℕ → State → Later → List ℕ → State
 nextM (suc n) s l e = s
-nextM zero s (asks k b bs) e = accept k b bs e s
-nextM zero s turns e = nextStepM s (decideP (hide s)) e
-nextM zero s (completes c bs) e = completeP c s
-nextM zero s collects e = collectedM (s .request) s
+nextM zero s (later-request k b bs) e = accept k b bs e s
+nextM zero s later-turn e = nextStepM s (decideP (hide s)) e
+nextM zero s (later-completion c bs) e = complete c bs s
+nextM zero s later-collect e = collectedM (s .request) s
 
 abbrev pub itemsStep : State → Items → Step → List ℕ → Items
 itemsStep s it idle e = it
 itemsStep s it noDummy e = it
-itemsStep s it (readForRequest q ℓ x) e = upd (q, ℓ) (removeAt (rank s (it (q, ℓ)) (q, ℓ)) (it (q, ℓ))) it
-itemsStep s it (readForJob q ℓ x) e = upd (q, ℓ) (removeAt (getD e 0 0) (it (q, ℓ))) it
-itemsStep s it (rebuild q t) e = upd (q, t) (newItems (slots t) (gatheredM s q)) it
+itemsStep s it (readForRequest q ℓ x) e = update (q, ℓ) (removeAt (rank s (it (q, ℓ)) (q, ℓ)) (it (q, ℓ))) it
+itemsStep s it (readForJob q ℓ x) e = update (q, ℓ) (removeAt (getD e 0 0) (it (q, ℓ))) it
+itemsStep s it (rebuild q t) e = update (q, t) (newItems (slots t) (gatheredM s q)) it
 itemsStep s it (writeNext q t x) e = it
 
 abbrev pub itemsM : ℕ → State → Items → Later → List ℕ → Items
 itemsM (suc n) s it l e = it
-itemsM zero s it (asks k b bs) e = it
-itemsM zero s it turns e = itemsStep s it (decideP (hide s)) e
-itemsM zero s it (completes c bs) e = it
-itemsM zero s it collects e = it
+itemsM zero s it (later-request k b bs) e = it
+itemsM zero s it later-turn e = itemsStep s it (decideP (hide s)) e
+itemsM zero s it (later-completion c bs) e = it
+itemsM zero s it later-collect e = it
 
 -- ---- The machine
 
@@ -134,28 +136,28 @@ module _ (h : Shape) where
   boundsOpen zero = replicate (h .N) (h .P)
   boundsOpen (suc n) = []
 
-  abbrev pub mid-legal : Mid → Play → List ℕ → Type 0
-  mid-legal shut (first m w) e = Below (boundsOpen (numberOpen h m w)) e
+  abbrev pub mid-legal : Mid → Entry → List ℕ → Type 0
+  mid-legal shut (first m w) e = Drew (boundsOpen (numberOpen h m w)) e
   mid-legal shut (later l m w n) e = None e
   mid-legal dead c e = None e
   mid-legal (on s it) (first m w) e = None e
-  mid-legal (on s it) (later l m w n) e = legalIf (numberP (hide s) (seeLater h l) m w n) (hide s) l e
+  mid-legal (on s it) (later l m w n) e = legalIf (numberP (hide s) (publicLater h l) m w n) (hide s) l e
 
-  abbrev pub mid-next : Mid → Play → List ℕ → Mid
+  abbrev pub mid-next : Mid → Entry → List ℕ → Mid
   mid-next shut (first m w) e = openM (numberOpen h m w) e
   mid-next shut (later l m w n) e = shut
   mid-next dead c e = dead
   mid-next (on s it) (first m w) e = on s it
   mid-next (on s it) (later l m w n) e =
-      let k = numberP (hide s) (seeLater h l) m w n in
+      let k = numberP (hide s) (publicLater h l) m w n in
       on (nextM k s l e) (itemsM k s it l e)
 
-  abbrev pub mid-seen : Mid → Play → List ℕ → Seen
+  abbrev pub mid-seen : Mid → Entry → List ℕ → Seen
   mid-seen shut (first m w) e = seenOpen h (numberOpen h m w)
   mid-seen shut (later l m w n) e = (2, 0, nothingSent)
   mid-seen dead c e = (2, 0, nothingSent)
   mid-seen (on s it) (first m w) e = (2, 0, nothingSent)
-  mid-seen (on s it) (later l m w n) e = seenIf (numberP (hide s) (seeLater h l) m w n) (hide s) l e
+  mid-seen (on s it) (later l m w n) e = seenIf (numberP (hide s) (publicLater h l) m w n) (hide s) l e
 
-  abbrev pub mid : Machine Play (List ℕ) Seen
+  abbrev pub mid : Machine Entry (List ℕ) Seen
   mid = record { State = Mid; Legal = mid-legal; next = mid-next; seen = mid-seen }
