@@ -13,9 +13,9 @@
 --     slot", "A request that is well-formed in one is so in the other; its block, kind and contents may differ. Any other request has the same
 --     kind, block and length of contents": `completions`, `wellFormed`, `anyOther`.
 --   "A list's tape of drawn numbers has one for each draw of its run, in turn, below the m of that draw, and no more": `Tape`. "A refused call
---     draws nothing": `boundsOf`. `Tapes` says that these are what runs draw: of any run, whatever words are lent; and each tape of some run
---     with words of 16 bits. So no list is without tapes, and no run is left out.
---   "The words lent to a call are any that give its draws' numbers, then any others": `Gives`.
+--     draws nothing": `boundsOf`. `Tapes` (`drawn`, `given`) says that these are what runs draw: of any run, whatever words are lent; and each
+--     tape of some run with words of 16 bits. So no list is without tapes, and no run is left out.
+--   "The words lent to a call are any that give its draws' numbers, then any others": `Gives`; that it does not matter which: `decides`.
 --   "There is a matching: each tape of either list has exactly one partner among the other's": `Matching`. "With partners, the two runs have at
 --     each place the same number answered, the same count of words taken and, for a turn, the same command": `told`, the last lines of `Claim`.
 --   "For the smaller cache ..": `Smaller`, which has the bytes handed out equal too.
@@ -147,10 +147,12 @@ Claim = (h : Shape) → h .E ≡ h .N → (m w n : ℕ) (as′ bs′ : List Lent
     Gives s (first h m w n ∷ as′) t cs → Gives s′ (first h m w n ∷ bs′) (p .f t) ds →
     map told (run s cs) ≡ map told (run s′ ds))
 
--- The tapes of a list are what its runs draw
+-- The tapes of a list are what its runs draw, whatever words are lent; some words of 16 bits give each tape; and a tape decides the whole run,
+-- whatever words give it
 pub record Tapes : Type 0 where
   pub drawn : (s : State) (as′ : List Lent) (cs : List Call) → Lends as′ cs → Tape s as′ (drawsIn s cs)
   pub given : (s : State) (as′ : List Lent) (t : List ℕ) → Tape s as′ t → (cs : List Call) × (Gives s as′ t cs × Short cs)
+  pub decides : (s : State) (as′ : List Lent) (t : List ℕ) (cs ds : List Call) → Gives s as′ t cs → Gives s as′ t ds → run s cs ≡ run s ds
 
 -- ---- The smaller cache: the requests may be any
 

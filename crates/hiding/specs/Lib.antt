@@ -12,3 +12,5 @@ pub mod Cache
 pub mod Reached
 -- The theorem, `hidden`
 pub mod Theorem
+-- Two lists of a small shape, computed
+pub mod Example

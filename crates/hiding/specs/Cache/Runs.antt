@@ -57,7 +57,12 @@ module _ (e n : ℕ) (s : State) (f : Fits e n s) where
     waits = let h = waits-le e (s .waiting) (s .request) (f .waits) in (h, others-room e b (s .waiting) h (p .1 .1 .1 .1 .1 .0));
   }
   act-fits turn m ws k js o p = doStep-fits (decide s) js
-  act-fits (completion c bs) m ws k js o p = let q = complete-rest s c bs in record { room = rw (ap (λ (x : Rest). x .shape) q) (f .room); waits = rw (ap (λ (x : Rest). x .request) q, ap (λ (x : Rest). x .waiting) q) (f .waits) }
+  act-fits (completion c bs) m ws k js o p =
+      let q = complete-rest s c bs in
+      record {
+        room = rw (ap (λ (x : Rest). x .shape) q) (f .room);
+        waits = rw (ap (λ (x : Rest). x .request) q, ap (λ (x : Rest). x .waiting) q) (f .waits);
+      }
   act-fits collect m ws k js o p = collected-fits (s .request) refl
 
 act-E′ : (e : ℕ) (s : State) (a : Ask) (js : List ℕ) → opens a ≡ false → act (withE e s) a js ≡ withE e (act s a js)

@@ -3,39 +3,40 @@ use mathlib.Core.Path.{_≡_, refl, ap, sym, _∙_}
 use mathlib.Core.Bool.{Bool, true, false, not, _&&_, true≢false}
 use mathlib.Core.Logic.{_↔_, Iff·rfl}
 use mathlib.Core.List.{List, [], _∷_}
+use mathlib.Core.Option.{Option}
 use Prim.Native.Nat.{ℕ, zero, suc, _+_, _^_, _≤_, _<_}
 use native.Mathlib.Omega.{arith}
 use lib.ListN.{length, replicate, length-replicate}
 use lib.Dec.{eqb, leb, eqb·suc-zero}
 use lib.Pow.{pow-mono}
 use borrow.Author.Tests.{eqb-true, eqb-false, leb-true}
+use Rattle.lists.specs.Search.{isNone, all}
 use Rattle.lists.specs.Members.{all-mem, member-mem}
 use Rattle.lists.specs.All.{all-yes, All, nil, cons, all-map, all-replicate}
 use Rattle.lists.specs.Tests.{if_then_else_, every-yes, between, and-r, and-l}
-use Rattle.lists.specs.Search.{isNone, all}
+use Rattle.rules.specs.Laws.Levels.{partitions-pos}
+use Rattle.rules.specs.Shape.{Shape, within, slots}
+use Rattle.rules.specs.Draws.{Drawn, draws, orderBounds}
+use Rattle.rules.specs.Memory.{needed}
+use Rattle.rules.specs.Laws.Decided.{StepIn, decide-in}
 use Rattle.rules.specs.Unfold.{model}
 use Rattle.rules.specs.Laws.Answers.{Passed, opens, accepted-passed, accepted-taken, step-accepted, step-refused, refuse-keeps}
-use Rattle.rules.specs.Questions.{Ask, opening, request, turn, completion, collect, Call, bounds, number, questions, firstNo, ready}
-use Rattle.rules.specs.Laws.Levels.{partitions-pos}
-use Rattle.rules.specs.Memory.{needed}
-use Rattle.rules.specs.Laws.Kept.{given-in, drew-of}
-use Rattle.rules.specs.Shape.{Shape, within, slots}
-use Rattle.rules.specs.Draws.{draws, orderBounds}
-use Rattle.rules.specs.Laws.Decided.{StepIn, decide-in}
-use Rattle.rules.specs.Turn.{stepBounds, decide, Step, idle, noDummy, readForRequest, readForJob, rebuild, writeNext}
 use Rattle.rules.specs.State.{State, Command, closed}
-use Rattle.rules.specs.Laws.Orders.{Drew, drew-length}
+use Rattle.rules.specs.Run.{Outcome, act, refuse, sentCommand, numbersOf, accepted, refused, step, takenOf, handed}
+use Rattle.rules.specs.Questions.{Ask, opening, request, turn, completion, collect, Call, bounds, number, questions, firstNo, ready}
+use Rattle.rules.specs.Turn.{stepBounds, decide, Step, idle, noDummy, readForRequest, readForJob, rebuild, writeNext}
 use Rattle.rules.specs.Ranges.{isKind}
-use Rattle.rules.specs.Run.{Outcome, act, refuse, sentCommand, numbersOf, accepted, refused, step}
+use Rattle.rules.specs.Laws.Orders.{Drew, drew-length}
+use Rattle.rules.specs.Laws.Kept.{given-in, drew-of}
 use Rattle.matching.specs.Trades.{none-drew}
-use Rattle.hiding.specs.Machines.Ideal.{nothingSent}
 use Rattle.hiding.specs.Orders.Number.{enough}
 use Rattle.hiding.specs.Machines.Rules.{Real, shut, dead, on, real-legal, real-next, real-seen, openCall, numberR}
+use Rattle.hiding.specs.Lists.Matched.{wants}
 use Rattle.hiding.specs.Machines.Public
 use Rattle.hiding.specs.Machines.Public.{Later, Entry, later, ask}
-use Rattle.hiding.specs.Claim.{Lent, lend, numberOf, boundsOf, nextOf, drawsOf, told, first}
-use Rattle.hiding.specs.Lists.Matched.{wants}
 use Rattle.hiding.specs.Machines.Needs.{Reachable}
+use Rattle.hiding.specs.Claim.{Lent, lend, numberOf, boundsOf, nextOf, drawsOf, told, first}
+use Rattle.hiding.specs.Machines.Ideal.{nothingSent}
 
 -- ---- a list as the machine has it
 
@@ -103,7 +104,8 @@ number-lent s a ws e = number-words s (a .ask) (a .memory) (a .buffer) ws (repli
     zeroth e = 0
 
 -- an accepted call's bounds are positive, and of at most 16 bits, and its words enough
-pub passed-bounds : (s : State) (k : Ask) (m : ℕ) (ws : List ℕ) (n : ℕ) → Passed (questions s k m ws n) → All (λ m. (0 < m) × (m ≤ 2 ^ 16)) (bounds s k) × (not (isNone (draws (bounds s k) ws)) ≡ true)
+pub passed-bounds : (s : State) (k : Ask) (m : ℕ) (ws : List ℕ) (n : ℕ) → Passed (questions s k m ws n) →
+    All (λ m. (0 < m) × (m ≤ 2 ^ 16)) (bounds s k) × (not (isNone (draws (bounds s k) ws)) ≡ true)
 unfolding questions bounds
 passed-bounds s (opening h) m ws n p = (all-replicate (λ m. (0 < m) × (m ≤ 2 ^ 16)) (h .N) (h .P) (partitions-few h (p .0)), p .1 .1 .0)
 passed-bounds s (request k b bs) m ws n p =
@@ -152,6 +154,38 @@ stepped s a ws e = go (eqb (numberOf s a) 0) refl
           next = rw (step-refused s c z, n, f);
           tells = rw (step-refused s c z, n, f);
         }
+
+-- Words that give the same numbers are the same to a call: state, outcome and bytes
+pub same-draws : (s : State) (a : Lent) (ws vs : List ℕ) → length ws ≡ a .words → length vs ≡ a .words →
+    drawsOf s (lend a ws) ≡ drawsOf s (lend a vs) → step s (lend a ws) ≡ step s (lend a vs)
+unfolding drawsOf accepted takenOf
+same-draws s a ws vs x y e = go (eqb (numberOf s a) 0) refl
+  where
+    n : number s (lend a ws) ≡ numberOf s a
+    n = number-lent s a ws x
+
+    m : number s (lend a vs) ≡ numberOf s a
+    m = number-lent s a vs y
+
+    alike : (d d′ : Option Drawn) → numbersOf d ≡ numbersOf d′ → takenOf d ≡ takenOf d′ → accepted s (a .ask) d ≡ accepted s (a .ask) d′
+    alike d d′ p q = λ i. (
+      act s (a .ask) (p i),
+      record { number = 0; taken = q i; command = sentCommand s (a .ask); bytes = handed s (a .ask) (act s (a .ask) (p i)) },
+    )
+
+    taken : (us : List ℕ) → number s (lend a us) ≡ 0 → takenOf (draws (bounds s (a .ask)) us) ≡ length (bounds s (a .ask))
+    taken us z = sym (ap (λ (o : State × Outcome). o .1 .taken) (step-accepted s (lend a us) z)) ∙ accepted-taken s (lend a us) z
+
+    go : (t : Bool) → eqb (numberOf s a) 0 ≡ t → step s (lend a ws) ≡ step s (lend a vs)
+    go true f =
+        let z : number s (lend a ws) ≡ 0 = n ∙ eqb-true (numberOf s a) 0 f in
+        let z′ : number s (lend a vs) ≡ 0 = m ∙ eqb-true (numberOf s a) 0 f in
+        let e′ : numbersOf (draws (bounds s (a .ask)) ws) ≡ numbersOf (draws (bounds s (a .ask)) vs) = rw (n, m, f) at e in
+        step-accepted s (lend a ws) z ∙ alike _ _ e′ (taken ws z ∙ sym (taken vs z′)) ∙ sym (step-accepted s (lend a vs) z′)
+    go false f =
+        let z : ¬ (number s (lend a ws) ≡ 0) = λ d. eqb-false (numberOf s a) 0 f (sym n ∙ d) in
+        let z′ : ¬ (number s (lend a vs) ≡ 0) = λ d. eqb-false (numberOf s a) 0 f (sym m ∙ d) in
+        step-refused s (lend a ws) z ∙ ap (λ k. (refuse s (a .ask), refused k)) (n ∙ sym m) ∙ sym (step-refused s (lend a vs) z′)
 
 -- ---- what the claim says of it, and what the machine says
 

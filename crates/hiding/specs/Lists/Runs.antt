@@ -10,20 +10,20 @@ use lib.ListN.{length, take, drop}
 use lib.Seq.{take-at, drop-at}
 use borrow.Author.Tests.{eq-eqb, lt-ltb}
 use Rattle.rules.specs.Questions.{Ask, Call}
-use Rattle.rules.specs.Run.{step, run}
 use Rattle.rules.specs.State.{State, Command}
 use Rattle.rules.specs.Laws.Answers.{opens}
 use Rattle.rules.specs.Shape.{Shape}
-use Rattle.matching.specs.TwoLists.{Any}
+use Rattle.rules.specs.Run.{step, run}
 use Rattle.matching.specs.Flat.{FlatTape, FlatWatch}
+use Rattle.matching.specs.TwoLists.{Any}
+use Rattle.hiding.specs.Machines.Rules.{Real, shut, real, real-next}
+use Rattle.hiding.specs.Machines.Needs.{Reachable}
+use Rattle.hiding.specs.Claim
+use Rattle.hiding.specs.Claim.{Lent, lend, WellFormed, Alike, wellFormed, anyOther, turns, completions, collects, Same, Compared, boundsOf, nextOf, Tape, Lends, drawsOf, drawsIn, told, first, Claim}
 use Rattle.hiding.specs.Machines.Public
 use Rattle.hiding.specs.Machines.Public.{Entry, ask, formed, publicEntry}
 use Rattle.hiding.specs.Lists.Calls.{Is, Agrees, agrees, agrees-open, stepped, entry, entryOf}
-use Rattle.hiding.specs.Claim
-use Rattle.hiding.specs.Claim.{Lent, lend, WellFormed, Alike, wellFormed, anyOther, turns, completions, collects, Same, Compared, boundsOf, nextOf, Tape, Lends, drawsOf, drawsIn, told, first, Claim}
-use Rattle.hiding.specs.Machines.Rules.{Real, shut, real, real-next}
 use Rattle.hiding.specs.Lists.Matched.{wants, oblivious-flat}
-use Rattle.hiding.specs.Machines.Needs.{Reachable}
 
 -- ---- compared lists have the same public parts
 
@@ -73,9 +73,6 @@ module _ (h : Shape) (reach : Reachable h) where
 
   abbrev Watched : Real → List Entry → List ℕ → List (ℕ × ℕ × Command)
   Watched = FlatWatch (real h) (wants h reach)
-
-  abbrev RestTapes : Real → List Lent → State → Type 0
-  RestTapes r as′ s = (t : List ℕ) → Tape s as′ t ↔ Flats r (map entry as′) t
 
   -- one call more
   tape-more : (c : Entry) (cs : List Entry) (r : Real) (s : State) (a : Lent) (as′ : List Lent) → Agrees h reach c r s a →

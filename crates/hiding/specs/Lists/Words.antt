@@ -1,5 +1,5 @@
 -- That the claim speaks of every run: the numbers that a run draws are a tape of its list, and every tape has words that give it.
-use mathlib.Core.Path.{_≡_, refl, ap, sym, _∙_, subst}
+use mathlib.Core.Path.{_≡_, refl, ap, ap₂, sym, _∙_, subst}
 use mathlib.Core.Bool.{Bool, true, false}
 use mathlib.Core.List.{List, [], _∷_, _++_}
 use mathlib.Core.Option.{none, some}
@@ -11,16 +11,16 @@ use lib.Seq.{take-at, drop-at}
 use lib.Dec.{eqb}
 use borrow.Author.Tests.{eqb-true, leb-true}
 use Rattle.lists.specs.All.{All, nil, cons, all-append, all-replicate}
-use Rattle.rules.specs.Draws.{draw, draws, drawnFirst}
 use Rattle.rules.specs.Questions.{Call, bounds, number}
-use Rattle.rules.specs.Run.{numbersOf, step}
+use Rattle.rules.specs.Draws.{draw, draws, drawnFirst}
 use Rattle.rules.specs.State.{State}
 use Rattle.rules.specs.Laws.Orders.{Drew, drew-length}
 use Rattle.rules.specs.Laws.Answers.{accepted-passed}
-use Rattle.hiding.specs.Lists.Calls.{stepped, number-lent, passed-bounds, drew-passed}
+use Rattle.rules.specs.Run.{numbersOf, step, run, Outcome}
+use Rattle.hiding.specs.Orders.Number.{enough}
 use Rattle.hiding.specs.Claim
 use Rattle.hiding.specs.Claim.{Lent, lend, numberOf, boundsOf, nextOf, Tape, Lends, drawsOf, drawsIn, Gives, Short, Tapes}
-use Rattle.hiding.specs.Orders.Number.{enough}
+use Rattle.hiding.specs.Lists.Calls.{stepped, number-lent, passed-bounds, drew-passed, same-draws}
 
 -- ---- a run's numbers are a tape
 
@@ -135,5 +135,29 @@ tape-words (a ∷ as′) s t p =
       ),
     )
 
+-- ---- the tape decides the run
+
+same-run : (as′ : List Lent) (cs ds : List Call) → Lends as′ cs → Lends as′ ds → (s : State) → drawsIn s cs ≡ drawsIn s ds → run s cs ≡ run s ds
+unfolding run drawsIn
+same-run [] [] [] Claim.none Claim.none s e = refl
+same-run (a ∷ as′) (c ∷ cs) (d ∷ ds) (Claim.more {ws = ws} x l) (Claim.more {ws = vs} y k) s e =
+    let own = drawsOf s (lend a ws) in
+    let own′ = drawsOf s (lend a vs) in
+    let rest = drawsIn (step s (lend a ws) .0) cs in
+    let rest′ = drawsIn (step s (lend a vs) .0) ds in
+    let n = length (boundsOf s a) in
+    let p = stepped s a ws x .drawn in
+    let q = stepped s a vs y .drawn in
+    let first : own ≡ own′ = sym (take-at own rest n p) ∙ ap (take n) e ∙ take-at own′ rest′ n q in
+    let then : rest ≡ rest′ = sym (drop-at own rest n p) ∙ ap (drop n) e ∙ drop-at own′ rest′ n q in
+    let z = same-draws s a ws vs x y first in
+    let w : drawsIn (step s (lend a ws) .0) cs ≡ drawsIn (step s (lend a ws) .0) ds = then ∙ ap (λ (r : State × Outcome). drawsIn (r .0) ds) (sym z) in
+    ap₂ (λ o os. o ∷ os) (ap (λ (r : State × Outcome). r .1) z)
+    (same-run as′ cs ds l k (step s (lend a ws) .0) w ∙ ap (λ (r : State × Outcome). run (r .0) ds) z)
+
 pub tapes-given : Tapes
-tapes-given = record { drawn = λ s as′ cs l. run-tape as′ cs l s; given = λ s as′ t. tape-words as′ s t }
+tapes-given = record {
+  drawn = λ s as′ cs l. run-tape as′ cs l s;
+  given = λ s as′ t. tape-words as′ s t;
+  decides = λ s as′ t cs ds g k. same-run as′ cs ds (g .calls) (k .calls) s (g .tape ∙ sym (k .tape));
+}

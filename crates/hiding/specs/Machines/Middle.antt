@@ -6,24 +6,24 @@ use Prim.Native.Nat.{ℕ, zero, suc, _-_, _^_}
 use lib.ListN.{length, getD, replicate}
 use lib.Dec.{ltb, eqb}
 use Rattle.lists.specs.Tables.{put}
-use Rattle.lists.specs.Tests.{if_then_else_}
 use Rattle.lists.specs.Places.{removeAt}
-use Rattle.lists.specs.Search.{find, keep, below, member}
 use Rattle.lists.specs.Distinct.{index}
-use Rattle.rules.specs.Request.{accept}
-use Rattle.rules.specs.Completion.{complete}
-use Rattle.rules.specs.Setters.{_▷_, setPartition, setPlace, setWaiting, setQueue, setRequest}
-use Rattle.rules.specs.Levels.{sources}
-use Rattle.rules.specs.Shape.{Shape, slots}
+use Rattle.lists.specs.Tests.{if_then_else_}
+use Rattle.lists.specs.Search.{find, keep, below, member}
 use Rattle.rules.specs.Turn.{Step, idle, noDummy, readForRequest, readForJob, rebuild, writeNext, doStep}
-use Rattle.rules.specs.State.{Place, nowhere, stored, Request, State}
-use Rattle.rules.specs.Laws.Orders.{Drew}
-use Rattle.rules.specs.Ranges.{others}
-use Rattle.rules.specs.Open.{fresh}
+use Rattle.rules.specs.Levels.{sources}
+use Rattle.rules.specs.Setters.{_▷_, setPartition, setPlace, setWaiting, setQueue, setRequest, setBytes, setOrder, setHolds}
+use Rattle.rules.specs.Request.{accept}
 use Rattle.rules.specs.Rebuild.{isChosen, leave, newPlace}
+use Rattle.rules.specs.Ranges.{others}
+use Rattle.rules.specs.Shape.{Shape, slots}
+use Rattle.rules.specs.State.{Place, nowhere, stored, Request, State}
+use Rattle.rules.specs.Open.{fresh}
+use Rattle.rules.specs.Laws.Orders.{Drew}
+use Rattle.rules.specs.Completion.{complete}
 use Rattle.matching.specs.Machine.{Machine}
-use Rattle.matching.specs.Keyed.{Key, update}
 use Rattle.matching.specs.Trades.{None}
+use Rattle.matching.specs.Keyed.{Key, update}
 use Rattle.reachable.specs.Live.{isBelow, storedIn}
 use Rattle.hiding.specs.Machines.Ideal.{Seen, nothingSent, seenOpen, seenIf, legalIf, rebuildP}
 use Rattle.hiding.specs.Machines.Public.{Later, later-request, later-turn, later-completion, later-collect, Entry, first, later, publicLater, hide, unreadIn, decideP, numberP, numberOpen}
@@ -34,22 +34,11 @@ levelOnly nowhere = nowhere
 levelOnly (stored ℓ i) = stored ℓ 0
 
 abbrev pub forget : State → State
-forget s = record {
-  shape = s .shape;
-  partition = s .partition;
-  place = λ b. levelOnly (s .place b);
-  bytes = λ b. [];
-  waiting = s .waiting;
-  counter = s .counter;
-  order = λ c. 0;
-  mark = s .mark;
-  holds = λ c. 0;
-  queue = s .queue;
-  cursor = s .cursor;
-  sent = s .sent;
-  outstanding = s .outstanding;
-  request = s .request;
-}
+forget s =
+    s ▷ setPlace (λ b. levelOnly (s .place b))
+    ▷ setBytes (λ b. [])
+    ▷ setOrder (λ c. 0)
+    ▷ setHolds (λ c. 0)
 
 -- of a level's unread items, in item order, what they hold: 0 for a dummy, b + 1 for block b
 abbrev pub Items : Type 0

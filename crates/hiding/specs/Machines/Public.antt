@@ -5,18 +5,19 @@ use mathlib.Core.Option.{Option, none, some, Option·getD}
 use Prim.Native.Nat.{ℕ}
 use lib.ListN.{length, replicate}
 use lib.Dec.{eqb, leb, ltb}
-use Rattle.lists.specs.Tests.{if_then_else_}
 use Rattle.lists.specs.Search.{keep, any, below, isNone, member}
-use Rattle.rules.specs.Ranges.{isKind, bytesOf}
+use Rattle.lists.specs.Tests.{if_then_else_}
+use Rattle.rules.specs.Memory.{needed}
+use Rattle.rules.specs.Completion.{isCommand}
+use Rattle.rules.specs.Turn.{Step, idle, noDummy, readForRequest, readForJob, rebuild, writeNext, firstRead, jobStep, command, stepBounds}
 use Rattle.rules.specs.Questions
 use Rattle.rules.specs.Questions.{Ask, inHand, sends, firstNo}
-use Rattle.rules.specs.Completion.{isCommand}
-use Rattle.rules.specs.Collect.{finished}
-use Rattle.rules.specs.Memory.{needed}
-use Rattle.rules.specs.State.{Command, read, write, nowhere, Request, State}
-use Rattle.rules.specs.Turn.{Step, idle, noDummy, readForRequest, readForJob, rebuild, writeNext, firstRead, jobStep, command, stepBounds}
-use Rattle.rules.specs.Request.{held, levelsLeft}
+use Rattle.rules.specs.Ranges.{isKind, bytesOf}
 use Rattle.rules.specs.Shape.{Shape, within, slots, cell}
+use Rattle.rules.specs.Setters.{setPartition, setPlace, setBytes, setWaiting, setOrder, setHolds, setRequest, _▷_}
+use Rattle.rules.specs.State.{Command, read, write, nowhere, Request, State}
+use Rattle.rules.specs.Collect.{finished}
+use Rattle.rules.specs.Request.{held, levelsLeft}
 use Rattle.matching.specs.Keyed.{Key}
 
 -- ---- The calls of a list: an open, which comes first, and later ones; each with the memory and the words lent, and a later one's buffer
@@ -71,22 +72,14 @@ blank none = none
 blank (some r) = some (publicRequest (r .evict) (r .level))
 
 abbrev pub hide : State → State
-hide s = record {
-  shape = s .shape;
-  partition = λ b. present (s .partition) (s .request);
-  place = λ b. nowhere;
-  bytes = λ b. [];
-  waiting = [];
-  counter = s .counter;
-  order = λ c. 0;
-  mark = s .mark;
-  holds = λ c. 0;
-  queue = s .queue;
-  cursor = s .cursor;
-  sent = s .sent;
-  outstanding = s .outstanding;
-  request = blank (s .request);
-}
+hide s =
+    s ▷ setPartition (λ b. present (s .partition) (s .request))
+    ▷ setPlace (λ b. nowhere)
+    ▷ setBytes (λ b. [])
+    ▷ setWaiting []
+    ▷ setOrder (λ c. 0)
+    ▷ setHolds (λ c. 0)
+    ▷ setRequest (blank (s .request))
 
 -- of these slots of a level, the open ones: those that are unread
 unfoldable pub openIn : Shape → (ℕ → ℕ) → (Key → List ℕ) → Key → List ℕ

@@ -161,7 +161,8 @@ module _ (h : Shape) (reach : Reachable h) (s : State) (k : reach .Holds s) (hid
         refl,
         record {
           state = rw (place-forget t (gathered s q) (newOrder (slots t) d) (s .place));
-          items = items-written s rangeOf q t (p .0) (p .1) (gathered s q) (newOrder (slots t) d) a (Levels.sources (s .shape) (s .counter q)) (sources-le (s .shape) (s .counter q)) (λ ℓ i. reach .spent s q t ℓ i k e);
+          items = items-written s rangeOf q t (p .0) (p .1) (gathered s q) (newOrder (slots t) d) a
+              (Levels.sources (s .shape) (s .counter q)) (sources-le (s .shape) (s .counter q)) (λ ℓ i. reach .spent s q t ℓ i k e);
           orders = orders-written s rangeOf q t (p .0) (p .1) (gathered s q) (newOrder (slots t) d) a;
         },
       )

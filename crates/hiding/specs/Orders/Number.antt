@@ -8,26 +8,26 @@ use lib.ListN.{length, replicate, length-replicate}
 use lib.Dec.{eqb, leb, ltb, leb·zero, leb·suc-zero, leb·suc-suc}
 use borrow.Author.Tests.{leb-true, ltb-true, lt-ltb}
 use Rattle.lists.specs.Members.{mem-member}
-use Rattle.lists.specs.Tests.{if_then_else_, between, and-l, and-r, every-yes}
-use Rattle.lists.specs.Search.{isNone, any, orElse, member}
 use Rattle.lists.specs.Distinct.{Mem}
-use Rattle.rules.specs.Request.{held, levelsLeft, slotIn, dummy}
+use Rattle.lists.specs.Search.{isNone, any, orElse, member}
+use Rattle.lists.specs.Tests.{if_then_else_, between, and-l, and-r, every-yes}
 use Rattle.rules.specs.Questions.{possible, inHand, sends, bounds, ready, questions, firstNo, number}
-use Rattle.rules.specs.Memory.{needed}
-use Rattle.rules.specs.Levels
-use Rattle.rules.specs.Shape.{Shape, within}
-use Rattle.rules.specs.Draws.{Drawn, draw, draws, drawnFirst}
+use Rattle.rules.specs.Laws.Range.{range-facts}
 use Rattle.rules.specs.Collect.{finished}
-use Rattle.rules.specs.State.{State, Request, nowhere, read}
 use Rattle.rules.specs.Turn
 use Rattle.rules.specs.Turn.{Step, idle, noDummy, readForRequest, readForJob, rebuild, writeNext, firstRead, readStep, requestStep, jobStep, decide, command, stepBounds}
-use Rattle.rules.specs.Blocks
 use Rattle.rules.specs.Ranges.{isKind, bytesOf, inRange}
+use Rattle.rules.specs.Blocks
+use Rattle.rules.specs.State.{State, Request, nowhere, read}
+use Rattle.rules.specs.Shape.{Shape, within}
+use Rattle.rules.specs.Request.{held, levelsLeft, slotIn, dummy}
+use Rattle.rules.specs.Draws.{Drawn, draw, draws, drawnFirst}
+use Rattle.rules.specs.Levels
 use Rattle.rules.specs.Rebuild
-use Rattle.rules.specs.Laws.Range.{range-facts}
-use Rattle.hiding.specs.Orders.Decides.{OpenStep, decide-open}
+use Rattle.rules.specs.Memory.{needed}
 use Rattle.hiding.specs.Machines.Rules.{numberR}
 use Rattle.hiding.specs.Machines.Public.{Later, later-request, later-turn, later-completion, later-collect, ask, formed, publicAsk, publicLater, publicRequest, blank, hide, requestStepP, plannedP, checked, isNil, decideP, boundsP, questionsP, numberP}
+use Rattle.hiding.specs.Orders.Decides.{OpenStep, decide-open}
 use Rattle.hiding.specs.Machines.Needs.{Reachable}
 
 -- words are enough if there is one for each draw
@@ -114,35 +114,29 @@ module _ (s : State) where
   unfolding decide plannedP
   decide-hide p = decide-some (s .request) refl p
 
--- what a blind step tells
-pub slotless-bounds : (x : Step) → stepBounds (slotless x) ≡ stepBounds x
-unfolding stepBounds
-slotless-bounds idle = refl
-slotless-bounds noDummy = refl
-slotless-bounds (readForRequest q ℓ x) = refl
-slotless-bounds (readForJob q ℓ x) = refl
-slotless-bounds (rebuild q t) = refl
-slotless-bounds (writeNext q t x) = refl
+-- the slot plays no part in the bounds, in whether a command is sent, and in its kind
+abbrev tells : Step → List ℕ × Bool × ℕ
+tells x = (stepBounds x, sends x, command x .kind)
+
+slotless-tells : (x : Step) → tells (slotless x) ≡ tells x
+unfolding stepBounds sends command
+slotless-tells idle = refl
+slotless-tells noDummy = refl
+slotless-tells (readForRequest q ℓ x) = refl
+slotless-tells (readForJob q ℓ x) = refl
+slotless-tells (rebuild q t) = refl
+slotless-tells (writeNext q t x) = refl
+
+slotless-bounds : (x : Step) → stepBounds (slotless x) ≡ stepBounds x
+slotless-bounds x = ap (λ (y : List ℕ × Bool × ℕ). y .0) (slotless-tells x)
 
 slotless-sends : (x : Step) → sends (slotless x) ≡ sends x
-unfolding sends
-slotless-sends idle = refl
-slotless-sends noDummy = refl
-slotless-sends (readForRequest q ℓ x) = refl
-slotless-sends (readForJob q ℓ x) = refl
-slotless-sends (rebuild q t) = refl
-slotless-sends (writeNext q t x) = refl
+slotless-sends x = ap (λ (y : List ℕ × Bool × ℕ). y .1) (slotless-tells x)
 
 slotless-kind : (x : Step) → command (slotless x) .kind ≡ command x .kind
-unfolding command
-slotless-kind idle = refl
-slotless-kind noDummy = refl
-slotless-kind (readForRequest q ℓ x) = refl
-slotless-kind (readForJob q ℓ x) = refl
-slotless-kind (rebuild q t) = refl
-slotless-kind (writeNext q t x) = refl
+slotless-kind x = ap (λ (y : List ℕ × Bool × ℕ). y .2) (slotless-tells x)
 
--- a step that is open fits
+-- a step that reads unread slots passes the check
 isNil-mem : (x : ℕ) (xs : List ℕ) → Mem x xs → isNil xs ≡ false
 unfolding isNil
 isNil-mem x [] m = absurd m
@@ -217,17 +211,6 @@ module _ (h : Shape) (reach : Reachable h) (s : State) (k : reach .Holds s) wher
   bounds-hide later-turn = sym (slotless-bounds (decide s)) ∙ ap stepBounds step-hide
   bounds-hide (later-completion c bs) = refl
   bounds-hide later-collect = refl
-
-  -- the public part of a call has the same bounds
-  pub bounds-public : (l : Later) → boundsP (hide s) l ≡ boundsP (hide s) (publicLater h l)
-  bounds-public (later-request j b bs) = go (formed h j b (length bs))
-    where
-      go : (t : Bool) → boundsP (hide s) (later-request j b bs) ≡ boundsP (hide s) (publicAsk t j b (length bs))
-      go true = refl
-      go false = refl
-  bounds-public later-turn = refl
-  bounds-public (later-completion c bs) = refl
-  bounds-public later-collect = refl
 
   number-request : (j b : ℕ) (bs : List ℕ) (m w n : ℕ) → numberR s (later-request j b bs) m w n ≡ numberP (hide s) (publicLater h (later-request j b bs)) m w n
   unfolding number questions bounds numberP questionsP

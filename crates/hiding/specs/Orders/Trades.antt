@@ -10,31 +10,31 @@ use lib.ListN.{length, getD, replicate}
 use lib.Dec.{ltb}
 use lib.Pow.{pow-pos}
 use borrow.Author.Tests.{ltb-true}
-use Rattle.lists.specs.Tables.{put, putAll}
 use Rattle.lists.specs.Members.{member-mem}
+use Rattle.lists.specs.Tables.{put, putAll}
+use Rattle.lists.specs.Distinct.{Mem, index}
 use Rattle.lists.specs.Tests.{if_then_else_, and-l, and-r}
 use Rattle.lists.specs.Search.{below, member}
-use Rattle.lists.specs.Distinct.{Mem, index}
-use Rattle.rules.specs.Request.{accept}
-use Rattle.rules.specs.Completion.{complete}
-use Rattle.rules.specs.Shape.{Shape, slots, cell}
-use Rattle.rules.specs.Draws.{orderBounds}
-use Rattle.rules.specs.State.{State, Command, Place, Request}
 use Rattle.rules.specs.Turn
 use Rattle.rules.specs.Turn.{Step, idle, noDummy, readForRequest, readForJob, rebuild, writeNext, stepBounds, doStep}
-use Rattle.rules.specs.Laws.Orders.{Drew}
+use Rattle.rules.specs.Draws.{orderBounds}
+use Rattle.rules.specs.Request.{accept}
 use Rattle.rules.specs.Rebuild.{newPlace, leave}
+use Rattle.rules.specs.Shape.{Shape, slots, cell}
+use Rattle.rules.specs.State.{State, Command, Place, Request}
+use Rattle.rules.specs.Laws.Orders.{Drew}
+use Rattle.rules.specs.Completion.{complete}
 use Rattle.matching.specs.Match.{join, rename}
+use Rattle.matching.specs.Trades.{None, Trades, stays, renamed, none-drew}
 use Rattle.matching.specs.Reads.{Arranges, less, Pick, fetch, locate, pick-mem}
 use Rattle.matching.specs.Keyed.{Key, update-same, update-other, tradeAt}
 use Rattle.matching.specs.Order.{renew}
-use Rattle.matching.specs.Trades.{None, Trades, stays, renamed, none-drew}
 use Rattle.hiding.specs.Machines.Ideal.{legalStep, legalIf, rebuildP}
-use Rattle.hiding.specs.Machines.Middle.{Items, wanted, clamp, nextStepM, nextM, collectedM, gatheredM, chosenM}
-use Rattle.hiding.specs.Orders.Unread.{unread-read, unread-written, nodup-unread}
-use Rattle.hiding.specs.Machines.Rules.{Orders}
-use Rattle.hiding.specs.Machines.Public.{Later, later-request, later-turn, later-completion, later-collect, hide, unreadIn, plannedP, checked, isNil, decideP, boundsP}
 use Rattle.hiding.specs.Unchanged.{Rest, restOf, complete-rest}
+use Rattle.hiding.specs.Machines.Public.{Later, later-request, later-turn, later-completion, later-collect, hide, unreadIn, plannedP, checked, isNil, decideP, boundsP}
+use Rattle.hiding.specs.Orders.Unread.{unread-read, unread-written, nodup-unread}
+use Rattle.hiding.specs.Machines.Middle.{Items, wanted, clamp, nextStepM, nextM, collectedM, gatheredM, chosenM}
+use Rattle.hiding.specs.Machines.Rules.{Orders}
 
 -- the orders that a state admits
 abbrev pub HiddenOn : State → Orders → Type 0
@@ -105,16 +105,20 @@ module _ (h : Shape) (mark : ℕ → ℕ) (q ℓ : ℕ) where
   pub read-rest : (x : ℕ) → Mem x unreadHere → (j : Key) → ¬ (j ≡ (q, ℓ)) → (a : List ℕ) → Before j a ↔ AfterRead x j a
   read-rest x m j n a = rw (unread-read h mark q ℓ x m, update-other (q, ℓ) (less x unreadHere) (unreadIn h mark) j n) Iff·rfl
 
-  -- a request reads the item of rank clamp k
-  abbrev pub request-trade : (k : ℕ) → 0 < length unreadHere → Trades {D = List ℕ} {E = List ℕ} {H = Orders} (λ o. (j : Key) → Before j (o j)) None (Pick unreadHere) (λ e o. (j : Key) → AfterRead (getD e 0 0) j (o j))
+  -- a trade of all orders; what it leaves of them may depend on what is drawn
+  abbrev pub OrdersTrade : (List ℕ → Type 0) → (List ℕ → Type 0) → (List ℕ → Key → List ℕ → Type 0) → Type 0
+  OrdersTrade Drawn Legal After = Trades {D = List ℕ} {E = List ℕ} {H = Orders} (λ o. (j : Key) → Before j (o j)) Drawn Legal (λ e o. (j : Key) → After e j (o j))
+
+  -- a request reads the item of rank clamp k: its slot is drawn
+  abbrev pub request-trade : (k : ℕ) → 0 < length unreadHere → OrdersTrade None (Pick unreadHere) (λ e. AfterRead (getD e 0 0))
   request-trade k l =
       tradeAt (q, ℓ) Before (λ e. AfterRead (getD e 0 0)) None (Pick unreadHere) (λ e p. read-rest (getD e 0 0) (pick-mem unreadHere e p))
       (join (fetch unreadHere (clamp (length unreadHere) k) (nodup-unread h mark (q, ℓ)) (clamp-lt (length unreadHere) k l))
       (rename (λ y p. (p .0, read-here (getD (y .0) 0 0) (pick-mem unreadHere (y .0) (p .0)) (y .1) .0 (p .1)))
       (λ y p. (p .0, read-here (getD (y .0) 0 0) (pick-mem unreadHere (y .0) (p .0)) (y .1) .1 (p .1))) (λ y p. refl)))
 
-  -- a job reads slot x
-  abbrev pub job-trade : (x : ℕ) → Mem x unreadHere → Trades {D = List ℕ} {E = List ℕ} {H = Orders} (λ o. (j : Key) → Before j (o j)) None (Drew (length unreadHere ∷ [])) (λ e o. (j : Key) → AfterRead x j (o j))
+  -- a job reads slot x: its place is drawn
+  abbrev pub job-trade : (x : ℕ) → Mem x unreadHere → OrdersTrade None (Drew (length unreadHere ∷ [])) (λ e. AfterRead x)
   job-trade x m =
       tradeAt (q, ℓ) Before (λ e. AfterRead x) None (Drew (length unreadHere ∷ [])) (λ e p. read-rest x m)
       (join (locate x unreadHere (nodup-unread h mark (q, ℓ)) m)
@@ -130,8 +134,8 @@ module _ (h : Shape) (mark : ℕ → ℕ) (q ℓ : ℕ) where
     pub written-rest : (j : Key) → ¬ (j ≡ (q, ℓ)) → (o : List ℕ) → Before j o ↔ AfterWritten j o
     written-rest j n o = rw (unread-written h mark q ℓ a b, update-other (q, ℓ) (below (slots ℓ)) (unreadIn h mark) j n) Iff·rfl
 
-    -- a rebuild writes the level anew
-    abbrev pub rebuild-trade : Trades {D = List ℕ} {E = List ℕ} {H = Orders} (λ o. (j : Key) → Before j (o j)) (Drew (orderBounds (slots ℓ))) (Arranges unreadHere) (λ e o. (j : Key) → AfterWritten j (o j))
+    -- a rebuild writes the level anew: what is left of its old order is drawn, and the new one is hidden
+    abbrev pub rebuild-trade : OrdersTrade (Drew (orderBounds (slots ℓ))) (Arranges unreadHere) (λ e. AfterWritten)
     rebuild-trade =
         tradeAt (q, ℓ) Before (λ e. AfterWritten) (Drew (orderBounds (slots ℓ))) (Arranges unreadHere) (λ e p. written-rest)
         (join (renew (slots ℓ) (pow-pos (ℓ + 1)) (Arranges unreadHere))
@@ -176,9 +180,6 @@ module _ (s : State) where
   collect-state none o = Iff·rfl
   collect-state (some r) o = Iff·rfl
 
-  pub none-step : (x : Step) → stepBounds x ≡ [] → (d : List ℕ) → Drew (stepBounds x) d ↔ None d
-  none-step x e d = rw e (none-drew d)
-
   pub rebuild-step : (q t : ℕ) (d : List ℕ) → Drew (stepBounds (rebuild q t)) d ↔ Drew (orderBounds (slots t)) d
   unfolding stepBounds
   rebuild-step q t d = Iff·rfl
@@ -187,21 +188,39 @@ module _ (s : State) where
 abbrev pub wantedRank : State → Items → ℕ → ℕ → ℕ
 wantedRank s it q ℓ = index (wanted (s .request) (it (q, ℓ))) (it (q, ℓ))
 
-pub step-none : (q ℓ x : ℕ) → (stepBounds idle ≡ []) × (stepBounds noDummy ≡ []) × (stepBounds (readForRequest q ℓ x) ≡ []) × (stepBounds (readForJob q ℓ x) ≡ []) × (stepBounds (writeNext q ℓ x) ≡ [])
+-- every step but a rebuild draws nothing
+abbrev pub Quiet : Step → Type 0
+Quiet idle = Unit {0}
+Quiet noDummy = Unit {0}
+Quiet (readForRequest q ℓ x) = Unit {0}
+Quiet (readForJob q ℓ x) = Unit {0}
+Quiet (rebuild q t) = ⊥
+Quiet (writeNext q t x) = Unit {0}
+
+pub quiet : (x : Step) → Quiet x → (d : List ℕ) → Drew (stepBounds x) d ↔ None d
 unfolding stepBounds
-step-none q ℓ x = (refl, refl, refl, refl, refl)
+quiet idle u d = none-drew d
+quiet noDummy u d = none-drew d
+quiet (readForRequest q ℓ x) u d = none-drew d
+quiet (readForJob q ℓ x) u d = none-drew d
+quiet (rebuild q t) u d = absurd u
+quiet (writeNext q t x) u d = none-drew d
 
 abbrev pub tradeStep : (s : State) (it : Items) (x : Step) → OpenP (s .shape) (s .mark) x →
     Trades {D = List ℕ} {E = List ℕ} {H = Orders} (HiddenOn s) (Drew (stepBounds x)) (legalStep (hide s) x) (λ e. HiddenOn (nextStepM s x e))
-tradeStep s it idle k = stays (none-step s idle (step-none 0 0 0 .0)) (λ e o p. Iff·rfl)
-tradeStep s it noDummy k = stays (none-step s noDummy (step-none 0 0 0 .1)) (λ e o p. Iff·rfl)
+tradeStep s it idle k = stays (quiet idle tt) (λ e o p. Iff·rfl)
+tradeStep s it noDummy k = stays (quiet noDummy tt) (λ e o p. Iff·rfl)
 tradeStep s it (readForRequest q ℓ x) k =
-    renamed (HiddenOn s) (legalStep (hide s) (readForRequest q ℓ x)) (none-step s (readForRequest q ℓ x) (step-none q ℓ x .2)) (λ e. read-state s q ℓ (getD e 0 0)) (request-trade (s .shape) (s .mark) q ℓ (wantedRank s it q ℓ) k)
+    renamed (HiddenOn s) (legalStep (hide s) (readForRequest q ℓ x)) (quiet (readForRequest q ℓ x) tt) (λ e. read-state s q ℓ (getD e 0 0))
+    (request-trade (s .shape) (s .mark) q ℓ (wantedRank s it q ℓ) k)
 tradeStep s it (readForJob q ℓ x) k =
-    renamed (HiddenOn s) (legalStep (hide s) (readForJob q ℓ x)) (none-step s (readForJob q ℓ x) (step-none q ℓ x .3)) (λ e. job-state s q ℓ x) (job-trade (s .shape) (s .mark) q ℓ x k)
+    renamed (HiddenOn s) (legalStep (hide s) (readForJob q ℓ x)) (quiet (readForJob q ℓ x) tt) (λ e. job-state s q ℓ x)
+    (job-trade (s .shape) (s .mark) q ℓ x k)
 tradeStep s it (rebuild q t) k =
-    renamed (HiddenOn s) (legalStep (hide s) (rebuild q t)) (rebuild-step s q t) (λ e. rebuild-state s q t (newPlace t (gatheredM s q) [] (s .place)) (leave (chosenM s q) (s .waiting))) (rebuild-trade (s .shape) (s .mark) q t (k .0) (k .1))
-tradeStep s it (writeNext q t x) k = stays (none-step s (writeNext q t x) (step-none q t x .4)) (λ e o p. write-state s q t x o)
+    renamed (HiddenOn s) (legalStep (hide s) (rebuild q t)) (rebuild-step s q t)
+    (λ e. rebuild-state s q t (newPlace t (gatheredM s q) [] (s .place)) (leave (chosenM s q) (s .waiting)))
+    (rebuild-trade (s .shape) (s .mark) q t (k .0) (k .1))
+tradeStep s it (writeNext q t x) k = stays (quiet (writeNext q t x) tt) (λ e o p. write-state s q t x o)
 
 abbrev pub tradeIf : (n : ℕ) (s : State) (it : Items) (l : Later) →
     Trades {D = List ℕ} {E = List ℕ} {H = Orders} (HiddenOn s) (Drew (boundsIf n (hide s) l)) (legalIf n (hide s) l) (λ e. HiddenOn (nextM n s l e))
