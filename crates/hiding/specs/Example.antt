@@ -1,7 +1,8 @@
 -- Two compared lists of a small shape, some of their tapes, and what their runs show: computed.
 -- One partition with two levels, two blocks. Both lists open, make a request, collect it, let the two jobs run and make a second request. The
--- first list writes block 0 and then reads it. The second reads block 1 and then writes block 0, which is nowhere and so costs a dummy. Each has
--- 48 tapes: one order of two slots, one of four. In each list each of the four slots is read with twelve of them, and all else is the same.
+-- first list writes block 0 and then reads it. The second reads block 1 and then writes block 0, which is nowhere and so costs a dummy. The draws
+-- that are not below 1 are one order of two slots and one of four: 48 tapes. In either list each of the four slots of level 1 is read with twelve
+-- of them, and all else is the same.
 use mathlib.Core.Path.{_≡_, refl}
 use mathlib.Core.Bool.{true}
 use mathlib.Core.List.{List, [], _∷_, _++_, map}
@@ -121,14 +122,14 @@ lends r₁ r₂ j a b c =
 pub tapes : (r₁ r₂ : Ask) (j a b c : ℕ) → Tape closed (first two 1000 2 0 ∷ later r₁ r₂) (drawsIn closed (runs r₁ r₂ j a b c))
 tapes r₁ r₂ j a b c = hidden .tapes .drawn closed (first two 1000 2 0 ∷ later r₁ r₂) (runs r₁ r₂ j a b c) (lends r₁ r₂ j a b c)
 
--- .. which are these
-pub tapes-first : each (λ j a b c. drawsIn closed (runs a₁ a₂ j a b c)) ≡ each tape
+-- .. such as these
+pub tapes-first : (drawsIn closed (runs a₁ a₂ 0 0 0 0) ≡ tape 0 0 0 0) × (drawsIn closed (runs a₁ a₂ 1 3 2 1) ≡ tape 1 3 2 1)
 unfolding model calls drawsIn drawsOf
-tapes-first = refl
+tapes-first = (refl, refl)
 
-pub tapes-second : each (λ j a b c. drawsIn closed (runs b₁ b₂ j a b c)) ≡ each tape
+pub tapes-second : (drawsIn closed (runs b₁ b₂ 0 0 0 0) ≡ tape 0 0 0 0) × (drawsIn closed (runs b₁ b₂ 1 3 2 1) ≡ tape 1 3 2 1)
 unfolding model calls drawsIn drawsOf
-tapes-second = refl
+tapes-second = (refl, refl)
 
 -- ---- what their runs show
 

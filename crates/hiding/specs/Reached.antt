@@ -8,28 +8,29 @@ use native.Mathlib.Omega.{arith}
 use lib.ListN.{length, replicate}
 use lib.Dec.{ltb}
 use Rattle.lists.specs.Search.{member}
-use Rattle.rules.specs.Laws.Answers.{accepted-passed}
-use Rattle.rules.specs.Levels
-use Rattle.rules.specs.Laws.Kept.{fresh-in}
-use Rattle.rules.specs.Shape.{Shape, slots, cell}
+use Rattle.rules.specs.Laws.Range.{facts-range}
 use Rattle.rules.specs.Collect.{finished}
+use Rattle.rules.specs.Laws.Kept.{fresh-in}
+use Rattle.rules.specs.Request.{slotIn}
+use Rattle.rules.specs.Levels
 use Rattle.rules.specs.Laws.Decided.{decide-in}
-use Rattle.rules.specs.State.{State, Request, stored}
 use Rattle.rules.specs.Turn.{readForRequest, rebuild, decide}
+use Rattle.rules.specs.State.{State, Request, stored}
+use Rattle.rules.specs.Laws.Answers.{accepted-passed}
 use Rattle.rules.specs.Rebuild
 use Rattle.rules.specs.Rebuild.{gathered}
-use Rattle.rules.specs.Laws.Range.{facts-range}
-use Rattle.reachable.specs.Reached.{Reached, fresh-reached, act-kept}
-use Rattle.reachable.specs.Slots.{gathered-stored, chosen-stored}
-use Rattle.reachable.specs.SentMore.{fresh-sent, sources-read}
-use Rattle.reachable.specs.Uses.{finished-read}
-use Rattle.reachable.specs.SentSteps.{request-unread}
+use Rattle.rules.specs.Shape.{Shape, slots, cell}
 use Rattle.reachable.specs.Decided.{RequestReads, Rebuilds, decided}
+use Rattle.reachable.specs.Uses.{finished-read}
+use Rattle.reachable.specs.SentMore.{fresh-sent, sources-read}
+use Rattle.reachable.specs.SentSteps.{request-unread, slot-own}
+use Rattle.reachable.specs.Reached.{Reached, fresh-reached, act-kept}
 use Rattle.reachable.specs.Never.{always-possible, room-or-waits}
+use Rattle.reachable.specs.Slots.{gathered-stored, chosen-stored}
+use Rattle.hiding.specs.Unchanged.{act-shape, fresh-shape}
+use Rattle.hiding.specs.Machines.Public.{ask}
 use Rattle.hiding.specs.Machines.Middle.{gatheredM, chosenM}
 use Rattle.hiding.specs.Machines.Rules.{called}
-use Rattle.hiding.specs.Machines.Public.{ask}
-use Rattle.hiding.specs.Unchanged.{act-shape, fresh-shape}
 use Rattle.hiding.specs.Machines.Needs.{Reachable}
 
 module _ (s : State) (f : Reached s) where
@@ -42,12 +43,14 @@ module _ (s : State) (f : Reached s) where
       let b : (q < s .shape .P) × (ℓ < s .shape .L) × (x < slots ℓ) = rw d at (decide-in s (f .stored .range)) in
       request-unread s (f .stored) (f .sent) q ℓ x (reads q ℓ x d) (b .1) (b .2) []
 
-  own : (r : Request) (q ℓ x i : ℕ) → decide s ≡ readForRequest q ℓ x → s .request ≡ some r → s .place (r .block) ≡ stored ℓ i → s .holds (cell (s .shape) q ℓ i) ≡ suc (r .block)
-  own r q ℓ x i d e p =
+  own : (r : Request) (q ℓ x : ℕ) → decide s ≡ readForRequest q ℓ x → s .request ≡ some r → slotIn ℓ (s .place (r .block)) ≡ some x →
+      (s .place (r .block) ≡ stored ℓ x) × (s .holds (cell (s .shape) q ℓ x) ≡ suc (r .block))
+  own r q ℓ x d e o =
+      let p = slot-own ℓ x (s .place (r .block)) o in
       let w = reads q ℓ x d in
       let v : w .asked ≡ r = cc (w .inHand, e) in
       let c : q ≡ s .partition (r .block) = sym (w .part) ∙ ap (λ (y : Request). s .partition (y .block)) v in
-      ap (λ z. s .holds (cell (s .shape) z ℓ i)) c ∙ f .stored .agree .placed (r .block) ℓ i ((rw e at (f .stored .range .request)) .block) p .1
+      (p, ap (λ z. s .holds (cell (s .shape) z ℓ x)) c ∙ f .stored .agree .placed (r .block) ℓ x ((rw e at (f .stored .range .request)) .block) p .1)
 
   owned : (r : Request) (q ℓ x i : ℕ) → decide s ≡ readForRequest q ℓ x → s .request ≡ some r → i < slots ℓ →
       s .mark (cell (s .shape) q ℓ i) ≡ 1 → s .holds (cell (s .shape) q ℓ i) ≡ suc (r .block) → s .place (r .block) ≡ stored ℓ i
@@ -92,7 +95,7 @@ reached h q = record {
   gathers = λ s q t k. gathers s (k .0) q t;
   spent = λ s q t ℓ i k. spent s (k .0) q t ℓ i;
   unread = λ s q ℓ x k. unread s (k .0) q ℓ x;
-  own = λ s r q ℓ x i k. own s (k .0) r q ℓ x i;
+  own = λ s r q ℓ x k. own s (k .0) r q ℓ x;
   owned = λ s r q ℓ x i k. owned s (k .0) r q ℓ x i;
   left = λ s r ℓ i k. left s (k .0) r ℓ i;
 }

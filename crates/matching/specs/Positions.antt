@@ -71,6 +71,11 @@ module _ (b : ℕ) where
       same = λ x p. refl;
     }
 
+-- block 1 of a table of fives, with 3 drawn for it: five is shown, and three is hidden in its place
+shown-five : (show 1 (λ b. 5, 3 ∷ 4 ∷ []) .0 ≡ 5 ∷ 4 ∷ []) × (show 1 (λ b. 5, 3 ∷ 4 ∷ []) .1 1 ≡ 3)
+unfolding put
+shown-five = (refl, refl)
+
 -- ---- an open: N draws below P
 
 -- as many numbers below one bound

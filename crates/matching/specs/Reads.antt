@@ -109,6 +109,10 @@ module _ (U : List ℕ) (n : ℕ) where
       same = λ x p. refl;
     }
 
+-- slots 2, 0, 1 in this order: of place 1 slot 0 is shown, and 2, 1 are left
+taken-out : take-out (0 ∷ 1 ∷ 2 ∷ []) 1 (2 ∷ 0 ∷ 1 ∷ [], []) ≡ (0 ∷ [], 2 ∷ 1 ∷ [])
+taken-out = refl
+
 -- ---- slot x is read, wherever it stands
 
 module _ (x : ℕ) (U : List ℕ) where

@@ -8,19 +8,20 @@ use Prim.Native.Nat.{ℕ, suc, _<_}
 use lib.ListN.{length, replicate}
 use lib.Dec.{ltb}
 use Rattle.lists.specs.Search.{member}
-use Rattle.rules.specs.Ranges.{inRange}
-use Rattle.rules.specs.Open.{fresh}
-use Rattle.rules.specs.Questions.{bounds, possible}
-use Rattle.rules.specs.Collect.{finished}
+use Rattle.rules.specs.Laws.Orders.{Drew}
+use Rattle.rules.specs.Rebuild.{gathered, chosen}
 use Rattle.rules.specs.Run.{act}
 use Rattle.rules.specs.State.{stored, Request, State}
-use Rattle.rules.specs.Turn.{readForRequest, rebuild, decide}
-use Rattle.rules.specs.Rebuild.{gathered, chosen}
-use Rattle.rules.specs.Laws.Orders.{Drew}
-use Rattle.rules.specs.Levels.{sources}
 use Rattle.rules.specs.Shape.{Shape, within, slots, cell}
-use Rattle.hiding.specs.Machines.Public.{Later, ask}
+use Rattle.rules.specs.Open.{fresh}
+use Rattle.rules.specs.Collect.{finished}
+use Rattle.rules.specs.Turn.{readForRequest, rebuild, decide}
+use Rattle.rules.specs.Levels.{sources}
+use Rattle.rules.specs.Request.{slotIn}
+use Rattle.rules.specs.Questions.{bounds, possible}
+use Rattle.rules.specs.Ranges.{inRange}
 use Rattle.hiding.specs.Machines.Middle.{chosenM, gatheredM}
+use Rattle.hiding.specs.Machines.Public.{Later, ask}
 use Rattle.hiding.specs.Machines.Rules.{numberR}
 
 pub record Reachable (h : Shape) : Type 1 where
@@ -38,9 +39,9 @@ pub record Reachable (h : Shape) : Type 1 where
   pub spent : (s : State) (q t ℓ i : ℕ) → Holds s → decide s ≡ rebuild q t → ℓ < sources (s .shape) (s .counter q) → i < slots ℓ → ¬ (s .mark (cell (s .shape) q ℓ i) ≡ 1)
   -- what a request is about to read is unread
   pub unread : (s : State) (q ℓ x : ℕ) → Holds s → decide s ≡ readForRequest q ℓ x → s .mark (cell (s .shape) q ℓ x) ≡ 1
-  -- the block of a request that is about to read level ℓ: if its place is there, that slot holds it ..
-  pub own : (s : State) (r : Request) (q ℓ x i : ℕ) → Holds s → decide s ≡ readForRequest q ℓ x → s .request ≡ some r →
-      s .place (r .block) ≡ stored ℓ i → s .holds (cell (s .shape) q ℓ i) ≡ suc (r .block)
+  -- the block of a request that is about to read level ℓ: its own slot there is its place, and holds it ..
+  pub own : (s : State) (r : Request) (q ℓ x : ℕ) → Holds s → decide s ≡ readForRequest q ℓ x → s .request ≡ some r →
+      slotIn ℓ (s .place (r .block)) ≡ some x → (s .place (r .block) ≡ stored ℓ x) × (s .holds (cell (s .shape) q ℓ x) ≡ suc (r .block))
   -- .. and an unread slot there that holds it is its place
   pub owned : (s : State) (r : Request) (q ℓ x i : ℕ) → Holds s → decide s ≡ readForRequest q ℓ x → s .request ≡ some r →
       i < slots ℓ → s .mark (cell (s .shape) q ℓ i) ≡ 1 → s .holds (cell (s .shape) q ℓ i) ≡ suc (r .block) → s .place (r .block) ≡ stored ℓ i

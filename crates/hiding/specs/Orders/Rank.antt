@@ -9,29 +9,28 @@ use native.Mathlib.Omega.{arith}
 use lib.ListN.{length, getD, length-map}
 use lib.Dec.{eqb}
 use borrow.Author.Tests.{eq-eqb, lt-ltb}
-use Rattle.lists.specs.Members.{member-mem, mem-member, mem-below, map-mem, mem-map}
-use Rattle.lists.specs.Places.{index-map}
 use Rattle.lists.specs.Search.{keep, find, isNone, below, member, keep-yes, keep-no, find-yes, find-no}
 use Rattle.lists.specs.Distinct.{Mem, index, index-mem, index-at, index-here, index-there}
+use Rattle.lists.specs.Places.{index-map}
+use Rattle.lists.specs.Members.{member-mem, mem-member, mem-below, map-mem, mem-map}
+use Rattle.rules.specs.Laws.Range.{range-facts}
 use Rattle.rules.specs.Request.{slotIn, dummy}
-use Rattle.rules.specs.Shape.{Shape, slots, cell}
 use Rattle.rules.specs.Laws.Decided.{StepIn, decide-in}
-use Rattle.rules.specs.State.{State, Request, stored}
 use Rattle.rules.specs.Turn
 use Rattle.rules.specs.Turn.{readForRequest, decide}
+use Rattle.rules.specs.State.{State, Request, stored}
 use Rattle.rules.specs.Blocks
 use Rattle.rules.specs.Blocks.{named}
-use Rattle.rules.specs.Laws.Range.{range-facts}
-use Rattle.matching.specs.Reads.{Arranges, arranges-mem}
+use Rattle.rules.specs.Shape.{Shape, slots, cell}
 use Rattle.matching.specs.Keyed.{Key}
-use Rattle.reachable.specs.SentSteps.{slot-own}
+use Rattle.matching.specs.Reads.{Arranges, arranges-mem}
 use Rattle.reachable.specs.Decided.{RequestReads, decided}
-use Rattle.hiding.specs.Machines.Middle.{wanted, clamp}
-use Rattle.hiding.specs.Orders.Unread.{open-in, open-mem}
-use Rattle.hiding.specs.Orders.Decides.{decide-open}
-use Rattle.hiding.specs.Machines.Rules.{itemSlots, itemsIn, ordersOf, itemsOf}
 use Rattle.hiding.specs.Machines.Public.{unreadIn}
+use Rattle.hiding.specs.Machines.Middle.{wanted, clamp}
+use Rattle.hiding.specs.Machines.Rules.{itemSlots, itemsIn, ordersOf, itemsOf}
 use Rattle.hiding.specs.Machines.Needs.{Reachable}
+use Rattle.hiding.specs.Orders.Decides.{decide-open}
+use Rattle.hiding.specs.Orders.Unread.{open-in, open-mem}
 
 -- the first of the kept elements that has value 0
 find-zero : (p : ℕ → Bool) (f : ℕ → ℕ) (xs : List ℕ) (x : ℕ) → find (λ i. p i && isNone (named (f i))) xs ≡ some x →
@@ -128,8 +127,9 @@ module _ (h : Shape) (reach : Reachable h) (s : State) (k : reach .Holds s)
         -- its block is there
         of-block : slotIn ℓ (s .place b) ≡ some x → index (wanted (some r) (map at-slot hs)) (map at-slot hs) ≡ index x hs
         of-block f =
-            let p : s .place b ≡ stored ℓ x = slot-own ℓ x (s .place b) f in
-            let v : at-slot x ≡ suc b = reach .own s r q ℓ x x k e (reads .inHand) p in
+            let o = reach .own s r q ℓ x k e (reads .inHand) f in
+            let p : s .place b ≡ stored ℓ x = o .0 in
+            let v : at-slot x ≡ suc b = o .1 in
             let m : member (suc b) (map at-slot hs) ≡ true = mem-member (suc b) (map at-slot hs) (rw v at (map-mem at-slot x hs in-order)) in
             let want : wanted (some r) (map at-slot hs) ≡ suc b = wanted-block r (map at-slot hs) m in
             rw (want, ← v) (index-map at-slot x hs in-order (λ y m′ d. same-slot y x (sym (place-of y m′ (d ∙ v)) ∙ p)))
