@@ -12,9 +12,10 @@
 --     words, with all other lengths equal but that of a request's contents": `Compared`, `Same`, `Alike`. "A completion names the same kind and
 --     slot", "A request that is well-formed in one is so in the other; its block, kind and contents may differ. Any other request has the same
 --     kind, block and length of contents": `completions`, `wellFormed`, `anyOther`.
---   "A list's tape of drawn numbers has one for each draw of its run, in turn, below the m of that draw, and no more": `Tape`. "A refused call
---     draws nothing": `boundsOf`. `Tapes` (`drawn`, `given`) says that these are what runs draw: of any run, whatever words are lent; and each
---     tape of some run with words of 16 bits. So no list is without tapes, and no run is left out.
+--   "A list's tape of drawn numbers has one for each draw of its run, in turn, below the m of that draw, and no more": `Tape`, by rules' `Drew`.
+--     "A refused call draws nothing": `boundsOf`. `Tapes` says that these are what runs draw: the numbers that any run draws, whatever words
+--     are lent, are a tape (`drawn`), and each tape is drawn by some run with words of 16 bits (`given`). So no list is without tapes, and no
+--     run is left out.
 --   "The words lent to a call are any that give its draws' numbers, then any others": `Gives`; that it does not matter which: `decides`.
 --   "There is a matching: each tape of either list has exactly one partner among the other's": `Matching`. "With partners, the two runs have at
 --     each place the same number answered, the same count of words taken and, for a turn, the same command": `told`, the last lines of `Claim`.

@@ -132,7 +132,7 @@ module _ (n : ℕ) (h : 0 < n) where
     same = λ js p. refl;
   }
 
-  -- The trade of a level that is written anew: the old hidden value, of which nothing more is shown, is drawn now, and the new order is hidden
+  -- The trade of a new order in place of an old hidden value: of the old one nothing more is shown, so it is drawn now; the new one is hidden
   abbrev pub renew : {H : Type 0} (Old : H → Type 0) →
       Match {X = H × List ℕ} {Y = H × List ℕ} {O = Unit {0}} (λ x. Old (x .0) × Drew (orderBounds n) (x .1)) (λ y. Old (y .0) × Arranges (below n) (y .1)) (λ x. tt) (λ y. tt)
   renew Old = record {

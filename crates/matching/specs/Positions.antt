@@ -1,24 +1,23 @@
--- A hidden table of N values below P. The trade of a request: the value of its block is shown, and the one that is drawn for it is hidden in
--- its place. The trade of an open: the values drawn are the table.
+-- A hidden table of N positions below P. Two trades: one position is shown, and the one that is drawn for it is hidden in its place; and the
+-- positions drawn at the start are the table.
 use mathlib.Core.Path.{_≡_, refl, sym, _∙_, fun-ext}
 use mathlib.Core.List.{List, [], _∷_, map}
-use Prim.Native.Nat.{ℕ, zero, suc, _≤_, _<_}
+use Prim.Native.Nat.{ℕ, _≤_, _<_}
 use native.Mathlib.Omega.{arith}
 use native.Mathlib.Decide.{ℕ-discrete, decLt}
-use lib.ListN.{length, getD, replicate, length-map, List·getD-eq-default}
+use lib.ListN.{length, getD, replicate, length-replicate, length-map, List·getD-eq-default}
 use Rattle.lists.specs.Search.{below}
 use Rattle.lists.specs.Lengths.{length-below}
-use Rattle.lists.specs.Members.{getD-map-below}
 use Rattle.lists.specs.Places.{map-getD}
+use Rattle.lists.specs.Members.{getD-map-below}
 use Rattle.lists.specs.Tables.{put, put-same, put-other, put-put, put-own}
-use Rattle.rules.specs.Laws.Orders.{Drew, drew-length}
-use Rattle.matching.specs.Match.{Match}
+use Rattle.rules.specs.Laws.Orders.{Drew, drew-length, drew-each, each-drew}
 use Rattle.matching.specs.Trades.{Trades, None}
 
 abbrev pub Positions : Type 0
 Positions = ℕ → ℕ
 
--- one below P for each of N blocks, and 0 past them
+-- one position below P for each number below N, and 0 past them
 abbrev pub Placed : ℕ → ℕ → Positions → Type 0
 Placed N P pos = ((b : ℕ) → b < N → pos b < P) × ((b : ℕ) → N ≤ b → pos b ≡ 0)
 
@@ -33,7 +32,7 @@ placed-put N P b x pos l m p = (λ a k. go a k (ℕ-discrete a b), λ a k. put-o
     go a k (yes e) = rw (e, put-same b x pos) m
     go a k (no e) = rw (put-other b x pos a e) (p .0 a k)
 
--- ---- a request for block b: its first draw is below P, and any others, below ms, stay
+-- ---- the position of b is shown: the first draw is below P, and any others, below ms, stay
 module _ (b : ℕ) where
   abbrev pub show : Positions × List ℕ → List ℕ × Positions
   show (pos, []) = ([], pos)
@@ -71,27 +70,12 @@ module _ (b : ℕ) where
       same = λ x p. refl;
     }
 
--- block 1 of a table of fives, with 3 drawn for it: five is shown, and three is hidden in its place
+-- position 1 of a table of fives, with 3 drawn for it: five is shown, and three is hidden in its place
 shown-five : (show 1 (λ b. 5, 3 ∷ 4 ∷ []) .0 ≡ 5 ∷ 4 ∷ []) × (show 1 (λ b. 5, 3 ∷ 4 ∷ []) .1 1 ≡ 3)
 unfolding put
 shown-five = (refl, refl)
 
--- ---- an open: N draws below P
-
--- as many numbers below one bound
-drew-many : (n m : ℕ) (ds : List ℕ) → Drew (replicate n m) ds → (length ds ≡ n) × ((k : ℕ) → k < n → getD ds k 0 < m)
-drew-many zero m [] p = (refl, λ k h. absurd (omega arith))
-drew-many zero m (d ∷ ds) p = absurd p
-drew-many (suc n) m [] p = absurd p
-drew-many (suc n) m (d ∷ ds) p =
-    let r = drew-many n m ds (p .1) in
-    (omega arith, λ k. elim k [ zero ↦ λ h. p .0 | suc k ↦ λ h. r .1 k (omega arith) ])
-
-many-drew : (n m : ℕ) (ds : List ℕ) → length ds ≡ n → ((k : ℕ) → k < n → getD ds k 0 < m) → Drew (replicate n m) ds
-many-drew zero m [] e f = tt
-many-drew zero m (d ∷ ds) e f = absurd (omega arith)
-many-drew (suc n) m [] e f = absurd (omega arith)
-many-drew (suc n) m (d ∷ ds) e f = (f zero (omega arith), many-drew n m ds (omega arith) (λ k h. f (suc k) (omega arith)))
+-- ---- the start: N draws below P
 
 module _ (N P : ℕ) where
   abbrev pub settle : Positions × List ℕ → List ℕ × Positions
@@ -102,12 +86,12 @@ module _ (N P : ℕ) where
 
   pub settle-ok : (e : List ℕ) → Drew (replicate N P) e → Placed N P (λ b. getD e b 0) × (map (λ b. getD e b 0) (below N) ≡ e)
   settle-ok e p =
-      let m = drew-many N P e p in
-      ((m .1, λ b l. List·getD-eq-default e 0 (omega arith)), map-getD e N (m .0))
+      let n : length e ≡ N = drew-length (replicate N P) e p ∙ length-replicate N P in
+      ((drew-each N P e p, λ b l. List·getD-eq-default e 0 (omega arith)), map-getD e N n)
 
   pub unsettle-ok : (pos : Positions) → Placed N P pos → Drew (replicate N P) (map pos (below N)) × ((λ (b : ℕ). getD (map pos (below N)) b 0) ≡ pos)
   unsettle-ok pos p = (
-    many-drew N P (map pos (below N)) size (λ k l. rw (getD-map-below pos N k 0 l) (p .0 k l)),
+    each-drew N P (map pos (below N)) size (λ k l. rw (getD-map-below pos N k 0 l) (p .0 k l)),
     fun-ext (λ b. go b (decLt b N)),
   )
     where

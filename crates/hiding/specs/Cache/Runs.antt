@@ -150,9 +150,9 @@ module _ (e : ℕ) (h : Shape) (he : 1 ≤ e) (le : e ≤ h .N) (m : ℕ) (ws : 
   unfolding Shape.within Tests.between
   within-E = rw (le-leb 1 e he, le-leb e (h .N) le, le-leb 1 (h .N) (omega arith), le-leb (h .N) (h .N) (omega arith))
 
-  open-number : number closed (openOver (h .N) h m ws k) ≡ number closed (openOver e h m ws k)
+  open-alike : number closed (openOver (h .N) h m ws k) ≡ number closed (openOver e h m ws k)
   unfolding number questions bounds Memory.needed
-  open-number = rw within-E
+  open-alike = rw within-E
 
   smaller-cache : (cs : List Call) → NoOpen cs → AgreeUntil8 (run closed (openOver (h .N) h m ws k ∷ cs)) (run closed (openOver e h m ws k ∷ cs))
   unfolding run
@@ -175,9 +175,9 @@ module _ (e : ℕ) (h : Shape) (he : 1 ≤ e) (le : e ≤ h .N) (m : ℕ) (ws : 
 
       go : (t : Bool) → eqb (number closed (openOver e h m ws k)) 0 ≡ t → AgreeUntil8 (run closed (openOver (h .N) h m ws k ∷ cs)) (run closed (openOver e h m ws k ∷ cs))
       go true q = let z = eqb-true (number closed (openOver e h m ws k)) 0 q in
-          rw (yes-one e z, yes-one (h .N) (open-number ∙ z)) (equal refl (cache-run e (h .N) le he cs s s-fits l))
+          rw (yes-one e z, yes-one (h .N) (open-alike ∙ z)) (equal refl (cache-run e (h .N) le he cs s s-fits l))
       go false q = let z = eqb-false (number closed (openOver e h m ws k)) 0 q in
-          rw (no-one e z, no-one (h .N) (rw open-number z), open-number) (agree-refl (Run.refused (number closed (openOver e h m ws k)) ∷ run closed cs))
+          rw (no-one e z, no-one (h .N) (rw open-alike z), open-alike) (agree-refl (Run.refused (number closed (openOver e h m ws k)) ∷ run closed cs))
 
 -- whatever was before an open
 run-open : (s : State) (h : Shape) (e m n : ℕ) (ws : List ℕ) (cs : List Call) → run s (openOver e h m ws n ∷ cs) ≡ run closed (openOver e h m ws n ∷ cs)

@@ -11,15 +11,16 @@ use lib.Seq.{take-at, drop-at}
 use lib.Dec.{eqb}
 use borrow.Author.Tests.{eqb-true, leb-true}
 use Rattle.lists.specs.All.{All, nil, cons, all-append, all-replicate}
+use Rattle.rules.specs.Laws.Answers.{accepted-passed}
 use Rattle.rules.specs.Questions.{Call, bounds, number}
-use Rattle.rules.specs.Draws.{draw, draws, drawnFirst}
 use Rattle.rules.specs.State.{State}
 use Rattle.rules.specs.Laws.Orders.{Drew, drew-length}
-use Rattle.rules.specs.Laws.Answers.{accepted-passed}
 use Rattle.rules.specs.Run.{numbersOf, step, run, Outcome}
-use Rattle.hiding.specs.Orders.Number.{enough}
+use Rattle.rules.specs.Draws.{draw, draws, drawnFirst}
+use Rattle.matching.specs.Trades.{none-drew}
 use Rattle.hiding.specs.Claim
 use Rattle.hiding.specs.Claim.{Lent, lend, numberOf, boundsOf, nextOf, Tape, Lends, drawsOf, drawsIn, Gives, Short, Tapes}
+use Rattle.hiding.specs.Orders.Number.{enough}
 use Rattle.hiding.specs.Lists.Calls.{stepped, number-lent, passed-bounds, drew-passed, same-draws}
 
 -- ---- a run's numbers are a tape
@@ -60,10 +61,6 @@ draws-back [] (j ∷ js) ws p = absurd p
 draws-back (m ∷ ms) [] ws p = absurd p
 draws-back (m ∷ ms) (j ∷ js) ws p = rw (mod-eq-of-lt (p .0), draws-back ms js ws (p .1))
 
-drew-nil : (d : List ℕ) → Drew [] d → d ≡ []
-drew-nil [] p = refl
-drew-nil (x ∷ d) p = absurd p
-
 drew-short : (ms js : List ℕ) → All (λ m. (0 < m) × (m ≤ 2 ^ 16)) ms → Drew ms js → All (λ w. w < 2 ^ 16) js
 drew-short [] [] h d = nil
 drew-short [] (j ∷ js) h d = absurd d
@@ -75,9 +72,9 @@ module _ (s : State) (a : Lent) (js : List ℕ) (b : Drew (boundsOf s a) js) whe
   words = padded (a .words) js
 
   -- the call is lent enough words for them
-  checked : length js ≤ a .words
+  lent-enough : length js ≤ a .words
   unfolding boundsOf numberOf
-  checked = go (eqb (numberOf s a) 0) refl
+  lent-enough = go (eqb (numberOf s a) 0) refl
     where
       go : (t : Bool) → eqb (numberOf s a) 0 ≡ t → length js ≤ a .words
       go true f =
@@ -89,7 +86,7 @@ module _ (s : State) (a : Lent) (js : List ℕ) (b : Drew (boundsOf s a) js) whe
           zeroth : State → ℕ
           zeroth s = 0
       go false f =
-          let e = drew-nil js (rw f at b) in
+          let e = none-drew js .0 (rw f at b) in
           omega (arith, ap length e)
 
   words-short : All (λ w. w < 2 ^ 16) words
@@ -100,10 +97,10 @@ module _ (s : State) (a : Lent) (js : List ℕ) (b : Drew (boundsOf s a) js) whe
       go true f =
           let p = passed-bounds s (a .ask) (a .memory) (replicate (a .words) 0) (a .buffer) (accepted-passed s (lend a (replicate (a .words) 0)) (eqb-true (numberOf s a) 0 f)) .0 in
           drew-short (bounds s (a .ask)) js p (rw f at b)
-      go false f = rw (drew-nil js (rw f at b)) nil
+      go false f = rw (none-drew js .0 (rw f at b)) nil
 
   words-length : length words ≡ a .words
-  words-length = simp (length-append, length-replicate) (omega (arith, checked))
+  words-length = simp (length-append, length-replicate) (omega (arith, lent-enough))
 
   words-draw : drawsOf s (lend a words) ≡ js
   unfolding drawsOf boundsOf numbersOf
@@ -114,7 +111,7 @@ module _ (s : State) (a : Lent) (js : List ℕ) (b : Drew (boundsOf s a) js) whe
 
       go : (t : Bool) → eqb (numberOf s a) 0 ≡ t → drawsOf s (lend a words) ≡ js
       go true f = rw (n, f, draws-back (bounds s (a .ask)) js (replicate (a .words - length js) 0) (rw f at b))
-      go false f = rw (n, f) (sym (drew-nil js (rw f at b)))
+      go false f = rw (n, f) (sym (none-drew js .0 (rw f at b)))
 
 -- every tape of a list is given by some words
 tape-words : (as′ : List Lent) (s : State) (t : List ℕ) → Tape s as′ t → (cs : List Call) × (Gives s as′ t cs × Short cs)

@@ -8,27 +8,28 @@ use lib.ListN.{length, replicate, length-replicate}
 use lib.Dec.{eqb, leb, ltb, leb·zero, leb·suc-zero, leb·suc-suc}
 use borrow.Author.Tests.{leb-true, ltb-true, lt-ltb}
 use Rattle.lists.specs.Members.{mem-member}
-use Rattle.lists.specs.Distinct.{Mem}
 use Rattle.lists.specs.Search.{isNone, any, orElse, member}
 use Rattle.lists.specs.Tests.{if_then_else_, between, and-l, and-r, every-yes}
-use Rattle.rules.specs.Questions.{possible, inHand, sends, bounds, ready, questions, firstNo, number}
+use Rattle.lists.specs.Distinct.{Mem}
+use Rattle.rules.specs.Memory.{needed}
+use Rattle.rules.specs.Laws.Kept.{kind-read}
+use Rattle.rules.specs.Blocks
+use Rattle.rules.specs.Levels
 use Rattle.rules.specs.Laws.Range.{range-facts}
+use Rattle.rules.specs.Request.{held, levelsLeft, slotIn, dummy}
+use Rattle.rules.specs.Shape.{Shape, within}
+use Rattle.rules.specs.Rebuild
+use Rattle.rules.specs.State.{State, Request, nowhere, read}
 use Rattle.rules.specs.Collect.{finished}
 use Rattle.rules.specs.Turn
 use Rattle.rules.specs.Turn.{Step, idle, noDummy, readForRequest, readForJob, rebuild, writeNext, firstRead, readStep, requestStep, jobStep, decide, command, stepBounds}
+use Rattle.rules.specs.Questions.{possible, inHand, sends, bounds, ready, questions, firstNo, number}
 use Rattle.rules.specs.Ranges.{isKind, bytesOf, inRange}
-use Rattle.rules.specs.Blocks
-use Rattle.rules.specs.State.{State, Request, nowhere, read}
-use Rattle.rules.specs.Shape.{Shape, within}
-use Rattle.rules.specs.Request.{held, levelsLeft, slotIn, dummy}
 use Rattle.rules.specs.Draws.{Drawn, draw, draws, drawnFirst}
-use Rattle.rules.specs.Levels
-use Rattle.rules.specs.Rebuild
-use Rattle.rules.specs.Memory.{needed}
 use Rattle.hiding.specs.Machines.Rules.{numberR}
-use Rattle.hiding.specs.Machines.Public.{Later, later-request, later-turn, later-completion, later-collect, ask, formed, publicAsk, publicLater, publicRequest, blank, hide, requestStepP, plannedP, checked, isNil, decideP, boundsP, questionsP, numberP}
 use Rattle.hiding.specs.Orders.Decides.{OpenStep, decide-open}
 use Rattle.hiding.specs.Machines.Needs.{Reachable}
+use Rattle.hiding.specs.Machines.Public.{Later, later-request, later-turn, later-completion, later-collect, ask, formed, publicAsk, publicLater, publicRequest, blank, hide, requestStepP, plannedP, checked, isNil, decideP, boundsP, questionsP, numberP}
 
 -- words are enough if there is one for each draw
 pub enough : (ms ws : List ℕ) → not (isNone (draws ms ws)) ≡ leb (length ms) (length ws)
@@ -182,10 +183,6 @@ unfolding formed
 formed-facts h k b n e =
     let r = and-r (isKind k) (ltb b (h .N) && eqb n (bytesOf h k)) e in
     (and-l (isKind k) (ltb b (h .N) && eqb n (bytesOf h k)) e, and-l (ltb b (h .N)) (eqb n (bytesOf h k)) r, and-r (ltb b (h .N)) (eqb n (bytesOf h k)) r)
-
-kind-read : isKind read ≡ true
-unfolding isKind between
-kind-read = refl
 
 bytes-read : (h : Shape) → eqb 0 (bytesOf h read) ≡ true
 unfolding bytesOf

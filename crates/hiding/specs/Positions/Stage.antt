@@ -9,30 +9,30 @@ use native.Mathlib.Omega.{arith}
 use lib.ListN.{length, replicate}
 use lib.Dec.{eqb, ltb}
 use borrow.Author.Tests.{ltb-true, lt-ltb}
-use Rattle.lists.specs.Tables.{put}
-use Rattle.lists.specs.Tests.{if_then_else_}
 use Rattle.lists.specs.Search.{isNone}
+use Rattle.lists.specs.Tests.{if_then_else_}
+use Rattle.lists.specs.Tables.{put}
+use Rattle.rules.specs.Blocks
 use Rattle.rules.specs.Request.{passLevel, accept}
+use Rattle.rules.specs.Laws.Orders.{Drew}
+use Rattle.rules.specs.Shape.{Shape}
+use Rattle.rules.specs.Open.{fresh}
+use Rattle.rules.specs.State.{State, Command, Request}
 use Rattle.rules.specs.Completion
 use Rattle.rules.specs.Completion.{complete}
 use Rattle.rules.specs.Questions.{firstNo}
-use Rattle.rules.specs.Shape.{Shape}
-use Rattle.rules.specs.State.{State, Command, Request}
 use Rattle.rules.specs.Turn
 use Rattle.rules.specs.Turn.{Step, idle, noDummy, readForRequest, readForJob, rebuild, writeNext, doStep}
-use Rattle.rules.specs.Blocks
-use Rattle.rules.specs.Laws.Orders.{Drew}
-use Rattle.rules.specs.Open.{fresh}
 use Rattle.matching.specs.Deferred.{Trade, full}
+use Rattle.matching.specs.Trades.{None, Trades, stays, renamed, none-drew, telling}
 use Rattle.matching.specs.Positions.{Positions, Zero, settled, show}
 use Rattle.matching.specs.Machine.{Machine, along}
 use Rattle.matching.specs.TwoLists.{Stage}
-use Rattle.matching.specs.Trades.{None, Trades, stays, renamed, none-drew, telling}
+use Rattle.hiding.specs.Orders.Number.{formed-facts}
+use Rattle.hiding.specs.Machines.Middle.{Mid, shut, dead, on, nextStepM, collectedM, nextM, boundsOpen, openM, mid, mid-legal, mid-next, mid-seen}
+use Rattle.hiding.specs.Positions.Trades.{PlacedIn, askP, tradeP, next-shape, fresh-placed}
 use Rattle.hiding.specs.Machines.Ideal
 use Rattle.hiding.specs.Machines.Ideal.{seenIf, Seen, legalIf, rebuildP, nextStepI, collectedI, nextI, Ideal, openI, ideal, ideal-legal, ideal-next, ideal-seen}
-use Rattle.hiding.specs.Positions.Trades.{PlacedIn, askP, tradeP, next-shape, fresh-placed}
-use Rattle.hiding.specs.Machines.Middle.{Mid, Items, shut, dead, on, nextStepM, collectedM, nextM, boundsOpen, openM, mid, mid-legal, mid-next, mid-seen}
-use Rattle.hiding.specs.Orders.Number.{formed-facts}
 use Rattle.hiding.specs.Machines.Public.{Later, later-request, later-turn, later-completion, later-collect, Entry, first, later, formed, publicAsk, publicLater, publicEntry, present, blank, hide, decideP, questionsP, numberP, numberOpen}
 
 -- ---- the public part of the next state is the ideal machine's next state
@@ -60,12 +60,12 @@ unfolding passLevel
 pass-positions f ℓ none = refl
 pass-positions f ℓ (some r) = refl
 
-none-blank : (o : Option Request) → isNone (blank o) ≡ true → o ≡ none
+blank-none : (o : Option Request) → isNone (blank o) ≡ true → o ≡ none
 unfolding isNone
-none-blank none e = refl
-none-blank (some r) e = absurd (true≢false (sym e))
+blank-none none e = refl
+blank-none (some r) e = absurd (true≢false (sym e))
 
-module _ (s : State) (it : Items) where
+module _ (s : State) where
   -- hidden parts of a next state
   abbrev Leads : State → State → Type 0
   Leads i′ s′ = (i′ ≡ hide s′) × (positions s ≡ positions s′)
@@ -133,8 +133,8 @@ unfolding numberP questionsP
 asked s k b bs m w n e = go (formed (s .shape) k b (length bs)) refl e
   where
     go : (t : Bool) → formed (s .shape) k b (length bs) ≡ t → numberP (hide s) (publicAsk t k b (length bs)) m w n ≡ 0 → (s .request ≡ none) × (b < s .shape .N)
-    go true f e = (none-blank (s .request) (firstNo-ask _ _ _ _ _ _ e .1), ltb-true b (s .shape .N) (formed-facts (s .shape) k b (length bs) f .1))
-    go false f e = let r = firstNo-ask _ _ _ _ _ _ e in (none-blank (s .request) (r .1), ltb-true b (s .shape .N) (r .2))
+    go true f e = (blank-none (s .request) (firstNo-ask _ _ _ _ _ _ e .1), ltb-true b (s .shape .N) (formed-facts (s .shape) k b (length bs) f .1))
+    go false f e = let r = firstNo-ask _ _ _ _ _ _ e in (blank-none (s .request) (r .1), ltb-true b (s .shape .N) (r .2))
 
 module _ (h : Shape) where
   abbrev pub outside : Machine Entry (List ℕ) Seen
@@ -209,7 +209,7 @@ module _ (h : Shape) where
 
     ask-shows : (k b : ℕ) (bs : List ℕ) (t : Bool) (q : ltb b (s .shape .N) ≡ t) → t ≡ true → s .request ≡ none → legalIf zero (hide s) (later-request k b bs) e →
         Shows (later-request k b bs) zero (askP h (hide s) k b bs t q .f (positions s, e))
-    ask-shows k b bs true q i n p = (seen-public (show b (positions s, e) .0), ask-leads s (λ k. []) h k b bs e n p)
+    ask-shows k b bs true q i n p = (seen-public (show b (positions s, e) .0), ask-leads s h k b bs e n p)
       where
         seen-public : (e′ : List ℕ) → seenIf zero (hide s) (later-request k b bs) e ≡ seenIf zero (hide s) (publicLater h (later-request k b bs)) e′
         seen-public e′ = go (formed h k b (length bs))
@@ -224,9 +224,9 @@ module _ (h : Shape) where
     call-shows (later-request k b bs) m w n zero q p =
         let r = asked s k b bs m w n (subst (λ h′. numberP (hide s) (publicLater h′ (later-request k b bs)) m w n ≡ 0) (sym same) q) in
         ask-shows k b bs (ltb b (s .shape .N)) refl (lt-ltb b (s .shape .N) (r .1)) (r .0) p
-    call-shows later-turn m w n zero q p = (refl, step-leads s (λ k. []) (decideP (hide s)) e)
-    call-shows (later-completion c bs) m w n zero q p = (refl, complete-leads s (λ k. []) c bs (replicate (length bs) 0))
-    call-shows later-collect m w n zero q p = (refl, collect-leads s (λ k. []) (s .request) refl)
+    call-shows later-turn m w n zero q p = (refl, step-leads s (decideP (hide s)) e)
+    call-shows (later-completion c bs) m w n zero q p = (refl, complete-leads s c bs (replicate (length bs) 0))
+    call-shows later-collect m w n zero q p = (refl, collect-leads s (s .request) refl)
 
   start-shows : (e : List ℕ) (j : ℕ) → Drew (boundsOpen h j) e → (openI h j, start₂ j .f (λ b. 0, e) .1) ≡ publicView (openM h j e)
   unfolding fresh

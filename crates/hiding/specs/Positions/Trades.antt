@@ -14,9 +14,10 @@ use Rattle.rules.specs.Turn.{Step, idle, noDummy, readForRequest, readForJob, r
 use Rattle.rules.specs.State.{State, Request}
 use Rattle.rules.specs.Shape.{Shape}
 use Rattle.matching.specs.Positions.{Positions, Placed, position}
+use Rattle.matching.specs.Match.{join, rename}
 use Rattle.matching.specs.Trades.{Trades, stays}
-use Rattle.hiding.specs.Machines.Public.{Later, later-request, later-turn, later-completion, later-collect, formed, publicAsk, publicLater, hide, decideP}
 use Rattle.hiding.specs.Machines.Ideal.{legalIf, rebuildP, nextStepI, collectedI, nextI}
+use Rattle.hiding.specs.Machines.Public.{Later, later-request, later-turn, later-completion, later-collect, formed, publicAsk, publicLater, hide, decideP}
 use Rattle.hiding.specs.Unchanged.{Rest, complete-rest}
 
 -- one position below P for each of N blocks
@@ -69,16 +70,12 @@ module _ (h : Shape) (i : State) where
   -- a request, for a block of the store or not
   abbrev pub askP : (k b : ℕ) (bs : List ℕ) (t : Bool) → ltb b (i .shape .N) ≡ t → TradeP zero (later-request k b bs)
   askP k b bs true l =
-      let m = position b (i .shape .N) (i .shape .P) (i .shape .P ∷ []) (ltb-true b (i .shape .N) l) in
-      record {
-        f = m .f;
-        g = m .g;
-        f-ok = λ x p. let r = m .f-ok x p in (legal-public zero (later-request k b bs) (m .f x .0) .0 (r .0), placed-next zero (publicLater h (later-request k b bs)) (m .f x .0) (m .f x .1) .0 (r .1));
-        g-ok = λ y p. m .g-ok y (legal-public zero (later-request k b bs) (y .0) .1 (p .0), placed-next zero (publicLater h (later-request k b bs)) (y .0) (y .1) .1 (p .1));
-        g-f = λ x p. m .g-f x p;
-        f-g = λ y p. m .f-g y (legal-public zero (later-request k b bs) (y .0) .1 (p .0), placed-next zero (publicLater h (later-request k b bs)) (y .0) (y .1) .1 (p .1));
-        same = λ x p. refl;
-      }
+      join (position b (i .shape .N) (i .shape .P) (i .shape .P ∷ []) (ltb-true b (i .shape .N) l))
+      (rename (λ y p. (seen y .0 .0 (p .0), seen y .1 .0 (p .1))) (λ y p. (seen y .0 .1 (p .0), seen y .1 .1 (p .1))) (λ y p. refl))
+    where
+      seen : (y : List ℕ × Positions) → (legalIf zero i (later-request k b bs) (y .0) ↔ legalIf zero i (publicLater h (later-request k b bs)) (y .0))
+          × (PlacedIn (i .shape) (y .1) ↔ PlacedIn ((nextI zero i (publicLater h (later-request k b bs)) (y .0)) .shape) (y .1))
+      seen y = (legal-public zero (later-request k b bs) (y .0), placed-next zero (publicLater h (later-request k b bs)) (y .0) (y .1))
   askP k b bs false l = stayP zero (later-request k b bs)
 
   abbrev pub tradeP : (n : ℕ) (l : Later) → TradeP n l

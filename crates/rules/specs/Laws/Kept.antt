@@ -3,47 +3,47 @@ use mathlib.Core.Path.{_≡_, refl, sym}
 use mathlib.Core.Bool.{Bool, true, false, not, true≢false}
 use mathlib.Core.List.{List, [], _∷_, _++_, map}
 use mathlib.Core.Option.{Option, none, some}
-use Prim.Native.Nat.{ℕ, zero, suc, _+_, _-_, _^_, _≤_, _<_}
+use Prim.Native.Nat.{ℕ, suc, _+_, _-_, _^_, _≤_, _<_}
 use native.Mathlib.Nat.{mod-lt}
 use native.Mathlib.Omega.{arith}
-use lib.ListN.{length, getD, replicate, length-append}
+use lib.ListN.{length, replicate, length-append}
 use lib.Dec.{eqb, leb}
 use lib.Pow.{pow-pos}
 use borrow.Author.Tests.{eqb-true, eqb-false, leb-true, ltb-true}
-use Rattle.lists.specs.Tables.{put, putAll-has, put-has}
-use Rattle.lists.specs.All.{All, nil, cons, IfSome, all-append, all-keep, all-without, all-getD, map-below, all-replicate, below-below}
-use Rattle.lists.specs.Tests
-use Rattle.lists.specs.Tests.{if_then_else_, and-l, and-r}
-use Rattle.lists.specs.Lengths.{without-length}
 use Rattle.lists.specs.Search
 use Rattle.lists.specs.Search.{indexOf}
-use Rattle.rules.specs.Laws.Waiting.{Waits, leave-waits, pass-waits, others-room, waits-le}
-use Rattle.rules.specs.Laws.Layout.{cell-inj, offset-in}
-use Rattle.rules.specs.Laws.Answers.{Passed, accepted-passed, step-accepted, step-refused}
-use Rattle.rules.specs.Request
-use Rattle.rules.specs.Questions
-use Rattle.rules.specs.Questions.{Ask, opening, request, turn, completion, collect, Call, bounds, questions, number}
-use Rattle.rules.specs.Completion
-use Rattle.rules.specs.Laws.Levels.{grown-lt, partitions-pos, levels-pos, slots-le}
-use Rattle.rules.specs.Laws.RangeSetters.{inPlace, inBytes, inCounter, inOrder, inMark, inHolds, inWaiting, inQueue, inCursor, inSent, inOutstanding, inRequest}
-use Rattle.rules.specs.Levels.{grown}
+use Rattle.lists.specs.Lengths.{without-length}
+use Rattle.lists.specs.Tests
+use Rattle.lists.specs.Tests.{if_then_else_, and-l, and-r}
+use Rattle.lists.specs.All.{All, nil, cons, IfSome, all-append, all-keep, all-without, all-getD, map-below, all-replicate, below-below}
+use Rattle.lists.specs.Tables.{put, putAll-has, put-has}
 use Rattle.rules.specs.Memory
-use Rattle.rules.specs.Shape.{Shape, cell, slots, within}
-use Rattle.rules.specs.Draws.{newOrder, Drawn, draw, draws, drawnFirst}
-use Rattle.rules.specs.Collect
-use Rattle.rules.specs.Laws.Decided.{StepIn, stepBounds-pos, decide-in}
-use Rattle.rules.specs.State.{State, closed, Command, Place, nowhere, stored, Request}
-use Rattle.rules.specs.Turn
-use Rattle.rules.specs.Turn.{Step, idle, noDummy, readForRequest, readForJob, rebuild, writeNext, decide, doStep}
 use Rattle.rules.specs.Blocks
-use Rattle.rules.specs.Laws.Orders.{Drew, order-below, length-order}
-use Rattle.rules.specs.Ranges.{inRange, others, isKind}
-use Rattle.rules.specs.Open
-use Rattle.rules.specs.Run
-use Rattle.rules.specs.Run.{act, step, after}
+use Rattle.rules.specs.Levels.{grown}
+use Rattle.rules.specs.Laws.Range.{PlaceIn, CommandIn, RequestIn, JobsIn, InRange, range-facts}
+use Rattle.rules.specs.Request
+use Rattle.rules.specs.Laws.Orders.{Drew, drew-each, order-below, length-order}
+use Rattle.rules.specs.Laws.Levels.{grown-lt, partitions-pos, levels-pos, slots-le}
+use Rattle.rules.specs.Laws.Layout.{cell-inj, offset-in}
+use Rattle.rules.specs.Shape.{Shape, cell, slots, within}
+use Rattle.rules.specs.Laws.Decided.{StepIn, stepBounds-pos, decide-in}
 use Rattle.rules.specs.Rebuild
 use Rattle.rules.specs.Rebuild.{places}
-use Rattle.rules.specs.Laws.Range.{PlaceIn, CommandIn, RequestIn, JobsIn, InRange, range-facts}
+use Rattle.rules.specs.Laws.RangeSetters.{inPlace, inBytes, inCounter, inOrder, inMark, inHolds, inWaiting, inQueue, inCursor, inSent, inOutstanding, inRequest}
+use Rattle.rules.specs.Open
+use Rattle.rules.specs.State.{State, closed, Command, Place, nowhere, stored, Request}
+use Rattle.rules.specs.Run
+use Rattle.rules.specs.Run.{act, step, after}
+use Rattle.rules.specs.Collect
+use Rattle.rules.specs.Laws.Answers.{Passed, accepted-passed, step-accepted, step-refused}
+use Rattle.rules.specs.Laws.Waiting.{Waits, leave-waits, pass-waits, others-room, waits-le}
+use Rattle.rules.specs.Questions
+use Rattle.rules.specs.Questions.{Ask, opening, request, turn, completion, collect, Call, bounds, questions, number}
+use Rattle.rules.specs.Turn
+use Rattle.rules.specs.Turn.{Step, idle, noDummy, readForRequest, readForJob, rebuild, writeNext, decide, doStep}
+use Rattle.rules.specs.Completion
+use Rattle.rules.specs.Ranges.{inRange, others, isKind}
+use Rattle.rules.specs.Draws.{newOrder, Drawn, draw, draws, drawnFirst}
 
 -- Commands sent
 pub kind-read : isKind 1 ≡ true
@@ -196,17 +196,11 @@ module _ (s : State) (f : InRange s) where
   }
 
 -- A fresh state
-pub drew-below : (n p b : ℕ) (js : List ℕ) → 0 < p → Drew (replicate n p) js → getD js b 0 < p
-drew-below n p b [] h d = h
-drew-below zero p b (j ∷ js) h d = absurd d
-drew-below (suc n) p zero (j ∷ js) h d = d .0
-drew-below (suc n) p (suc b) (j ∷ js) h d = drew-below n p b js h (d .1)
-
 pub fresh-in : (h : Shape) (js : List ℕ) → within h ≡ true → Drew (replicate (h .N) (h .P)) js → InRange (Open.fresh h js)
 unfolding Open.fresh
 fresh-in h js w d = record {
   shape = w;
-  partitions = λ b hb. drew-below (h .N) (h .P) b js (partitions-pos h w) d;
+  partitions = λ b hb. drew-each (h .N) (h .P) js d b hb;
   places = λ b hb. tt;
   counters = λ q hq. pow-pos (h .L);
   orders = λ q ℓ i hq hℓ hi. pow-pos (ℓ + 1);

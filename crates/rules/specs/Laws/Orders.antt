@@ -3,7 +3,7 @@ use mathlib.Core.Path.{_≡_, refl, ap, sym, _∙_}
 use mathlib.Core.List.{List, [], _∷_}
 use Prim.Native.Nat.{ℕ, zero, suc, _-_, _≤_, _<_}
 use native.Mathlib.Omega.{arith}
-use lib.ListN.{length, getD, set, length-set}
+use lib.ListN.{length, getD, set, replicate, length-set}
 use mathlib.Core.Logic.{ite}
 use native.Mathlib.Decide.{ℕ-discrete}
 use lib.Seq.{getD-set-same, getD-set-other}
@@ -57,6 +57,19 @@ drew-length [] [] d = refl
 drew-length [] (j ∷ js) d = absurd d
 drew-length (m ∷ ms) [] d = absurd d
 drew-length (m ∷ ms) (j ∷ js) d = ap suc (drew-length ms js (d .1))
+
+-- as many numbers below one bound
+pub drew-each : (n m : ℕ) (js : List ℕ) → Drew (replicate n m) js → (k : ℕ) → k < n → getD js k 0 < m
+drew-each zero m js d k h = absurd (omega arith)
+drew-each (suc n) m [] d k h = absurd d
+drew-each (suc n) m (j ∷ js) d zero h = d .0
+drew-each (suc n) m (j ∷ js) d (suc k) h = drew-each n m js (d .1) k (omega arith)
+
+pub each-drew : (n m : ℕ) (js : List ℕ) → length js ≡ n → ((k : ℕ) → k < n → getD js k 0 < m) → Drew (replicate n m) js
+each-drew zero m [] e f = tt
+each-drew zero m (j ∷ js) e f = absurd (omega arith)
+each-drew (suc n) m [] e f = absurd (omega arith)
+each-drew (suc n) m (j ∷ js) e f = (f zero (omega arith), each-drew n m js (omega arith) (λ k h. f (suc k) (omega arith)))
 
 -- item k has after the exchange of i and j the slot that item `other i j k` had before it
 pub other : ℕ → ℕ → ℕ → ℕ
