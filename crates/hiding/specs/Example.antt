@@ -10,18 +10,18 @@ use Prim.Native.Nat.{ℕ, _+_, _<_}
 use native.Mathlib.Omega.{arith}
 use lib.ListN.{length, getD}
 use lib.Dec.{eqb}
-use Rattle.lists.specs.Tests.{if_then_else_, between}
 use Rattle.lists.specs.Search.{keep, below}
-use Rattle.rules.specs.Draws.{newOrder}
-use Rattle.rules.specs.Unfold.{model, shape, call}
+use Rattle.lists.specs.Tests.{if_then_else_, between}
 use Rattle.rules.specs.Questions.{Ask, opening, request, turn, completion, collect, Call}
-use Rattle.rules.specs.Shape.{Shape}
-use Rattle.rules.specs.Ranges.{isKind, bytesOf}
-use Rattle.rules.specs.Run.{run}
+use Rattle.rules.specs.Unfold.{model, shape, call}
 use Rattle.rules.specs.State.{Command, cmd, read, write, closed}
+use Rattle.rules.specs.Run.{run}
+use Rattle.rules.specs.Ranges.{isKind, bytesOf}
+use Rattle.rules.specs.Shape.{Shape}
+use Rattle.rules.specs.Draws.{newOrder}
 use Rattle.hiding.specs.Theorem.{hidden}
 use Rattle.hiding.specs.Claim
-use Rattle.hiding.specs.Claim.{Lent, first, WellFormed, Alike, wellFormed, turns, completions, collects, Same, Compared, Tape, Lends, drawsOf, drawsIn, told}
+use Rattle.hiding.specs.Claim.{Lent, first, WellFormed, Alike, wellFormed, turns, completions, collects, Same, Compared, Tape, Lends, drawsOf, drawsIn, told, Matching}
 
 abbrev two : Shape
 two = shape 2 1 2 1 2 1
@@ -130,6 +130,10 @@ tapes-first = (refl, refl)
 pub tapes-second : (drawsIn closed (runs b₁ b₂ 0 0 0 0) ≡ tape 0 0 0 0) × (drawsIn closed (runs b₁ b₂ 1 3 2 1) ≡ tape 1 3 2 1)
 unfolding model calls drawsIn drawsOf
 tapes-second = (refl, refl)
+
+-- and the tapes of the two lists are matched
+pub matching : Matching (Tape closed (first two 1000 2 0 ∷ later a₁ a₂)) (Tape closed (first two 1000 2 0 ∷ later b₁ b₂))
+matching = hidden .lists two refl 1000 2 0 (later a₁ a₂) (later b₁ b₂) compared closed closed .0
 
 -- ---- what their runs show
 

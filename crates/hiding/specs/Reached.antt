@@ -72,7 +72,8 @@ module _ (s : State) (f : Reached s) where
       let reb : Rebuilds s q t = rw d at (decided s) in
       omega (arith, sym m ∙ sources-read s (f .stored) (f .sent) q t reb ℓ i l k)
 
-  left : (r : Request) (ℓ i : ℕ) → s .request ≡ some r → finished s r ≡ true → s .place (r .block) ≡ stored ℓ i → ¬ (s .mark (cell (s .shape) (s .partition (r .block)) ℓ i) ≡ 1)
+  left : (r : Request) (ℓ i : ℕ) → s .request ≡ some r → finished s r ≡ true → s .place (r .block) ≡ stored ℓ i →
+      ¬ (s .mark (cell (s .shape) (s .partition (r .block)) ℓ i) ≡ 1)
   left r ℓ i e fin p m = omega (arith, sym m ∙ finished-read s (f .stored) (f .sent) r ℓ i e fin p)
 
 room-for : (h : Shape) (s : State) (b : ℕ) → Reached s → s .shape ≡ h → h .E ≡ h .N → b < h .N → (ltb (length (s .waiting)) (h .E) || member b (s .waiting)) ≡ true

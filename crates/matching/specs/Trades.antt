@@ -43,8 +43,12 @@ renamed Before Legal a b m = record {
 }
 
 -- a trade under an invariant I, and what is seen of it: what the lazy machine shows with the draws that the trade gives
-abbrev pub telling : {D E H O : Type 0} (I : Type 0) (Before : H → Type 0) (Drawn : D → Type 0) (Legal : E → Type 0) (After : E → H → Type 0) (b : Trades Before Drawn Legal After) (w : E → O) →
-    Match {X = H × D} {Y = E × H} (λ x. I × (Before (x .0) × Drawn (x .1))) (λ y. I × (Legal (y .0) × After (y .0) (y .1))) (λ x. w (b .f x .0)) (λ y. w (y .0))
+abbrev pub telling : {D E H O : Type 0} (I : Type 0) (Before : H → Type 0) (Drawn : D → Type 0) (Legal : E → Type 0) (After : E → H → Type 0)
+    (b : Trades Before Drawn Legal After) (w : E → O) →
+    Match {X = H × D} {Y = E × H}
+    (λ x. I × (Before (x .0) × Drawn (x .1)))
+    (λ y. I × (Legal (y .0) × After (y .0) (y .1)))
+    (λ x. w (b .f x .0)) (λ y. w (y .0))
 telling I Before Drawn Legal After b w = record {
   f = b .f;
   g = b .g;

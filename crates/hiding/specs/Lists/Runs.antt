@@ -107,7 +107,8 @@ module _ (h : Shape) (reach : Reachable h) where
       let y = drop-at own rest (wants h reach r c) (p .drawn ∙ sym (g .count)) in
       rw (x, y) (ap₂ (λ o os. o ∷ os) (p .tells ∙ sym (g .tells own)) (k own (step s (lend a ws) .0) (p .next)))
 
-  watches : (as′ : List Lent) (cs : List Call) → Lends as′ cs → Laters as′ → (r : Real) (s : State) → Is h reach r s → map told (run s cs) ≡ Watched r (map entry as′) (drawsIn s cs)
+  watches : (as′ : List Lent) (cs : List Call) → Lends as′ cs → Laters as′ → (r : Real) (s : State) → Is h reach r s →
+      map told (run s cs) ≡ Watched r (map entry as′) (drawsIn s cs)
   unfolding run
   watches [] [] Claim.none l r s k = refl
   watches (a ∷ as′) (c ∷ cs) (Claim.more {ws = ws} e ls) l r s k =

@@ -21,7 +21,8 @@ use Rattle.reachable.specs.Cells.{level-here, level-else}
 use Rattle.hiding.specs.Machines.Public.{openIn, unreadIn}
 
 -- another level's cells, where one level is written
-pub level-other : (h : Shape) (q ℓ : ℕ) (vs : List ℕ) (f : ℕ → ℕ) → length vs ≡ slots ℓ → (k : Key) (z : ℕ) → ℓ < h .L → k .1 < h .L → ¬ (k ≡ (q, ℓ)) → z < slots (k .1) →
+pub level-other : (h : Shape) (q ℓ : ℕ) (vs : List ℕ) (f : ℕ → ℕ) → length vs ≡ slots ℓ → (k : Key) (z : ℕ) →
+    ℓ < h .L → k .1 < h .L → ¬ (k ≡ (q, ℓ)) → z < slots (k .1) →
     putAll (cell h q ℓ 0) vs f (cell h (k .0) (k .1) z) ≡ f (cell h (k .0) (k .1) z)
 level-other h q ℓ vs f len k z b d n l = level-else h q ℓ vs f len (k .0) (k .1) z b d l (λ e. n (λ i. (sym (e .0) i, sym (e .1) i)))
 

@@ -161,7 +161,8 @@ module _ (h : Shape) where
   start₂ zero = renamed Zero None (λ d. Iff·rfl) (fresh-placed h) (settled (h .N) (h .P))
   start₂ (suc n) = stays none-drew (λ d o p. Iff·rfl)
 
-  abbrev pub base₂ : (i : Ideal) (c : Entry) → Trades {D = List ℕ} {E = List ℕ} {H = Positions} (Hidden₂ i) (Drawn₂ i c) (ideal-legal h i (publicEntry h c)) (λ e. Hidden₂ (ideal-next h i (publicEntry h c) e))
+  abbrev pub base₂ : (i : Ideal) (c : Entry) →
+      Trades {D = List ℕ} {E = List ℕ} {H = Positions} (Hidden₂ i) (Drawn₂ i c) (ideal-legal h i (publicEntry h c)) (λ e. Hidden₂ (ideal-next h i (publicEntry h c) e))
   base₂ Ideal.shut (first m w) = start₂ (numberOpen h m w)
   base₂ Ideal.shut (later l m w n) = stays (λ d. Iff·rfl) (λ d o p. Iff·rfl)
   base₂ Ideal.dead c = stays (λ d. Iff·rfl) (λ d o p. Iff·rfl)
@@ -172,7 +173,9 @@ module _ (h : Shape) where
   shown₂ i pos c e = ideal-seen h i (publicEntry h c) (base₂ i c .f (pos, e) .0)
 
   abbrev pub trade₂ : (i : Ideal) (c : Entry) → Trade outside Inv₂ Hidden₂ Drawn₂ shown₂ i c
-  trade₂ i c = telling (Inv₂ i) (Hidden₂ i) (Drawn₂ i c) (ideal-legal h i (publicEntry h c)) (λ e. Hidden₂ (ideal-next h i (publicEntry h c) e)) (base₂ i c) (ideal-seen h i (publicEntry h c))
+  trade₂ i c =
+      telling (Inv₂ i) (Hidden₂ i) (Drawn₂ i c) (ideal-legal h i (publicEntry h c)) (λ e. Hidden₂ (ideal-next h i (publicEntry h c) e))
+      (base₂ i c) (ideal-seen h i (publicEntry h c))
 
   open-inv : (n : ℕ) → Inv₂ (openI h n)
   unfolding fresh
