@@ -122,14 +122,23 @@ lends r₁ r₂ j a b c =
 pub tapes : (r₁ r₂ : Ask) (j a b c : ℕ) → Tape closed (first two 1000 2 0 ∷ later r₁ r₂) (drawsIn closed (runs r₁ r₂ j a b c))
 tapes r₁ r₂ j a b c = hidden .tapes .drawn closed (first two 1000 2 0 ∷ later r₁ r₂) (runs r₁ r₂ j a b c) (lends r₁ r₂ j a b c)
 
--- .. such as these
-pub tapes-first : (drawsIn closed (runs a₁ a₂ 0 0 0 0) ≡ tape 0 0 0 0) × (drawsIn closed (runs a₁ a₂ 1 3 2 1) ≡ tape 1 3 2 1)
-unfolding model calls drawsIn drawsOf
-tapes-first = (refl, refl)
+-- .. of which these two, with draws 0 0 0 0 and 1 3 2 1, are different
+abbrev Two : Ask → Ask → Type 0
+Two r₁ r₂ = Tape closed (first two 1000 2 0 ∷ later r₁ r₂) (tape 0 0 0 0) × Tape closed (first two 1000 2 0 ∷ later r₁ r₂) (tape 1 3 2 1)
 
-pub tapes-second : (drawsIn closed (runs b₁ b₂ 0 0 0 0) ≡ tape 0 0 0 0) × (drawsIn closed (runs b₁ b₂ 1 3 2 1) ≡ tape 1 3 2 1)
+drawn-first : (drawsIn closed (runs a₁ a₂ 0 0 0 0) ≡ tape 0 0 0 0) × (drawsIn closed (runs a₁ a₂ 1 3 2 1) ≡ tape 1 3 2 1)
 unfolding model calls drawsIn drawsOf
-tapes-second = (refl, refl)
+drawn-first = (refl, refl)
+
+drawn-second : (drawsIn closed (runs b₁ b₂ 0 0 0 0) ≡ tape 0 0 0 0) × (drawsIn closed (runs b₁ b₂ 1 3 2 1) ≡ tape 1 3 2 1)
+unfolding model calls drawsIn drawsOf
+drawn-second = (refl, refl)
+
+pub tapes-first : Two a₁ a₂
+tapes-first = (rw (drawn-first .0) at (tapes a₁ a₂ 0 0 0 0), rw (drawn-first .1) at (tapes a₁ a₂ 1 3 2 1))
+
+pub tapes-second : Two b₁ b₂
+tapes-second = (rw (drawn-second .0) at (tapes b₁ b₂ 0 0 0 0), rw (drawn-second .1) at (tapes b₁ b₂ 1 3 2 1))
 
 -- and the tapes of the two lists are matched
 pub matching : Matching (Tape closed (first two 1000 2 0 ∷ later a₁ a₂)) (Tape closed (first two 1000 2 0 ∷ later b₁ b₂))

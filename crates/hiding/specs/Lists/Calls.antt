@@ -30,7 +30,7 @@ use Rattle.rules.specs.Laws.Orders.{Drew, drew-length}
 use Rattle.rules.specs.Laws.Kept.{given-in, drew-of}
 use Rattle.matching.specs.Trades.{none-drew}
 use Rattle.hiding.specs.Orders.Number.{enough}
-use Rattle.hiding.specs.Machines.Rules.{Real, shut, dead, on, real-legal, real-next, real-seen, openCall, numberR}
+use Rattle.hiding.specs.Machines.Rules.{Real, unopened, shut, on, real-legal, real-next, real-seen, openCall, numberR}
 use Rattle.hiding.specs.Lists.Matched.{wants}
 use Rattle.hiding.specs.Machines.Public
 use Rattle.hiding.specs.Machines.Public.{Later, Entry, later, ask}
@@ -207,8 +207,8 @@ number-closed Public.later-collect m w n = rw (ready-closed m)
 module _ (h : Shape) (reach : Reachable h) where
   -- the machine's state for a state of the rules
   abbrev pub Is : Real → State → Type 0
-  Is shut s = ⊥
-  Is dead s = s ≡ closed
+  Is unopened s = ⊥
+  Is shut s = s ≡ closed
   Is (on s′) s = s ≡ s′
 
   pub record Agrees (c : Entry) (r : Real) (s : State) (a : Lent) : Type 0 where
@@ -235,9 +235,9 @@ module _ (h : Shape) (reach : Reachable h) where
         tells = λ d. rw (e, eqb·suc-zero j);
       }
 
-  agrees-dead : (l : Later) (m w n : ℕ) → opens (ask l) ≡ false → Agrees (later l m w n) dead closed (lent (ask l) m w n)
+  agrees-shut : (l : Later) (m w n : ℕ) → opens (ask l) ≡ false → Agrees (later l m w n) shut closed (lent (ask l) m w n)
   unfolding numberOf boundsOf nextOf toldOf
-  agrees-dead l m w n q = let e = number-closed l m w n in record {
+  agrees-shut l m w n q = let e = number-closed l m w n in record {
     legal = λ d. rw e (none-drew d .1, none-drew d .0);
     count = rw e;
     next = λ d. rw e (refuse-keeps closed (ask l) q);
@@ -245,8 +245,8 @@ module _ (h : Shape) (reach : Reachable h) where
   }
 
   agrees-later : (r : Real) (s : State) (l : Later) (m w n : ℕ) → Is r s → opens (ask l) ≡ false → Agrees (later l m w n) r s (lent (ask l) m w n)
-  agrees-later shut s l m w n k q = absurd k
-  agrees-later dead s l m w n k q = rw k (agrees-dead l m w n q)
+  agrees-later unopened s l m w n k q = absurd k
+  agrees-later shut s l m w n k q = rw k (agrees-shut l m w n q)
   agrees-later (on s′) s l m w n k q = rw k (agrees-on s′ l m w n q)
 
   pub agrees : (r : Real) (s : State) (k : Ask) (m w n : ℕ) → Is r s → opens k ≡ false → Agrees (entryOf k m w n) r s (lent k m w n)
@@ -261,11 +261,11 @@ module _ (h : Shape) (reach : Reachable h) where
   unfolding numberOf number questions bounds
   open-any s m w n = refl
 
-  pub agrees-open : (s : State) (m w n : ℕ) → Agrees (Public.first m w) shut s (first h m w n)
+  pub agrees-open : (s : State) (m w n : ℕ) → Agrees (Public.first m w) unopened s (first h m w n)
   unfolding boundsOf nextOf toldOf act bounds refuse sentCommand
   agrees-open s m w n = go (number closed (openCall h m w)) refl
     where
-      go : (j : ℕ) → number closed (openCall h m w) ≡ j → Agrees (Public.first m w) shut s (first h m w n)
+      go : (j : ℕ) → number closed (openCall h m w) ≡ j → Agrees (Public.first m w) unopened s (first h m w n)
       go zero e = let f = open-any s m w n ∙ e in record {
         legal = λ d. rw (e, f) Iff·rfl;
         count = rw (e, f);

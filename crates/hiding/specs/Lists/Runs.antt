@@ -16,14 +16,14 @@ use Rattle.rules.specs.Shape.{Shape}
 use Rattle.rules.specs.Run.{step, run}
 use Rattle.matching.specs.Flat.{FlatTape, FlatWatch}
 use Rattle.matching.specs.TwoLists.{Any}
-use Rattle.hiding.specs.Machines.Rules.{Real, shut, real, real-next}
+use Rattle.hiding.specs.Machines.Rules.{Real, unopened, real, real-next}
 use Rattle.hiding.specs.Machines.Needs.{Reachable}
 use Rattle.hiding.specs.Claim
 use Rattle.hiding.specs.Claim.{Lent, lend, WellFormed, Alike, wellFormed, anyOther, turns, completions, collects, Same, Compared, boundsOf, nextOf, Tape, Lends, drawsOf, drawsIn, told, first, Claim}
 use Rattle.hiding.specs.Machines.Public
 use Rattle.hiding.specs.Machines.Public.{Entry, ask, formed, publicEntry}
 use Rattle.hiding.specs.Lists.Calls.{Is, Agrees, agrees, agrees-open, stepped, entry, entryOf}
-use Rattle.hiding.specs.Lists.Matched.{wants, oblivious-flat}
+use Rattle.hiding.specs.Lists.Matched.{wants, tapes-matched}
 
 -- ---- compared lists have the same public parts
 
@@ -89,10 +89,10 @@ module _ (h : Shape) (reach : Reachable h) where
       let g = agrees h reach r s (a .ask) (a .memory) (a .words) (a .buffer) k (l .0) in
       tape-more (entry a) (map entry as′) r s a as′ g (λ d t′. tapes as′ (l .1) _ _ (g .next d) t′) t
 
-  list-tapes : (s : State) (m w n : ℕ) (as′ : List Lent) → Laters as′ → (t : List ℕ) → Tape s (first h m w n ∷ as′) t ↔ Flats shut (Public.first m w ∷ map entry as′) t
+  list-tapes : (s : State) (m w n : ℕ) (as′ : List Lent) → Laters as′ → (t : List ℕ) → Tape s (first h m w n ∷ as′) t ↔ Flats unopened (Public.first m w ∷ map entry as′) t
   list-tapes s m w n as′ l t =
       let g = agrees-open h reach s m w n in
-      tape-more (Public.first m w) (map entry as′) shut s (first h m w n) as′ g (λ d t′. tapes as′ l _ _ (g .next d) t′) t
+      tape-more (Public.first m w) (map entry as′) unopened s (first h m w n) as′ g (λ d t′. tapes as′ l _ _ (g .next d) t′) t
 
   -- what a run with words tells is what the machine shows
   watch-more : (c : Entry) (cs : List Entry) (r : Real) (s : State) (a : Lent) (as′ : List Lent) (ws : List ℕ) (ds : List Call) → Agrees h reach c r s a → length ws ≡ a .words →
@@ -116,16 +116,16 @@ module _ (h : Shape) (reach : Reachable h) where
       watch-more (entry a) (map entry as′) r s a as′ ws cs g e (λ d s′ q. watches as′ cs ls (l .1) _ s′ (rw q (g .next d)))
 
   list-watches : (s : State) (m w n : ℕ) (as′ : List Lent) (cs : List Call) → Laters as′ → Lends (first h m w n ∷ as′) cs →
-      map told (run s cs) ≡ Watched shut (Public.first m w ∷ map entry as′) (drawsIn s cs)
+      map told (run s cs) ≡ Watched unopened (Public.first m w ∷ map entry as′) (drawsIn s cs)
   list-watches s m w n as′ (c ∷ cs) l (Claim.more {ws = ws} e ls) =
       let g = agrees-open h reach s m w n in
-      watch-more (Public.first m w) (map entry as′) shut s (first h m w n) as′ ws cs g e (λ d s′ q. watches as′ cs ls l _ s′ (rw q (g .next d)))
+      watch-more (Public.first m w) (map entry as′) unopened s (first h m w n) as′ ws cs g e (λ d s′ q. watches as′ cs ls l _ s′ (rw q (g .next d)))
 
 -- The claim, from what holds of every state that calls left
 pub claim : ((h : Shape) → h .E ≡ h .N → Reachable h) → Claim
 claim reach h q m w n as′ bs′ c s s′ =
     let o = no-opens h as′ bs′ c in
-    let k = oblivious-flat h (reach h q) (Public.first m w ∷ map entry as′) (Public.first m w ∷ map entry bs′) (ap (λ xs. Public.first m w ∷ xs) (same-list h as′ bs′ c)) in
+    let k = tapes-matched h (reach h q) (Public.first m w ∷ map entry as′) (Public.first m w ∷ map entry bs′) (ap (λ xs. Public.first m w ∷ xs) (same-list h as′ bs′ c)) in
     let A = list-tapes h (reach h q) s m w n as′ (o .0) in
     let B = list-tapes h (reach h q) s′ m w n bs′ (o .1) in (
       record {
@@ -138,7 +138,7 @@ claim reach h q m w n as′ bs′ c s s′ =
       },
       λ t p cs ds x y.
           list-watches h (reach h q) s m w n as′ cs (o .0) (x .calls)
-          ∙ ap (Watched h (reach h q) shut (Public.first m w ∷ map entry as′)) (x .tape)
+          ∙ ap (Watched h (reach h q) unopened (Public.first m w ∷ map entry as′)) (x .tape)
           ∙ k .same t (A t .0 p)
-          ∙ sym (list-watches h (reach h q) s′ m w n bs′ ds (o .1) (y .calls) ∙ ap (Watched h (reach h q) shut (Public.first m w ∷ map entry bs′)) (y .tape)),
+          ∙ sym (list-watches h (reach h q) s′ m w n bs′ ds (o .1) (y .calls) ∙ ap (Watched h (reach h q) unopened (Public.first m w ∷ map entry bs′)) (y .tape)),
     )

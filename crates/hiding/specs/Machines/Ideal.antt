@@ -98,32 +98,33 @@ nextI zero i later-collect e = collectedI (i .request) i
 
 -- ---- The machine
 
+-- before the open; after a refused one, closed; after an accepted one
 pub data Ideal : Type 0 where
-  shut dead : Ideal
+  unopened shut : Ideal
   on : State → Ideal
 
 module _ (h : Shape) where
   abbrev pub openI : ℕ → Ideal
   openI zero = on (hide (fresh h []))
-  openI (suc n) = dead
+  openI (suc n) = shut
 
   abbrev pub ideal-legal : Ideal → Entry → List ℕ → Type 0
+  ideal-legal unopened c e = None e
   ideal-legal shut c e = None e
-  ideal-legal dead c e = None e
   ideal-legal (on i) (first m w) e = None e
   ideal-legal (on i) (later l m w n) e = legalIf (numberP i l m w n) i l e
 
   abbrev pub ideal-next : Ideal → Entry → List ℕ → Ideal
-  ideal-next shut (first m w) e = openI (numberOpen h m w)
-  ideal-next shut (later l m w n) e = shut
-  ideal-next dead c e = dead
+  ideal-next unopened (first m w) e = openI (numberOpen h m w)
+  ideal-next unopened (later l m w n) e = unopened
+  ideal-next shut c e = shut
   ideal-next (on i) (first m w) e = on i
   ideal-next (on i) (later l m w n) e = on (nextI (numberP i l m w n) i l e)
 
   abbrev pub ideal-seen : Ideal → Entry → List ℕ → Seen
-  ideal-seen shut (first m w) e = seenOpen h (numberOpen h m w)
-  ideal-seen shut (later l m w n) e = (2, 0, nothingSent)
-  ideal-seen dead c e = (2, 0, nothingSent)
+  ideal-seen unopened (first m w) e = seenOpen h (numberOpen h m w)
+  ideal-seen unopened (later l m w n) e = (2, 0, nothingSent)
+  ideal-seen shut c e = (2, 0, nothingSent)
   ideal-seen (on i) (first m w) e = (2, 0, nothingSent)
   ideal-seen (on i) (later l m w n) e = seenIf (numberP i l m w n) i l e
 

@@ -111,14 +111,15 @@ itemsM zero s it later-collect e = it
 
 -- ---- The machine
 
+-- before the open; after a refused one, closed; after an accepted one
 pub data Mid : Type 0 where
-  shut dead : Mid
+  unopened shut : Mid
   on : State → Items → Mid
 
 module _ (h : Shape) where
   abbrev pub openM : ℕ → List ℕ → Mid
   openM zero e = on (forget (fresh h e)) (λ k. [])
-  openM (suc n) e = dead
+  openM (suc n) e = shut
 
   -- the bounds of the draws of an open
   abbrev pub boundsOpen : ℕ → List ℕ
@@ -126,25 +127,25 @@ module _ (h : Shape) where
   boundsOpen (suc n) = []
 
   abbrev pub mid-legal : Mid → Entry → List ℕ → Type 0
-  mid-legal shut (first m w) e = Drew (boundsOpen (numberOpen h m w)) e
-  mid-legal shut (later l m w n) e = None e
-  mid-legal dead c e = None e
+  mid-legal unopened (first m w) e = Drew (boundsOpen (numberOpen h m w)) e
+  mid-legal unopened (later l m w n) e = None e
+  mid-legal shut c e = None e
   mid-legal (on s it) (first m w) e = None e
   mid-legal (on s it) (later l m w n) e = legalIf (numberP (hide s) (publicLater h l) m w n) (hide s) l e
 
   abbrev pub mid-next : Mid → Entry → List ℕ → Mid
-  mid-next shut (first m w) e = openM (numberOpen h m w) e
-  mid-next shut (later l m w n) e = shut
-  mid-next dead c e = dead
+  mid-next unopened (first m w) e = openM (numberOpen h m w) e
+  mid-next unopened (later l m w n) e = unopened
+  mid-next shut c e = shut
   mid-next (on s it) (first m w) e = on s it
   mid-next (on s it) (later l m w n) e =
       let k = numberP (hide s) (publicLater h l) m w n in
       on (nextM k s l e) (itemsM k s it l e)
 
   abbrev pub mid-seen : Mid → Entry → List ℕ → Seen
-  mid-seen shut (first m w) e = seenOpen h (numberOpen h m w)
-  mid-seen shut (later l m w n) e = (2, 0, nothingSent)
-  mid-seen dead c e = (2, 0, nothingSent)
+  mid-seen unopened (first m w) e = seenOpen h (numberOpen h m w)
+  mid-seen unopened (later l m w n) e = (2, 0, nothingSent)
+  mid-seen shut c e = (2, 0, nothingSent)
   mid-seen (on s it) (first m w) e = (2, 0, nothingSent)
   mid-seen (on s it) (later l m w n) e = seenIf (numberP (hide s) (publicLater h l) m w n) (hide s) l e
 

@@ -41,33 +41,34 @@ abbrev pub seenR : ℕ → State → Later → Seen
 seenR zero s l = (0, length (bounds s (ask l)), sentCommand s (ask l))
 seenR (suc n) s l = (suc n, 0, nothingSent)
 
+-- before the open; after a refused one, closed; after an accepted one
 pub data Real : Type 0 where
-  shut dead : Real
+  unopened shut : Real
   on : State → Real
 
 module _ (h : Shape) where
   abbrev pub openR : ℕ → List ℕ → Real
   openR zero d = on (fresh h d)
-  openR (suc n) d = dead
+  openR (suc n) d = shut
 
   abbrev pub real-legal : Real → Entry → List ℕ → Type 0
-  real-legal shut (first m w) d = Drew (boundsOpen h (number closed (openCall h m w))) d
-  real-legal shut (later l m w n) d = None d
-  real-legal dead c d = None d
+  real-legal unopened (first m w) d = Drew (boundsOpen h (number closed (openCall h m w))) d
+  real-legal unopened (later l m w n) d = None d
+  real-legal shut c d = None d
   real-legal (on s) (first m w) d = None d
   real-legal (on s) (later l m w n) d = Drew (boundsR (numberR s l m w n) s l) d
 
   abbrev pub real-next : Real → Entry → List ℕ → Real
-  real-next shut (first m w) d = openR (number closed (openCall h m w)) d
-  real-next shut (later l m w n) d = shut
-  real-next dead c d = dead
+  real-next unopened (first m w) d = openR (number closed (openCall h m w)) d
+  real-next unopened (later l m w n) d = unopened
+  real-next shut c d = shut
   real-next (on s) (first m w) d = on s
   real-next (on s) (later l m w n) d = on (nextR (numberR s l m w n) s l d)
 
   abbrev pub real-seen : Real → Entry → List ℕ → Seen
-  real-seen shut (first m w) d = seenOpen h (number closed (openCall h m w))
-  real-seen shut (later l m w n) d = (2, 0, nothingSent)
-  real-seen dead c d = (2, 0, nothingSent)
+  real-seen unopened (first m w) d = seenOpen h (number closed (openCall h m w))
+  real-seen unopened (later l m w n) d = (2, 0, nothingSent)
+  real-seen shut c d = (2, 0, nothingSent)
   real-seen (on s) (first m w) d = (2, 0, nothingSent)
   real-seen (on s) (later l m w n) d = seenR (numberR s l m w n) s l
 
@@ -97,6 +98,6 @@ abbrev pub itemsOf : State → Items
 itemsOf s = itemsIn (s .shape) (s .mark) (s .order) (s .holds)
 
 abbrev pub view : Real → Mid × Orders
+view unopened = (Middle.unopened, λ k. [])
 view shut = (Middle.shut, λ k. [])
-view dead = (Middle.dead, λ k. [])
 view (on s) = (Middle.on (forget s) (itemsOf s), ordersOf s)

@@ -26,7 +26,7 @@ use Rattle.hiding.specs.Machines.Middle
 use Rattle.hiding.specs.Machines.Middle.{forget, Mid, nextM, itemsM, boundsOpen, mid, mid-legal, mid-next, mid-seen}
 use Rattle.hiding.specs.Orders.Trades.{HiddenOn, boundsIf, tradeIf}
 use Rattle.hiding.specs.Orders.Number.{bounds-hide, number-hide, enough-zeros}
-use Rattle.hiding.specs.Machines.Rules.{Real, shut, dead, on, real, real-legal, real-next, real-seen, numberR, boundsR, nextR, seenR, openCall, Orders, itemsIn, itemsOf, ordersOf, view, openR}
+use Rattle.hiding.specs.Machines.Rules.{Real, unopened, shut, on, real, real-legal, real-next, real-seen, numberR, boundsR, nextR, seenR, openCall, Orders, itemsIn, itemsOf, ordersOf, view, openR}
 use Rattle.hiding.specs.Machines.Public.{Later, Entry, first, later, publicLater, hide, openIn, numberP, numberOpen}
 use Rattle.hiding.specs.Orders.Follows.{call-follows, follows-view}
 use Rattle.hiding.specs.Machines.Needs.{Reachable}
@@ -68,14 +68,14 @@ open-number h m w = rw (enough-zeros (replicate (h .N) (h .P)) w) (simp length-r
 
 module _ (h : Shape) (reach : Reachable h) where
   abbrev pub Hidden₁ : Mid → Orders → Type 0
+  Hidden₁ Middle.unopened o = Empty o
   Hidden₁ Middle.shut o = Empty o
-  Hidden₁ Middle.dead o = Empty o
   Hidden₁ (Middle.on s it) o = HiddenOn s o
 
   abbrev pub Drawn₁ : Mid → Entry → List ℕ → Type 0
-  Drawn₁ Middle.shut (first m w) d = Drew (boundsOpen h (numberOpen h m w)) d
-  Drawn₁ Middle.shut (later l m w n) d = None d
-  Drawn₁ Middle.dead c d = None d
+  Drawn₁ Middle.unopened (first m w) d = Drew (boundsOpen h (numberOpen h m w)) d
+  Drawn₁ Middle.unopened (later l m w n) d = None d
+  Drawn₁ Middle.shut c d = None d
   Drawn₁ (Middle.on s it) (first m w) d = None d
   Drawn₁ (Middle.on s it) (later l m w n) d = Drew (boundsIf (numberP (hide s) (publicLater h l) m w n) (hide s) l) d
 
@@ -87,9 +87,9 @@ module _ (h : Shape) (reach : Reachable h) where
   start₁ (suc n) = stays (λ d. Iff·rfl) (λ d o p. Iff·rfl)
 
   abbrev pub base₁ : (m : Mid) (c : Entry) → Base₁ m c
-  base₁ Middle.shut (first m w) = start₁ (numberOpen h m w)
-  base₁ Middle.shut (later l m w n) = stays (λ d. Iff·rfl) (λ d o p. Iff·rfl)
-  base₁ Middle.dead c = stays (λ d. Iff·rfl) (λ d o p. Iff·rfl)
+  base₁ Middle.unopened (first m w) = start₁ (numberOpen h m w)
+  base₁ Middle.unopened (later l m w n) = stays (λ d. Iff·rfl) (λ d o p. Iff·rfl)
+  base₁ Middle.shut c = stays (λ d. Iff·rfl) (λ d o p. Iff·rfl)
   base₁ (Middle.on s it) (first m w) = stays (λ d. Iff·rfl) (λ d o p. Iff·rfl)
   base₁ (Middle.on s it) (later l m w n) = tradeIf (numberP (hide s) (publicLater h l) m w n) s it l
 
@@ -100,17 +100,17 @@ module _ (h : Shape) (reach : Reachable h) where
   trade₁ m c = telling (Any m) (Hidden₁ m) (Drawn₁ m c) (mid-legal h m c) (λ e. Hidden₁ (mid-next h m c e)) (base₁ m c) (mid-seen h m c)
 
   abbrev pub Reach : Real → Type 0
+  Reach unopened = Unit
   Reach shut = Unit
-  Reach dead = Unit
   Reach (on s) = reach .Holds s
 
   abbrev pub Rel₁ : Real → Mid × Orders → Type 0
   Rel₁ r q = (q ≡ view r) × Reach r
 
   pub legal₁ : (r : Real) (c : Entry) (d : List ℕ) → Reach r → real-legal h r c d ↔ Drawn₁ (view r .0) c d
-  legal₁ shut (first m w) d k = rw (open-number h m w) Iff·rfl
-  legal₁ shut (later l m w n) d k = Iff·rfl
-  legal₁ dead c d k = Iff·rfl
+  legal₁ unopened (first m w) d k = rw (open-number h m w) Iff·rfl
+  legal₁ unopened (later l m w n) d k = Iff·rfl
+  legal₁ shut c d k = Iff·rfl
   legal₁ (on s) (first m w) d k = Iff·rfl
   legal₁ (on s) (later l m w n) d k = rw (number-hide h reach s k l m w n) (go (numberP (hide s) (publicLater h l) m w n))
     where
@@ -148,11 +148,11 @@ module _ (h : Shape) (reach : Reachable h) where
 
   pub step₁ : (r : Real) (c : Entry) (d : List ℕ) → Reach r → Hidden₁ (view r .0) (view r .1) → real-legal h r c d →
       (real-seen h r c d ≡ shown₁ (view r .0) (view r .1) c d) × Rel₁ (real-next h r c d) (full₁ .next (view r) c d)
-  step₁ shut (first m w) d k hid p =
+  step₁ unopened (first m w) d k hid p =
       let e = open-number h m w in
       rw e (refl, step-open d (numberOpen h m w) (λ z. opened m w (e ∙ z)) (rw e at p))
-  step₁ shut (later l m w n) d k hid p = (refl, (refl, tt))
-  step₁ dead c d k hid p = (refl, (refl, tt))
+  step₁ unopened (later l m w n) d k hid p = (refl, (refl, tt))
+  step₁ shut c d k hid p = (refl, (refl, tt))
   step₁ (on s) (first m w) d k hid p = (refl, (refl, k))
   step₁ (on s) (later l m w n) d k hid p =
       let e = number-hide h reach s k l m w n in

@@ -29,7 +29,7 @@ use Rattle.matching.specs.Positions.{Positions, Zero, settled, show}
 use Rattle.matching.specs.Machine.{Machine, along}
 use Rattle.matching.specs.TwoLists.{Stage}
 use Rattle.hiding.specs.Orders.Number.{formed-facts}
-use Rattle.hiding.specs.Machines.Middle.{Mid, shut, dead, on, nextStepM, collectedM, nextM, boundsOpen, openM, mid, mid-legal, mid-next, mid-seen}
+use Rattle.hiding.specs.Machines.Middle.{Mid, unopened, shut, on, nextStepM, collectedM, nextM, boundsOpen, openM, mid, mid-legal, mid-next, mid-seen}
 use Rattle.hiding.specs.Positions.Trades.{PlacedIn, askP, tradeP, next-shape, fresh-placed}
 use Rattle.hiding.specs.Machines.Ideal
 use Rattle.hiding.specs.Machines.Ideal.{seenIf, Seen, legalIf, rebuildP, nextStepI, collectedI, nextI, Ideal, openI, ideal, ideal-legal, ideal-next, ideal-seen}
@@ -141,19 +141,19 @@ module _ (h : Shape) where
   outside = along (publicEntry h) (ideal h)
 
   abbrev pub Inv₂ : Ideal → Type 0
+  Inv₂ Ideal.unopened = Unit
   Inv₂ Ideal.shut = Unit
-  Inv₂ Ideal.dead = Unit
   Inv₂ (Ideal.on i) = i .shape ≡ h
 
   abbrev pub Hidden₂ : Ideal → Positions → Type 0
+  Hidden₂ Ideal.unopened pos = Zero pos
   Hidden₂ Ideal.shut pos = Zero pos
-  Hidden₂ Ideal.dead pos = Zero pos
   Hidden₂ (Ideal.on i) pos = PlacedIn (i .shape) pos
 
   abbrev pub Drawn₂ : Ideal → Entry → List ℕ → Type 0
-  Drawn₂ Ideal.shut (first m w) e = Drew (boundsOpen h (numberOpen h m w)) e
-  Drawn₂ Ideal.shut (later l m w n) e = None e
-  Drawn₂ Ideal.dead c e = None e
+  Drawn₂ Ideal.unopened (first m w) e = Drew (boundsOpen h (numberOpen h m w)) e
+  Drawn₂ Ideal.unopened (later l m w n) e = None e
+  Drawn₂ Ideal.shut c e = None e
   Drawn₂ (Ideal.on i) (first m w) e = None e
   Drawn₂ (Ideal.on i) (later l m w n) e = legalIf (numberP i (publicLater h l) m w n) i l e
 
@@ -163,9 +163,9 @@ module _ (h : Shape) where
 
   abbrev pub base₂ : (i : Ideal) (c : Entry) →
       Trades {D = List ℕ} {E = List ℕ} {H = Positions} (Hidden₂ i) (Drawn₂ i c) (ideal-legal h i (publicEntry h c)) (λ e. Hidden₂ (ideal-next h i (publicEntry h c) e))
-  base₂ Ideal.shut (first m w) = start₂ (numberOpen h m w)
-  base₂ Ideal.shut (later l m w n) = stays (λ d. Iff·rfl) (λ d o p. Iff·rfl)
-  base₂ Ideal.dead c = stays (λ d. Iff·rfl) (λ d o p. Iff·rfl)
+  base₂ Ideal.unopened (first m w) = start₂ (numberOpen h m w)
+  base₂ Ideal.unopened (later l m w n) = stays (λ d. Iff·rfl) (λ d o p. Iff·rfl)
+  base₂ Ideal.shut c = stays (λ d. Iff·rfl) (λ d o p. Iff·rfl)
   base₂ (Ideal.on i) (first m w) = stays (λ d. Iff·rfl) (λ d o p. Iff·rfl)
   base₂ (Ideal.on i) (later l m w n) = tradeP h i (numberP i (publicLater h l) m w n) l
 
@@ -183,21 +183,21 @@ module _ (h : Shape) where
   open-inv (suc n) = tt
 
   pub keep₂ : (i : Ideal) (c : Entry) (e : List ℕ) → Inv₂ i → ideal-legal h i (publicEntry h c) e → Inv₂ (ideal-next h i (publicEntry h c) e)
-  keep₂ Ideal.shut (first m w) e k p = open-inv (numberOpen h m w)
-  keep₂ Ideal.shut (later l m w n) e k p = tt
-  keep₂ Ideal.dead c e k p = tt
+  keep₂ Ideal.unopened (first m w) e k p = open-inv (numberOpen h m w)
+  keep₂ Ideal.unopened (later l m w n) e k p = tt
+  keep₂ Ideal.shut c e k p = tt
   keep₂ (Ideal.on i) (first m w) e k p = k
   keep₂ (Ideal.on i) (later l m w n) e k p = next-shape h i (numberP i (publicLater h l) m w n) (publicLater h l) e ∙ k
 
   abbrev pub publicView : Mid → Ideal × Positions
+  publicView unopened = (Ideal.unopened, λ b. 0)
   publicView shut = (Ideal.shut, λ b. 0)
-  publicView dead = (Ideal.dead, λ b. 0)
   publicView (on s it) = (Ideal.on (hide s), positions s)
 
   pub legal₂ : (m : Mid) (c : Entry) (e : List ℕ) → mid-legal h m c e ↔ Drawn₂ (publicView m .0) c e
-  legal₂ shut (first m w) e = Iff·rfl
-  legal₂ shut (later l m w n) e = Iff·rfl
-  legal₂ dead c e = Iff·rfl
+  legal₂ unopened (first m w) e = Iff·rfl
+  legal₂ unopened (later l m w n) e = Iff·rfl
+  legal₂ shut c e = Iff·rfl
   legal₂ (on s it) (first m w) e = Iff·rfl
   legal₂ (on s it) (later l m w n) e = Iff·rfl
 
@@ -238,9 +238,9 @@ module _ (h : Shape) where
 
   pub step₂ : (m : Mid) (c : Entry) (e : List ℕ) → Inv₂ (publicView m .0) → mid-legal h m c e →
       (mid-seen h m c e ≡ shown₂ (publicView m .0) (publicView m .1) c e) × (full₂ .next (publicView m) c e ≡ publicView (mid-next h m c e))
-  step₂ shut (first m w) e k p = (refl, start-shows e (numberOpen h m w) p)
-  step₂ shut (later l m w n) e k p = (refl, refl)
-  step₂ dead c e k p = (refl, refl)
+  step₂ unopened (first m w) e k p = (refl, start-shows e (numberOpen h m w) p)
+  step₂ unopened (later l m w n) e k p = (refl, refl)
+  step₂ shut c e k p = (refl, refl)
   step₂ (on s it) (first m w) e k p = (refl, refl)
   step₂ (on s it) (later l m w n) e k p =
       let r = call-shows s k e l m w n (numberP (hide s) (publicLater h l) m w n) refl p in
