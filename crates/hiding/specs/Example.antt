@@ -50,20 +50,21 @@ jobs j a b c =
 abbrev brought : ℕ → List ℕ
 brought k = if eqb k read then 0 ∷ [] else []
 
-unfoldable pub calls : Ask → Ask → List Sends → List Call
-calls r₁ r₂ [] = call r₂ 1000 (0 ∷ 0 ∷ []) 0 ∷ call turn 1000 [] 1 ∷ []
-calls r₁ r₂ (x ∷ xs) = call turn 1000 (x .words) 1 ∷ call (completion (x .command) (brought (x .command .kind))) 1000 [] 0 ∷ calls r₁ r₂ xs
+-- the jobs and then the second request, r, with its turn
+unfoldable pub calls : Ask → List Sends → List Call
+calls r [] = call r 1000 (0 ∷ 0 ∷ []) 0 ∷ call turn 1000 [] 1 ∷ []
+calls r (x ∷ xs) = call turn 1000 (x .words) 1 ∷ call (completion (x .command) (brought (x .command .kind))) 1000 [] 0 ∷ calls r xs
 
-unfoldable pub list : Ask → Ask → List Sends → List Lent
-list r₁ r₂ [] = lent r₂ 2 0 ∷ lent turn 0 1 ∷ []
-list r₁ r₂ (x ∷ xs) = lent turn (length (x .words)) 1 ∷ lent (completion (x .command) (brought (x .command .kind))) 0 0 ∷ list r₁ r₂ xs
+unfoldable pub list : Ask → List Sends → List Lent
+list r [] = lent r 2 0 ∷ lent turn 0 1 ∷ []
+list r (x ∷ xs) = lent turn (length (x .words)) 1 ∷ lent (completion (x .command) (brought (x .command .kind))) 0 0 ∷ list r xs
 
 -- the list after its open, and its run with these draws
 abbrev later : Ask → Ask → List Lent
-later r₁ r₂ = lent r₁ 2 0 ∷ lent collect 0 1 ∷ list r₁ r₂ (jobs 0 0 0 0)
+later r₁ r₂ = lent r₁ 2 0 ∷ lent collect 0 1 ∷ list r₂ (jobs 0 0 0 0)
 
 abbrev runs : Ask → Ask → ℕ → ℕ → ℕ → ℕ → List Call
-runs r₁ r₂ j a b c = call (opening two) 1000 (0 ∷ 0 ∷ []) 0 ∷ call r₁ 1000 (0 ∷ 0 ∷ []) 0 ∷ call collect 1000 [] 1 ∷ calls r₁ r₂ (jobs j a b c)
+runs r₁ r₂ j a b c = call (opening two) 1000 (0 ∷ 0 ∷ []) 0 ∷ call r₁ 1000 (0 ∷ 0 ∷ []) 0 ∷ call collect 1000 [] 1 ∷ calls r₂ (jobs j a b c)
 
 -- the two lists' requests
 abbrev a₁ : Ask
@@ -86,17 +87,17 @@ well k b bs x y z = record { kind = x; block = y; contents = z }
 same : (a b : Ask) (w n : ℕ) → Alike two a b → Same two (lent a w n) (lent b w n)
 same a b w n k = record { ask = k; memory = refl; words = refl; buffer = refl }
 
-rest-compared : (r₁ r₂ q₁ q₂ : Ask) → Alike two r₂ q₂ → (xs : List Sends) → Compared two (list r₁ r₂ xs) (list q₁ q₂ xs)
+rest-compared : (r q : Ask) → Alike two r q → (xs : List Sends) → Compared two (list r xs) (list q xs)
 unfolding list
-rest-compared r₁ r₂ q₁ q₂ k [] = Claim.more (same r₂ q₂ 2 0 k) (Claim.more (same turn turn 0 1 turns) Claim.none)
-rest-compared r₁ r₂ q₁ q₂ k (x ∷ xs) = Claim.more (same turn turn _ 1 turns) (Claim.more (same _ _ 0 0 (completions refl)) (rest-compared r₁ r₂ q₁ q₂ k xs))
+rest-compared r q k [] = Claim.more (same r q 2 0 k) (Claim.more (same turn turn 0 1 turns) Claim.none)
+rest-compared r q k (x ∷ xs) = Claim.more (same turn turn _ 1 turns) (Claim.more (same _ _ 0 0 (completions refl)) (rest-compared r q k xs))
 
 pub compared : Compared two (later a₁ a₂) (later b₁ b₂)
 unfolding isKind between bytesOf
 compared =
     Claim.more (same a₁ b₁ 2 0 (wellFormed (well write 0 (7 ∷ []) refl (omega arith) refl) (well read 1 [] refl (omega arith) refl)))
     (Claim.more (same collect collect 0 1 collects)
-    (rest-compared a₁ a₂ b₁ b₂ (wellFormed (well read 0 [] refl (omega arith) refl) (well write 0 (9 ∷ []) refl (omega arith) refl)) (jobs 0 0 0 0)))
+    (rest-compared a₂ b₂ (wellFormed (well read 0 [] refl (omega arith) refl) (well write 0 (9 ∷ []) refl (omega arith) refl)) (jobs 0 0 0 0)))
 
 -- ---- their tapes
 
