@@ -1,21 +1,43 @@
--- Document 01, "Two lists and their tapes": what demand 3 compares, over the rules' own run.
+-- Document 01, "Two lists and their tapes": what demand 3 says, over the rules' own run. `hidden : Hiding` (Theorem.antt) is its proof.
+--
+-- The section, sentence by sentence:
+--   "A list is an open .. and then requests, turns, completions and collects in any order and number": `first` with a list of `Lent`, each of
+--     which `Alike` takes to be one of the four. "Refused ones included, also after a refused open": nothing asks for a call to be accepted.
+--   "On memory with any bytes": `Claim` and `Smaller` hold for any states s and s′ before the open.
+--   "Each later call gets the state and the memory as the last one left them": `run` of the rules. "Lent too little of that memory, it replies
+--     2": `Lent` has the length of the memory that is lent to each call.
+--   "All other buffers are lent for one call; what they hold before it may be anything in either list": of a buffer a call has but the length;
+--     a completion's bytes are any (`completions`).
+--   "Two lists are compared if E is N, the shape is the same": the first lines of `Claim`. "Each place has the same call in both, lent as many
+--     words, with all other lengths equal but that of a request's contents": `Compared`, `Same`, `Alike`. "A completion names the same kind and
+--     slot", "A request that is well-formed in one is so in the other; its block, kind and contents may differ. Any other request has the same
+--     kind, block and length of contents": `completions`, `wellFormed`, `anyOther`.
+--   "A list's tape of drawn numbers has one for each draw of its run, in turn, below the m of that draw, and no more": `Tape`, by rules' `Drew`.
+--     "A refused call draws nothing": `boundsOf`. `Tapes` says that these are what runs draw: the numbers that any run draws, whatever words
+--     are lent, are a tape (`drawn`), and each tape is drawn by some run with words of 16 bits (`given`). So no list is without tapes, and no
+--     run is left out.
+--   "The words lent to a call are any that give its draws' numbers, then any others": `Gives`; that it does not matter which: `decides`.
+--   "There is a matching: each tape of either list has exactly one partner among the other's": `Matching`. "With partners, the two runs have at
+--     each place the same number answered, the same count of words taken and, for a turn, the same command": `told`, the last lines of `Claim`.
+--   "For the smaller cache ..": `Smaller`, which has the bytes handed out equal too.
 use mathlib.Core.Path.{_≡_}
-use mathlib.Core.Bool.{true}
+use mathlib.Core.Bool.{true, false}
 use mathlib.Core.List.{List, [], _∷_, _++_, map}
-use Prim.Native.Nat.{ℕ, _≤_, _<_}
+use Prim.Native.Nat.{ℕ, _^_, _≤_, _<_}
 use lib.ListN.{length, take, drop, replicate}
 use lib.Dec.{eqb}
+use Rattle.lists.specs.All.{All}
 use Rattle.lists.specs.Tests.{if_then_else_}
-use Rattle.rules.specs.Shape.{Shape}
-use Rattle.rules.specs.State.{State, Command}
 use Rattle.rules.specs.Ranges.{isKind, bytesOf}
 use Rattle.rules.specs.Draws.{draws}
 use Rattle.rules.specs.Questions.{Ask, opening, request, turn, completion, collect, Call, bounds, number}
 use Rattle.rules.specs.Run.{Outcome, act, refuse, numbersOf, step, run}
-use Rattle.matching.specs.Draws.{Below}
-use Rattle.hiding.specs.Cache.{Later, AgreeUntil8, openOver}
+use Rattle.rules.specs.State.{State, Command}
+use Rattle.rules.specs.Laws.Answers.{opens}
+use Rattle.rules.specs.Laws.Orders.{Drew}
+use Rattle.rules.specs.Shape.{Shape}
 
--- A call of a list: what is asked, and the lengths lent. The words themselves are no part of it.
+-- A call of a list: what is asked, and the lengths lent. The words themselves are no part of it
 pub record Lent : Type 0 where
   pub ask : Ask
   pub memory : ℕ
@@ -26,15 +48,19 @@ pub record Lent : Type 0 where
 abbrev pub lend : Lent → List ℕ → Call
 lend a ws = record { ask = a .ask; memory = a .memory; words = ws; buffer = a .buffer }
 
+-- an open of the shape
+abbrev pub first : Shape → ℕ → ℕ → ℕ → Lent
+first h m w n = record { ask = opening h; memory = m; words = w; buffer = n }
+
 -- ---- Two lists
 
--- A request is well-formed
+-- "A request is well-formed if its kind is read or write, its block is below N and its contents have the length 6 wants"
 pub record WellFormed (h : Shape) (k b : ℕ) (bs : List ℕ) : Type 0 where
   pub kind : isKind k ≡ true
   pub block : b < h .N
   pub contents : length bs ≡ bytesOf h k
 
--- The same call in both. No open is among these: a list has one, and it comes first.
+-- The same call in both. No open is among these: a list has one, and it comes first
 pub data Alike (h : Shape) : Ask → Ask → Type 0 where
   wellFormed : {k b k′ b′ : ℕ} {bs bs′ : List ℕ} → WellFormed h k b bs → WellFormed h k′ b′ bs′ → Alike h (request k b bs) (request k′ b′ bs′)
   anyOther : {k b : ℕ} {bs bs′ : List ℕ} → ¬ WellFormed h k b bs → length bs ≡ length bs′ → Alike h (request k b bs) (request k b bs′)
@@ -49,7 +75,7 @@ pub record Same (h : Shape) (a b : Lent) : Type 0 where
   pub words : a .words ≡ b .words
   pub buffer : a .buffer ≡ b .buffer
 
--- at each place
+-- .. at each place
 pub data Compared (h : Shape) : List Lent → List Lent → Type 0 where
   none : Compared h [] []
   more : {a b : Lent} {as′ bs′ : List Lent} → Same h a b → Compared h as′ bs′ → Compared h (a ∷ as′) (b ∷ bs′)
@@ -64,6 +90,7 @@ numberOf s a = number s (lend a (replicate (a .words) 0))
 unfoldable pub boundsOf : State → Lent → List ℕ
 boundsOf s a = if eqb (numberOf s a) 0 then bounds s (a .ask) else []
 
+-- the state after it, by the numbers drawn
 unfoldable pub nextOf : State → Lent → List ℕ → State
 nextOf s a js = if eqb (numberOf s a) 0 then act s (a .ask) js else refuse s (a .ask)
 
@@ -72,7 +99,7 @@ abbrev pub Tape : State → List Lent → List ℕ → Type 0
 Tape s [] t = t ≡ []
 Tape s (a ∷ as′) t =
     let n = length (boundsOf s a) in
-    Below (boundsOf s a) (take n t) × Tape (nextOf s a (take n t)) as′ (drop n t)
+    Drew (boundsOf s a) (take n t) × Tape (nextOf s a (take n t)) as′ (drop n t)
 
 -- ---- Words that give a tape
 
@@ -94,7 +121,11 @@ pub record Gives (s : State) (as′ : List Lent) (t : List ℕ) (cs : List Call)
   pub calls : Lends as′ cs
   pub tape : drawsIn s cs ≡ t
 
--- ---- The claim
+-- all their words are of 16 bits
+abbrev pub Short : List Call → Type 0
+Short cs = All (λ (c : Call). All (λ w. w < 2 ^ 16) (c .words)) cs
+
+-- ---- The claims
 
 -- each value of either has exactly one partner among the other's
 pub record Matching (P Q : List ℕ → Type 0) : Type 0 where
@@ -109,10 +140,6 @@ pub record Matching (P Q : List ℕ → Type 0) : Type 0 where
 abbrev pub told : Outcome → ℕ × ℕ × Command
 told o = (o .number, o .taken, o .command)
 
--- an open of the shape
-abbrev pub first : Shape → ℕ → ℕ → ℕ → Lent
-first h m w n = record { ask = opening h; memory = m; words = w; buffer = n }
-
 -- For every two compared lists, whatever was before the open in either
 abbrev pub Claim : Type 0
 Claim = (h : Shape) → h .E ≡ h .N → (m w n : ℕ) (as′ bs′ : List Lent) → Compared h as′ bs′ → (s s′ : State) →
@@ -121,12 +148,40 @@ Claim = (h : Shape) → h .E ≡ h .N → (m w n : ℕ) (as′ bs′ : List Lent
     Gives s (first h m w n ∷ as′) t cs → Gives s′ (first h m w n ∷ bs′) (p .f t) ds →
     map told (run s cs) ≡ map told (run s′ ds))
 
--- For the smaller cache the requests may be any: the same list with the same words, with E equal to N and with any smaller E
+-- The tapes of a list are what its runs draw, whatever words are lent; some words of 16 bits give each tape; and a tape decides the whole run,
+-- whatever words give it
+pub record Tapes : Type 0 where
+  pub drawn : (s : State) (as′ : List Lent) (cs : List Call) → Lends as′ cs → Tape s as′ (drawsIn s cs)
+  pub given : (s : State) (as′ : List Lent) (t : List ℕ) → Tape s as′ t → (cs : List Call) × (Gives s as′ t cs × Short cs)
+  pub decides : (s : State) (as′ : List Lent) (t : List ℕ) (cs ds : List Call) → Gives s as′ t cs → Gives s as′ t ds → run s cs ≡ run s ds
+
+-- ---- The smaller cache: the requests may be any
+
+-- calls after the open: none is another
+abbrev pub NoOpen : List Call → Type 0
+NoOpen [] = Unit {0}
+NoOpen (c ∷ cs) = (opens (c .ask) ≡ false) × NoOpen cs
+
+abbrev pub withCache : ℕ → Shape → Shape
+withCache e h = record { N = h .N; P = h .P; L = h .L; B = h .B; E = e; W = h .W }
+
+-- an open with e places in the cache
+abbrev pub openOver : ℕ → Shape → ℕ → List ℕ → ℕ → Call
+openOver e h m ws n = record { ask = opening (withCache e h); memory = m; words = ws; buffer = n }
+
+-- Equal outcomes at each place before the first 8 of the second run, or everywhere if it has none
+pub data AgreeUntil8 : List Outcome → List Outcome → Type 0 where
+  done : AgreeUntil8 [] []
+  full : {x y : Outcome} {xs ys : List Outcome} → y .number ≡ 8 → AgreeUntil8 (x ∷ xs) (y ∷ ys)
+  equal : {x y : Outcome} {xs ys : List Outcome} → x ≡ y → AgreeUntil8 xs ys → AgreeUntil8 (x ∷ xs) (y ∷ ys)
+
+-- The same list with the same words, once with E equal to N and once with any E from 1 to N − 1
 abbrev pub Smaller : Type 0
-Smaller = (h : Shape) (e : ℕ) → 1 ≤ e → e < h .N → (m n : ℕ) (ws : List ℕ) (cs : List Call) → Later cs → (s s′ : State) →
+Smaller = (h : Shape) (e : ℕ) → 1 ≤ e → e < h .N → (m n : ℕ) (ws : List ℕ) (cs : List Call) → NoOpen cs → (s s′ : State) →
     AgreeUntil8 (run s (openOver (h .N) h m ws n ∷ cs)) (run s′ (openOver e h m ws n ∷ cs))
 
 -- Demand 3
 pub record Hiding : Type 0 where
   pub lists : Claim
+  pub tapes : Tapes
   pub cache : Smaller

@@ -1,17 +1,16 @@
-pub mod Cache
+-- Demand 3, that nothing tells two compared lists apart.
+-- The statement: read it beside document 01's "Two lists and their tapes"
 pub mod Claim
-pub mod Public
-pub mod Middle
-pub mod Real
-pub mod Marks
-pub mod Steps
-pub mod Number
+-- The proof. Three machines: the rules' (suffix R), one that knows no order before it is shown (M), the ideal one, which knows only what is
+-- public (I; what it shares with the others has the suffix P). Stage one puts the orders' draws off, stage two those of the positions
+pub mod Machines
+pub mod Unchanged
 pub mod Orders
-pub mod Ranks
-pub mod Follow
-pub mod First
-pub mod Second
+pub mod Positions
+pub mod Lists
+pub mod Cache
+pub mod Reached
+-- The theorem, `hidden`
 pub mod Theorem
-pub mod Proof
-pub mod Words
-pub mod Instance
+-- Two lists of a small shape, computed
+pub mod Example

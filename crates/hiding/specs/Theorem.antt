@@ -1,68 +1,9 @@
--- Two lists with the same public parts: their tapes are matched, chunk by chunk and flat.
-use mathlib.Core.Path.{_≡_, refl, ap, fun-ext}
-use mathlib.Core.Logic.{_↔_, Iff·rfl}
-use mathlib.Core.List.{List, [], map}
-use Prim.Native.Nat.{ℕ}
-use lib.ListN.{length}
-use Rattle.rules.specs.Shape.{Shape}
-use Rattle.rules.specs.State.{closed}
-use Rattle.rules.specs.Questions.{number}
-use Rattle.matching.specs.Match.{Match}
-use Rattle.matching.specs.Machine.{Tape, Watch}
-use Rattle.matching.specs.Draws.{below-length}
-use Rattle.matching.specs.Insert.{nothing, none-arranges}
-use Rattle.matching.specs.Family.{Key}
-use Rattle.matching.specs.Pair.{Any, matched}
-use Rattle.matching.specs.Flat.{FlatTape, FlatWatch, flattened}
-use Rattle.hiding.specs.Public
-use Rattle.hiding.specs.Public.{Play, first, later, see, Ideal, ideal}
-use Rattle.hiding.specs.Middle
-use Rattle.hiding.specs.Middle.{Mid, boundsOpen}
-use Rattle.hiding.specs.Real.{Reachable, Real, shut, dead, on, real, real-legal, Orders, openCall, numberR, boundsR}
-use Rattle.hiding.specs.Orders.{HiddenOn}
-use Rattle.hiding.specs.First.{Empty, Hidden₁, first-stage}
-use Rattle.hiding.specs.Second.{Positions, Zero, under, second-stage}
+-- Demand 3 on the rules.
+use Rattle.hiding.specs.Reached.{reached}
+use Rattle.hiding.specs.Claim.{Hiding}
+use Rattle.hiding.specs.Lists.Runs.{claim}
+use Rattle.hiding.specs.Cache.Runs.{smaller}
+use Rattle.hiding.specs.Lists.Words.{tapes-given}
 
-module _ (h : Shape) (reach : Reachable h) where
-  -- the orders that are left at the end, by the ideal state
-  abbrev Rest : Ideal → Orders → Type 0
-  Rest Public.shut o = Empty o
-  Rest Public.dead o = Empty o
-  Rest (Public.on i) o = HiddenOn i o
-
-  rest : (o : Orders) (m : Mid) → Hidden₁ h reach m o ↔ Rest (under h m .0) o
-  rest o Middle.shut = Iff·rfl
-  rest o Middle.dead = Iff·rfl
-  rest o (Middle.on s it) = Iff·rfl
-
-  only₁ : (o : Orders) → Empty o → o ≡ (λ (k : Key). [])
-  only₁ o a = fun-ext (λ k. none-arranges (o k) (a k))
-
-  only₂ : (pos : Positions) → Zero pos → pos ≡ (λ (b : ℕ). 0)
-  only₂ pos a = fun-ext a
-
-  pub oblivious : (A B : List Play) → map (see h) A ≡ map (see h) B →
-      Match (Tape (real h) Any shut A) (Tape (real h) Any shut B) (Watch (real h) shut A) (Watch (real h) shut B)
-  oblivious A B e =
-      matched (see h) (ideal h) (first-stage h reach) (second-stage h) Rest (λ o m q a. rw (a .0) (rest o m))
-      Middle.shut (λ k. []) Public.shut (λ b. 0) only₁ (refl, tt, λ b. refl) only₂ shut shut
-      ((refl, tt), tt, λ k. nothing) ((refl, tt), tt, λ k. nothing) A B e
-
-  -- how many numbers a call draws
-  abbrev pub wants : Real → Play → ℕ
-  wants shut (first m w) = length (boundsOpen h (number closed (openCall h m w)))
-  wants shut (later l m w n) = 0
-  wants dead c = 0
-  wants (on s) (first m w) = 0
-  wants (on s) (later l m w n) = length (boundsR (numberR s l m w n) s l)
-
-  pub size : (r : Real) (c : Play) (d : List ℕ) → real-legal h r c d → length d ≡ wants r c
-  size shut (first m w) d p = below-length (boundsOpen h (number closed (openCall h m w))) d p
-  size shut (later l m w n) d p = ap length p
-  size dead c d p = ap length p
-  size (on s) (first m w) d p = ap length p
-  size (on s) (later l m w n) d p = below-length (boundsR (numberR s l m w n) s l) d p
-
-  pub oblivious-flat : (A B : List Play) → map (see h) A ≡ map (see h) B →
-      Match (FlatTape (real h) wants Any shut A) (FlatTape (real h) wants Any shut B) (FlatWatch (real h) wants shut A) (FlatWatch (real h) wants shut B)
-  oblivious-flat A B e = flattened (real h) wants Any size shut shut A B (oblivious A B e)
+pub hidden : Hiding
+hidden = record { lists = claim reached; tapes = tapes-given; cache = smaller }

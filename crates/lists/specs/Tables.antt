@@ -1,9 +1,10 @@
 -- Tables as functions of an index.
-use mathlib.Core.Path.{_≡_, refl}
+use mathlib.Core.Path.{_≡_, refl, sym, _∙_, fun-ext}
 use mathlib.Core.Bool.{Bool, true, false, _&&_}
 use mathlib.Core.List.{List}
 use Prim.Native.Nat.{ℕ, _+_, _-_, _≤_, _<_}
 use native.Mathlib.Omega.{arith}
+use native.Mathlib.Decide.{ℕ-discrete}
 use lib.ListN.{length, getD}
 use lib.Dec.{eqb, leb, ltb}
 use borrow.Author.Tests.{eq-eqb, ne-eqb, le-leb, lt-leb, lt-ltb, le-ltb, leb-true, ltb-true}
@@ -39,6 +40,21 @@ module _ (a : ℕ) (xs : List ℕ) (f : ℕ → ℕ) (j : ℕ) where
   pub putAll-behind : a + length xs ≤ j → putAll a xs f j ≡ f j
   unfolding putAll
   putAll-behind h = rw (le-leb a j (omega arith), le-ltb j (a + length xs) h, putAll)
+
+module _ {A : Type 0} where
+  pub put-put : (i : ℕ) (x y : A) (f : ℕ → A) → put i x (put i y f) ≡ put i x f
+  put-put i x y f = fun-ext (λ j. go j (ℕ-discrete j i))
+    where
+      go : (j : ℕ) → Dec (j ≡ i) → put i x (put i y f) j ≡ put i x f j
+      go j (yes e) = rw e (put-same i x (put i y f) ∙ sym (put-same i x f))
+      go j (no e) = put-other i x (put i y f) j e ∙ put-other i y f j e ∙ sym (put-other i x f j e)
+
+  pub put-own : (i : ℕ) (f : ℕ → A) → put i (f i) f ≡ f
+  put-own i f = fun-ext (λ j. go j (ℕ-discrete j i))
+    where
+      go : (j : ℕ) → Dec (j ≡ i) → put i (f i) f j ≡ f j
+      go j (yes e) = rw e (put-same i (f i) f)
+      go j (no e) = put-other i (f i) f j e
 
 -- the new table has a property at j if the new entries have it, and the old table at j
 module _ {A : Type 0} (P : A → Type 0) where

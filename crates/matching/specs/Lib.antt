@@ -1,16 +1,13 @@
--- Generic: matchings, machines that draw, deferred draws, two lists through one ideal machine, flat tapes
+-- That two runs of a machine that draws show the same, one to one over what they draw. Nothing here knows a store.
+-- Matchings; machines, their tapes and what is seen of a run; draws put off until they are shown; two lists through one ideal machine
 pub mod Match
 pub mod Machine
-pub mod Lazy
-pub mod Pair
+pub mod Deferred
+pub mod TwoLists
 pub mod Flat
--- The trades: draws, lists without duplicates, a read, an order, one part of a list, a request, a partition's levels
-pub mod Draws
-pub mod Insert
-pub mod Shuffle
-pub mod Part
-pub mod Position
-pub mod Levels
-pub mod Family
--- All of it on a small store
-pub mod Toy
+-- The trades of single calls: none, a read of a slot out of an arrangement, a new order, a value out of a table, and a trade at one key of many
+pub mod Trades
+pub mod Reads
+pub mod Order
+pub mod Positions
+pub mod Keyed

@@ -35,7 +35,7 @@ use Rattle.rules.specs.Open.{fresh}
 use Rattle.rules.specs.Unfold.{model}
 use Rattle.rules.specs.Laws.Answers.{Passed, accepted-passed, step-accepted, step-refused}
 use Rattle.rules.specs.Laws.Range.{InRange, facts-range}
-use Rattle.rules.specs.Laws.Orders.{Drew, done, one, order-below, length-order, nodup-order}
+use Rattle.rules.specs.Laws.Orders.{Drew, order-below, length-order, nodup-order}
 use Rattle.rules.specs.Laws.Kept.{act-in, completed-in, fresh-in, drew-of, given-in}
 use Rattle.rules.specs.Laws.Decided.{decide-in, StepIn, stepBounds-pos}
 use Rattle.rules.specs.Laws.Levels.{partitions-pos}
@@ -202,8 +202,8 @@ accepted-kept s (request j b bs) m ws k l p =
     let h = partitions-pos (s .shape) (f .stored .range .shape) in
     act-kept s f (request j b bs) m ws k _ p (drew-of _ ws (cons h (cons h nil)) (p .1 .1 .1 .1 .1 .1 .0))
 accepted-kept s turn m ws k l p = act-kept s (was-reached s m l (p .0)) turn m ws k _ p (drew-of _ ws (stepBounds-pos (decide s)) (p .1 .1 .1 .1 .0))
-accepted-kept s (completion c bs) m ws k l p = act-kept s (was-reached s m l (and-l (Questions.ready s m) (isKind (c .kind)) (p .0))) (completion c bs) m ws k _ p (unfold draws Run.numbersOf in done)
-accepted-kept s collect m ws k l p = act-kept s (was-reached s m l (p .0)) collect m ws k _ p (unfold draws Run.numbersOf in done)
+accepted-kept s (completion c bs) m ws k l p = act-kept s (was-reached s m l (and-l (Questions.ready s m) (isKind (c .kind)) (p .0))) (completion c bs) m ws k _ p (unfold draws Run.numbersOf in tt)
+accepted-kept s collect m ws k l p = act-kept s (was-reached s m l (p .0)) collect m ws k _ p (unfold draws Run.numbersOf in tt)
 
 refuse-was : (s : State) (a : Ask) → Was s → Was (Run.refuse s a)
 unfolding Run.refuse

@@ -3,47 +3,47 @@ use mathlib.Core.Path.{_≡_, refl, sym}
 use mathlib.Core.Bool.{Bool, true, false, not, true≢false}
 use mathlib.Core.List.{List, [], _∷_, _++_, map}
 use mathlib.Core.Option.{Option, none, some}
-use Prim.Native.Nat.{ℕ, zero, suc, _+_, _-_, _^_, _≤_, _<_}
+use Prim.Native.Nat.{ℕ, suc, _+_, _-_, _^_, _≤_, _<_}
 use native.Mathlib.Nat.{mod-lt}
 use native.Mathlib.Omega.{arith}
-use lib.ListN.{length, getD, replicate, length-append}
+use lib.ListN.{length, replicate, length-append}
 use lib.Dec.{eqb, leb}
 use lib.Pow.{pow-pos}
 use borrow.Author.Tests.{eqb-true, eqb-false, leb-true, ltb-true}
-use Rattle.lists.specs.Tests
-use Rattle.lists.specs.Tests.{if_then_else_, and-l, and-r}
 use Rattle.lists.specs.Search
 use Rattle.lists.specs.Search.{indexOf}
-use Rattle.lists.specs.Tables.{put, putAll-has, put-has}
+use Rattle.lists.specs.Lengths.{without-length}
+use Rattle.lists.specs.Tests
+use Rattle.lists.specs.Tests.{if_then_else_, and-l, and-r}
 use Rattle.lists.specs.All.{All, nil, cons, IfSome, all-append, all-keep, all-without, all-getD, map-below, all-replicate, below-below}
-use Rattle.rules.specs.Collect
+use Rattle.lists.specs.Tables.{put, putAll-has, put-has}
 use Rattle.rules.specs.Memory
-use Rattle.rules.specs.Request
-use Rattle.rules.specs.Open
-use Rattle.rules.specs.Completion
 use Rattle.rules.specs.Blocks
+use Rattle.rules.specs.Levels.{grown}
+use Rattle.rules.specs.Laws.Range.{PlaceIn, CommandIn, RequestIn, JobsIn, InRange, range-facts}
+use Rattle.rules.specs.Request
+use Rattle.rules.specs.Laws.Orders.{Drew, drew-each, order-below, length-order}
+use Rattle.rules.specs.Laws.Levels.{grown-lt, partitions-pos, levels-pos, slots-le}
+use Rattle.rules.specs.Laws.Layout.{cell-inj, offset-in}
+use Rattle.rules.specs.Shape.{Shape, cell, slots, within}
+use Rattle.rules.specs.Laws.Decided.{StepIn, stepBounds-pos, decide-in}
 use Rattle.rules.specs.Rebuild
 use Rattle.rules.specs.Rebuild.{places}
-use Rattle.rules.specs.Shape.{Shape, cell, slots, within}
+use Rattle.rules.specs.Laws.RangeSetters.{inPlace, inBytes, inCounter, inOrder, inMark, inHolds, inWaiting, inQueue, inCursor, inSent, inOutstanding, inRequest}
+use Rattle.rules.specs.Open
 use Rattle.rules.specs.State.{State, closed, Command, Place, nowhere, stored, Request}
-use Rattle.rules.specs.Ranges.{inRange, others, isKind}
-use Rattle.rules.specs.Draws.{newOrder, Drawn, draw, draws, drawnFirst}
-use Rattle.rules.specs.Questions
-use Rattle.rules.specs.Questions.{Ask, opening, request, turn, completion, collect, Call, bounds, questions, number}
 use Rattle.rules.specs.Run
 use Rattle.rules.specs.Run.{act, step, after}
-use Rattle.rules.specs.Turn
-use Rattle.rules.specs.Turn.{Step, idle, noDummy, readForRequest, readForJob, rebuild, writeNext, decide, doStep}
-use Rattle.rules.specs.Levels.{grown}
-use Rattle.rules.specs.Laws.Layout.{cell-inj, offset-in}
+use Rattle.rules.specs.Collect
 use Rattle.rules.specs.Laws.Answers.{Passed, accepted-passed, step-accepted, step-refused}
 use Rattle.rules.specs.Laws.Waiting.{Waits, leave-waits, pass-waits, others-room, waits-le}
-use Rattle.rules.specs.Laws.Range.{PlaceIn, CommandIn, RequestIn, JobsIn, InRange, range-facts}
-use Rattle.rules.specs.Laws.RangeSetters.{inPlace, inBytes, inCounter, inOrder, inMark, inHolds, inWaiting, inQueue, inCursor, inSent, inOutstanding, inRequest}
-use Rattle.rules.specs.Laws.Decided.{StepIn, stepBounds-pos, decide-in}
-use Rattle.rules.specs.Laws.Orders.{Drew, order-below, done, length-order, one}
-use Rattle.lists.specs.Lengths.{without-length}
-use Rattle.rules.specs.Laws.Levels.{grown-lt, partitions-pos, levels-pos, slots-le}
+use Rattle.rules.specs.Questions
+use Rattle.rules.specs.Questions.{Ask, opening, request, turn, completion, collect, Call, bounds, questions, number}
+use Rattle.rules.specs.Turn
+use Rattle.rules.specs.Turn.{Step, idle, noDummy, readForRequest, readForJob, rebuild, writeNext, decide, doStep}
+use Rattle.rules.specs.Completion
+use Rattle.rules.specs.Ranges.{inRange, others, isKind}
+use Rattle.rules.specs.Draws.{newOrder, Drawn, draw, draws, drawnFirst}
 
 -- Commands sent
 pub kind-read : isKind 1 ≡ true
@@ -196,16 +196,11 @@ module _ (s : State) (f : InRange s) where
   }
 
 -- A fresh state
-pub drew-below : (n p b : ℕ) {ms js : List ℕ} → 0 < p → All (λ m. m ≡ p) ms → Drew ms js → getD js b 0 < p
-drew-below n p b h nil done = h
-drew-below n p zero h (cons e t) (one k d) = rw e at k
-drew-below n p (suc b) h (cons e t) (one k d) = drew-below n p b h t d
-
 pub fresh-in : (h : Shape) (js : List ℕ) → within h ≡ true → Drew (replicate (h .N) (h .P)) js → InRange (Open.fresh h js)
 unfolding Open.fresh
 fresh-in h js w d = record {
   shape = w;
-  partitions = λ b hb. drew-below 0 (h .P) b (partitions-pos h w) (all-replicate (λ m. m ≡ h .P) (h .N) (h .P) refl) d;
+  partitions = λ b hb. drew-each (h .N) (h .P) js d b hb;
   places = λ b hb. tt;
   counters = λ q hq. pow-pos (h .L);
   orders = λ q ℓ i hq hℓ hi. pow-pos (ℓ + 1);
@@ -235,7 +230,7 @@ module _ (s : State) (f : InRange s) where
   pub act-in : (a : Ask) (m : ℕ) (ws : List ℕ) (k : ℕ) (js : List ℕ) → Passed (questions s a m ws k) → Drew (bounds s a) js → InRange (act s a js)
   unfolding act questions bounds Request.accept
   act-in (opening h) m ws k js p d = fresh-in h js (p .0) d
-  act-in (request j b bs) m ws k js p (one a (one c done)) = inRequest s f _
+  act-in (request j b bs) m ws k (x ∷ y ∷ []) p (a, (c, _)) = inRequest s f _
       (record { kind = and-r (Questions.ready s m) (isKind j) (p .0); block = ltb-true b (s .shape .N) (p .1 .1 .0); bytes = eqb-true _ _ (p .1 .1 .1 .0); next = a; evict = c; level = omega arith })
       (leb-true (length (s .queue)) 62 (p .1 .1 .1 .1 .0))
       (let h = waits-le (s .shape .E) (s .waiting) (s .request) (f .cache) in (h, others-room (s .shape .E) b (s .waiting) h (p .1 .1 .1 .1 .1 .0)))
@@ -246,13 +241,13 @@ module _ (s : State) (f : InRange s) where
 -- The words lent give such numbers
 pub drew-of : (ms ws : List ℕ) → All (λ m. 0 < m) ms → not (Search.isNone (draws ms ws)) ≡ true → Drew ms (Run.numbersOf (draws ms ws))
 unfolding draws drawnFirst draw Run.numbersOf Search.isNone
-drew-of [] ws h e = done
+drew-of [] ws h e = tt
 drew-of (m ∷ ms) [] h e = absurd (true≢false (sym e))
 drew-of (m ∷ ms) (w ∷ ws) (cons h t) e = go (draws ms ws) e (drew-of ms ws t)
   where
     go : (o : Option Drawn) → not (Search.isNone (drawnFirst (draw m w) o)) ≡ true → (not (Search.isNone o) ≡ true → Drew ms (Run.numbersOf o)) → Drew (m ∷ ms) (Run.numbersOf (drawnFirst (draw m w) o))
     go none e k = absurd (true≢false (sym e))
-    go (some d) e k = one (mod-lt w h) (k refl)
+    go (some d) e k = (mod-lt w h, k refl)
 
 -- an accepted call that is no open was given a state in range
 pub given-in : (s : State) (m : ℕ) → Questions.ready s m ≡ true → InRange s
@@ -268,8 +263,8 @@ accepted-in s (request j b bs) m ws k p =
     let h = partitions-pos (s .shape) (f .shape) in
     act-in s f (request j b bs) m ws k _ p (drew-of _ ws (cons h (cons h nil)) (p .1 .1 .1 .1 .1 .1 .0))
 accepted-in s turn m ws k p = act-in s (given-in s m (p .0)) turn m ws k _ p (drew-of _ ws (stepBounds-pos (decide s)) (p .1 .1 .1 .1 .0))
-accepted-in s (completion c bs) m ws k p = act-in s (given-in s m (and-l (Questions.ready s m) (isKind (c .kind)) (p .0))) (completion c bs) m ws k _ p (unfold draws Run.numbersOf in done)
-accepted-in s collect m ws k p = act-in s (given-in s m (p .0)) collect m ws k _ p (unfold draws Run.numbersOf in done)
+accepted-in s (completion c bs) m ws k p = act-in s (given-in s m (and-l (Questions.ready s m) (isKind (c .kind)) (p .0))) (completion c bs) m ws k _ p (unfold draws Run.numbersOf in tt)
+accepted-in s collect m ws k p = act-in s (given-in s m (p .0)) collect m ws k _ p (unfold draws Run.numbersOf in tt)
 
 -- A state that calls left is closed or in range
 pub data Left (s : State) : Type 0 where

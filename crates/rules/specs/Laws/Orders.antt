@@ -1,21 +1,18 @@
 -- The order that is drawn: its slots are below n, there are n of them, and none stands twice.
 use mathlib.Core.Path.{_≡_, refl, ap, sym, _∙_}
 use mathlib.Core.List.{List, [], _∷_}
-use Prim.Native.Nat.{ℕ, zero, suc, _-_, _<_}
+use Prim.Native.Nat.{ℕ, zero, suc, _-_, _≤_, _<_}
 use native.Mathlib.Omega.{arith}
-use lib.ListN.{length, getD, set, length-set}
+use lib.ListN.{length, getD, set, replicate, length-set}
 use mathlib.Core.Logic.{ite}
 use native.Mathlib.Decide.{ℕ-discrete}
 use lib.Seq.{getD-set-same, getD-set-other}
-use Rattle.lists.specs.Search.{below}
-use Rattle.lists.specs.All.{All, nil, cons, all-getD, all-set, below-below}
-use Rattle.lists.specs.Lengths.{length-count, length-below}
-use Rattle.lists.specs.Distinct.{NoDup, nodup-inj, inj-nodup}
 use Rattle.lists.specs.Members.{nodup-below}
-use Rattle.rules.specs.Shape.{slots}
+use Rattle.lists.specs.Lengths.{length-count, length-below}
+use Rattle.lists.specs.All.{All, nil, cons, all-getD, all-set, below-below}
+use Rattle.lists.specs.Search.{below}
+use Rattle.lists.specs.Distinct.{Mem, NoDup, index, index-mem, mem-at, nodup-inj, inj-nodup}
 use Rattle.rules.specs.Draws.{exchange, shuffle, newOrder, orderBounds}
-use Rattle.rules.specs.Questions.{bounds}
-use Rattle.rules.specs.Run.{after}
 
 -- An order's slots
 pub exchange-below : (n i j : ℕ) (o : List ℕ) → 0 < n → All (λ x. x < n) o → All (λ x. x < n) (exchange o i j)
@@ -48,16 +45,37 @@ orderBounds-pos zero = nil
 orderBounds-pos (suc zero) = nil
 orderBounds-pos (suc (suc i)) = let here : 0 < suc (suc i) = omega arith in cons here (orderBounds-pos (suc i))
 
--- The numbers drawn for a list of bounds: document 01's tape
-pub data Drew : List ℕ → List ℕ → Type 0 where
-  done : Drew [] []
-  one : {m j : ℕ} {ms js : List ℕ} → j < m → Drew ms js → Drew (m ∷ ms) (j ∷ js)
+-- The numbers drawn for a list of bounds, as document 01's tape has them: "one for each draw, in turn, below the m of that draw, and no more"
+abbrev pub Drew : List ℕ → List ℕ → Type 0
+Drew [] [] = Unit {0}
+Drew [] (j ∷ js) = ⊥
+Drew (m ∷ ms) [] = ⊥
+Drew (m ∷ ms) (j ∷ js) = (j < m) × Drew ms js
+
+pub drew-length : (ms js : List ℕ) → Drew ms js → length js ≡ length ms
+drew-length [] [] d = refl
+drew-length [] (j ∷ js) d = absurd d
+drew-length (m ∷ ms) [] d = absurd d
+drew-length (m ∷ ms) (j ∷ js) d = ap suc (drew-length ms js (d .1))
+
+-- as many numbers below one bound
+pub drew-each : (n m : ℕ) (js : List ℕ) → Drew (replicate n m) js → (k : ℕ) → k < n → getD js k 0 < m
+drew-each zero m js d k h = absurd (omega arith)
+drew-each (suc n) m [] d k h = absurd d
+drew-each (suc n) m (j ∷ js) d zero h = d .0
+drew-each (suc n) m (j ∷ js) d (suc k) h = drew-each n m js (d .1) k (omega arith)
+
+pub each-drew : (n m : ℕ) (js : List ℕ) → length js ≡ n → ((k : ℕ) → k < n → getD js k 0 < m) → Drew (replicate n m) js
+each-drew zero m [] e f = tt
+each-drew zero m (j ∷ js) e f = absurd (omega arith)
+each-drew (suc n) m [] e f = absurd (omega arith)
+each-drew (suc n) m (j ∷ js) e f = (f zero (omega arith), each-drew n m js (omega arith) (λ k h. f (suc k) (omega arith)))
 
 -- item k has after the exchange of i and j the slot that item `other i j k` had before it
-other : ℕ → ℕ → ℕ → ℕ
+pub other : ℕ → ℕ → ℕ → ℕ
 other i j k = ite (ℕ-discrete k j) i (ite (ℕ-discrete k i) j k)
 
-by-other : {A : Type 0} (i j k : ℕ) → (k ≡ j → other i j k ≡ i → A) → (¬ (k ≡ j) → k ≡ i → other i j k ≡ j → A) → (¬ (k ≡ j) → ¬ (k ≡ i) → other i j k ≡ k → A) → A
+pub by-other : {A : Type 0} (i j k : ℕ) → (k ≡ j → other i j k ≡ i → A) → (¬ (k ≡ j) → k ≡ i → other i j k ≡ j → A) → (¬ (k ≡ j) → ¬ (k ≡ i) → other i j k ≡ k → A) → A
 unfolding other
 by-other {A} i j k f g h = go (ℕ-discrete k j) (ℕ-discrete k i) refl
   where
@@ -66,20 +84,23 @@ by-other {A} i j k f g h = go (ℕ-discrete k j) (ℕ-discrete k i) refl
     go (no p) (yes r) q = g p r q
     go (no p) (no r) q = h p r q
 
-other-lt : (i j k n : ℕ) → i < n → j < n → k < n → other i j k < n
+pub other-lt : (i j k n : ℕ) → i < n → j < n → k < n → other i j k < n
 other-lt i j k n hi hj hk = by-other i j k (λ p q. omega arith) (λ p q r. omega arith) (λ p q r. omega arith)
 
-other-same : (i j : ℕ) → other i j i ≡ j
+pub other-same : (i j : ℕ) → other i j i ≡ j
 other-same i j = by-other i j i (λ p q. omega arith) (λ p q r. omega arith) (λ p q r. omega arith)
 
-other-first : (i j : ℕ) → other i j j ≡ i
+pub other-first : (i j : ℕ) → other i j j ≡ i
 other-first i j = by-other i j j (λ p q. q) (λ p q r. absurd (p refl)) (λ p q r. absurd (p refl))
 
-other-back : (i j k : ℕ) → other i j (other i j k) ≡ k
+pub other-far : (i j k : ℕ) → i < k → j ≤ i → other i j k ≡ k
+other-far i j k h l = by-other i j k (λ p q. omega arith) (λ p q r. omega arith) (λ p q r. omega arith)
+
+pub other-back : (i j k : ℕ) → other i j (other i j k) ≡ k
 other-back i j k = by-other i j k (λ p q. rw (q, p) (other-same i j)) (λ p q r. rw (r, q) (other-first i j)) (λ p q r. ap (other i j) r ∙ r)
 
 module _ (o : List ℕ) (i j : ℕ) (hi : i < length o) (hj : j < length o) where
-  get-exchange : (k : ℕ) → getD (exchange o i j) k 0 ≡ getD o (other i j k) 0
+  pub get-exchange : (k : ℕ) → getD (exchange o i j) k 0 ≡ getD o (other i j k) 0
   unfolding exchange
   get-exchange k =
       let s = set o i (getD o j 0) in
@@ -89,11 +110,25 @@ module _ (o : List ℕ) (i j : ℕ) (hi : i < length o) (hj : j < length o) wher
       (λ p q r. getD-set-other s j k (getD o i 0) 0 p ∙ rw (r, q, getD-set-same o i (getD o j 0) 0 hi))
       (λ p q r. getD-set-other s j k (getD o i 0) 0 p ∙ rw r (getD-set-other o i k (getD o j 0) 0 q))
 
-  length-exchange : length (exchange o i j) ≡ length o
+  pub length-exchange : length (exchange o i j) ≡ length o
   unfolding exchange
   length-exchange = simp length-set
 
-  nodup-exchange : NoDup o → NoDup (exchange o i j)
+  pub mem-exchange : (z : ℕ) → Mem z o → Mem z (exchange o i j)
+  mem-exchange z m =
+      let r = index-mem z o m in
+      let k = index z o in
+      let e : getD (exchange o i j) (other i j k) 0 ≡ z = get-exchange (other i j k) ∙ rw (other-back i j k) (r .1) in
+      rw e at (mem-at (exchange o i j) (other i j k) (omega (arith, length-exchange, other-lt i j k (length o) hi hj (r .0))))
+
+  pub exchange-mem : (z : ℕ) → Mem z (exchange o i j) → Mem z o
+  exchange-mem z m =
+      let r = index-mem z (exchange o i j) m in
+      let k = index z (exchange o i j) in
+      let h : k < length o = omega (arith, length-exchange) in
+      rw (sym (get-exchange k) ∙ r .1) at (mem-at o (other i j k) (other-lt i j k (length o) hi hj h))
+
+  pub nodup-exchange : NoDup o → NoDup (exchange o i j)
   nodup-exchange u = inj-nodup (exchange o i j) (λ k l hk hl e.
       let hk′ : k < length o = omega (arith, length-exchange) in
       let hl′ : l < length o = omega (arith, length-exchange) in
@@ -103,8 +138,9 @@ module _ (o : List ℕ) (i j : ℕ) (hi : i < length o) (hj : j < length o) wher
 nodup-shuffle : (i : ℕ) (js o : List ℕ) → i < length o → Drew (orderBounds (suc i)) js → NoDup o → NoDup (shuffle i js o)
 unfolding shuffle orderBounds
 nodup-shuffle zero js o h d u = u
-nodup-shuffle (suc i) (j ∷ js) o h (one k d) u =
-    nodup-shuffle i js (exchange o (suc i) j) (omega (arith, length-exchange o (suc i) j h (omega arith))) d (nodup-exchange o (suc i) j h (omega arith) u)
+nodup-shuffle (suc i) [] o h d u = absurd d
+nodup-shuffle (suc i) (j ∷ js) o h d u =
+    nodup-shuffle i js (exchange o (suc i) j) (omega (arith, length-exchange o (suc i) j h (omega arith))) (d .1) (nodup-exchange o (suc i) j h (omega arith) u)
 
 pub nodup-order : (n : ℕ) (js : List ℕ) → 0 < n → Drew (orderBounds n) js → NoDup (newOrder n js)
 unfolding newOrder

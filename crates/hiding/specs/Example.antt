@@ -1,0 +1,182 @@
+-- Two compared lists of a small shape, some of their tapes, and what their runs show: computed.
+-- One partition with two levels, two blocks. Both lists open, make a request, collect it, let the two jobs run and make a second request. The
+-- first list writes block 0 and then reads it. The second reads block 1 and then writes block 0, which is nowhere and so costs a dummy. The draws
+-- that are not below 1 are one order of two slots and one of four: 48 tapes. In either list each of the four slots of level 1 is read with twelve
+-- of them, and all else is the same.
+use mathlib.Core.Path.{_≡_, refl}
+use mathlib.Core.Bool.{true}
+use mathlib.Core.List.{List, [], _∷_, _++_, map}
+use Prim.Native.Nat.{ℕ, _+_, _<_}
+use native.Mathlib.Omega.{arith}
+use lib.ListN.{length, getD}
+use lib.Dec.{eqb}
+use Rattle.lists.specs.Search.{keep, below}
+use Rattle.lists.specs.Tests.{if_then_else_, between}
+use Rattle.rules.specs.Questions.{Ask, opening, request, turn, completion, collect, Call}
+use Rattle.rules.specs.Unfold.{model, shape, call}
+use Rattle.rules.specs.State.{Command, cmd, read, write, closed}
+use Rattle.rules.specs.Run.{run}
+use Rattle.rules.specs.Ranges.{isKind, bytesOf}
+use Rattle.rules.specs.Shape.{Shape}
+use Rattle.rules.specs.Draws.{newOrder}
+use Rattle.hiding.specs.Theorem.{hidden}
+use Rattle.hiding.specs.Claim
+use Rattle.hiding.specs.Claim.{Lent, first, WellFormed, Alike, wellFormed, turns, completions, collects, Same, Compared, Tape, Lends, drawsOf, drawsIn, told, Matching}
+
+abbrev two : Shape
+two = shape 2 1 2 1 2 1
+
+-- a call, with the words it is lent
+abbrev lent : Ask → ℕ → ℕ → Lent
+lent a w n = record { ask = a; memory = 1000; words = w; buffer = n }
+
+-- a command is sent, with these words, and completed
+pub record Sends : Type 0 where
+  pub command : Command
+  pub words : List ℕ
+
+abbrev sends : ℕ → ℕ → ℕ → List ℕ → Sends
+sends k ℓ i ws = record { command = cmd k 0 ℓ i; words = ws }
+
+-- the two jobs: the first writes level 0 by an order with draw j; the second reads it and writes level 1 by an order with draws a, b, c
+abbrev jobs : ℕ → ℕ → ℕ → ℕ → List Sends
+jobs j a b c =
+    sends write 0 0 (j ∷ []) ∷ sends write 0 1 []
+    ∷ sends read 0 0 [] ∷ sends read 0 1 []
+    ∷ sends write 1 0 (a ∷ b ∷ c ∷ []) ∷ sends write 1 1 [] ∷ sends write 1 2 [] ∷ sends write 1 3 []
+    ∷ []
+
+-- what the host brings for a read
+abbrev brought : ℕ → List ℕ
+brought k = if eqb k read then 0 ∷ [] else []
+
+-- the jobs and then the second request, r, with its turn
+unfoldable pub calls : Ask → List Sends → List Call
+calls r [] = call r 1000 (0 ∷ 0 ∷ []) 0 ∷ call turn 1000 [] 1 ∷ []
+calls r (x ∷ xs) = call turn 1000 (x .words) 1 ∷ call (completion (x .command) (brought (x .command .kind))) 1000 [] 0 ∷ calls r xs
+
+unfoldable pub list : Ask → List Sends → List Lent
+list r [] = lent r 2 0 ∷ lent turn 0 1 ∷ []
+list r (x ∷ xs) = lent turn (length (x .words)) 1 ∷ lent (completion (x .command) (brought (x .command .kind))) 0 0 ∷ list r xs
+
+-- the list after its open, and its run with these draws
+abbrev later : Ask → Ask → List Lent
+later r₁ r₂ = lent r₁ 2 0 ∷ lent collect 0 1 ∷ list r₂ (jobs 0 0 0 0)
+
+abbrev runs : Ask → Ask → ℕ → ℕ → ℕ → ℕ → List Call
+runs r₁ r₂ j a b c = call (opening two) 1000 (0 ∷ 0 ∷ []) 0 ∷ call r₁ 1000 (0 ∷ 0 ∷ []) 0 ∷ call collect 1000 [] 1 ∷ calls r₂ (jobs j a b c)
+
+-- the two lists' requests
+abbrev a₁ : Ask
+a₁ = request write 0 (7 ∷ [])
+
+abbrev a₂ : Ask
+a₂ = request read 0 []
+
+abbrev b₁ : Ask
+b₁ = request read 1 []
+
+abbrev b₂ : Ask
+b₂ = request write 0 (9 ∷ [])
+
+-- ---- they are compared
+
+well : (k b : ℕ) (bs : List ℕ) → isKind k ≡ true → b < 2 → length bs ≡ bytesOf two k → WellFormed two k b bs
+well k b bs x y z = record { kind = x; block = y; contents = z }
+
+same : (a b : Ask) (w n : ℕ) → Alike two a b → Same two (lent a w n) (lent b w n)
+same a b w n k = record { ask = k; memory = refl; words = refl; buffer = refl }
+
+rest-compared : (r q : Ask) → Alike two r q → (xs : List Sends) → Compared two (list r xs) (list q xs)
+unfolding list
+rest-compared r q k [] = Claim.more (same r q 2 0 k) (Claim.more (same turn turn 0 1 turns) Claim.none)
+rest-compared r q k (x ∷ xs) = Claim.more (same turn turn _ 1 turns) (Claim.more (same _ _ 0 0 (completions refl)) (rest-compared r q k xs))
+
+pub compared : Compared two (later a₁ a₂) (later b₁ b₂)
+unfolding isKind between bytesOf
+compared =
+    Claim.more (same a₁ b₁ 2 0 (wellFormed (well write 0 (7 ∷ []) refl (omega arith) refl) (well read 1 [] refl (omega arith) refl)))
+    (Claim.more (same collect collect 0 1 collects)
+    (rest-compared a₂ b₂ (wellFormed (well read 0 [] refl (omega arith) refl) (well write 0 (9 ∷ []) refl (omega arith) refl)) (jobs 0 0 0 0)))
+
+-- ---- their tapes
+
+abbrev join : {A : Type 0} → List (List A) → List A
+join [] = []
+join (xs ∷ xss) = xs ++ join xss
+
+-- for each of the 48 choices of the draws
+abbrev each : {A : Type 0} → (ℕ → ℕ → ℕ → ℕ → A) → List A
+each f = join (map (λ j. join (map (λ a. join (map (λ b. map (λ c. f j a b c) (below 2)) (below 3))) (below 4))) (below 2))
+
+abbrev tape : ℕ → ℕ → ℕ → ℕ → List ℕ
+tape j a b c = 0 ∷ 0 ∷ 0 ∷ 0 ∷ j ∷ a ∷ b ∷ c ∷ 0 ∷ 0 ∷ []
+
+lends : (r₁ r₂ : Ask) (j a b c : ℕ) → Lends (first two 1000 2 0 ∷ later r₁ r₂) (runs r₁ r₂ j a b c)
+unfolding list calls
+lends r₁ r₂ j a b c =
+    Claim.more refl (Claim.more refl (Claim.more refl (Claim.more refl (Claim.more refl (Claim.more refl (Claim.more refl
+    (Claim.more refl (Claim.more refl (Claim.more refl (Claim.more refl (Claim.more refl (Claim.more refl (Claim.more refl
+    (Claim.more refl (Claim.more refl (Claim.more refl (Claim.more refl (Claim.more refl (Claim.more refl (Claim.more refl Claim.none))))))))))))))))))))
+
+-- the runs with these words have tapes ..
+pub tapes : (r₁ r₂ : Ask) (j a b c : ℕ) → Tape closed (first two 1000 2 0 ∷ later r₁ r₂) (drawsIn closed (runs r₁ r₂ j a b c))
+tapes r₁ r₂ j a b c = hidden .tapes .drawn closed (first two 1000 2 0 ∷ later r₁ r₂) (runs r₁ r₂ j a b c) (lends r₁ r₂ j a b c)
+
+-- .. of which these two, with draws 0 0 0 0 and 1 3 2 1, are different
+abbrev Two : Ask → Ask → Type 0
+Two r₁ r₂ = Tape closed (first two 1000 2 0 ∷ later r₁ r₂) (tape 0 0 0 0) × Tape closed (first two 1000 2 0 ∷ later r₁ r₂) (tape 1 3 2 1)
+
+drawn-first : (drawsIn closed (runs a₁ a₂ 0 0 0 0) ≡ tape 0 0 0 0) × (drawsIn closed (runs a₁ a₂ 1 3 2 1) ≡ tape 1 3 2 1)
+unfolding model calls drawsIn drawsOf
+drawn-first = (refl, refl)
+
+drawn-second : (drawsIn closed (runs b₁ b₂ 0 0 0 0) ≡ tape 0 0 0 0) × (drawsIn closed (runs b₁ b₂ 1 3 2 1) ≡ tape 1 3 2 1)
+unfolding model calls drawsIn drawsOf
+drawn-second = (refl, refl)
+
+pub tapes-first : Two a₁ a₂
+tapes-first = (rw (drawn-first .0) at (tapes a₁ a₂ 0 0 0 0), rw (drawn-first .1) at (tapes a₁ a₂ 1 3 2 1))
+
+pub tapes-second : Two b₁ b₂
+tapes-second = (rw (drawn-second .0) at (tapes b₁ b₂ 0 0 0 0), rw (drawn-second .1) at (tapes b₁ b₂ 1 3 2 1))
+
+-- and the tapes of the two lists are matched
+pub matching : Matching (Tape closed (first two 1000 2 0 ∷ later a₁ a₂)) (Tape closed (first two 1000 2 0 ∷ later b₁ b₂))
+matching = hidden .lists two refl 1000 2 0 (later a₁ a₂) (later b₁ b₂) compared closed closed .0
+
+-- ---- what their runs show
+
+abbrev zeros : Command
+zeros = cmd 0 0 0 0
+
+-- if the second request reads slot i
+abbrev shows : ℕ → List (ℕ × ℕ × Command)
+shows i =
+    (0, 2, zeros) ∷ (0, 2, zeros) ∷ (0, 0, zeros)
+    ∷ (0, 1, cmd write 0 0 0) ∷ (0, 0, zeros) ∷ (0, 0, cmd write 0 0 1) ∷ (0, 0, zeros)
+    ∷ (0, 0, cmd read 0 0 0) ∷ (0, 0, zeros) ∷ (0, 0, cmd read 0 0 1) ∷ (0, 0, zeros)
+    ∷ (0, 3, cmd write 0 1 0) ∷ (0, 0, zeros) ∷ (0, 0, cmd write 0 1 1) ∷ (0, 0, zeros)
+    ∷ (0, 0, cmd write 0 1 2) ∷ (0, 0, zeros) ∷ (0, 0, cmd write 0 1 3) ∷ (0, 0, zeros)
+    ∷ (0, 2, zeros) ∷ (0, 0, cmd read 0 1 i) ∷ []
+
+-- the slot of an item
+abbrev slotOf : ℕ → ℕ → ℕ → ℕ → ℕ → ℕ
+slotOf k j a b c = getD (newOrder 4 (a ∷ b ∷ c ∷ [])) k 0
+
+-- the first list's block is item 0; the second's second request reads item 1, the lowest dummy
+pub shown-first : each (λ j a b c. map told (run closed (runs a₁ a₂ j a b c))) ≡ each (λ j a b c. shows (slotOf 0 j a b c))
+unfolding model calls
+shown-first = refl
+
+pub shown-second : each (λ j a b c. map told (run closed (runs b₁ b₂ j a b c))) ≡ each (λ j a b c. shows (slotOf 1 j a b c))
+unfolding model calls
+shown-second = refl
+
+-- how often each slot is read
+abbrev counted : List ℕ → List ℕ
+counted xs = map (λ i. length (keep (eqb i) xs)) (below 4)
+
+pub as-often : (counted (each (slotOf 0)) ≡ 12 ∷ 12 ∷ 12 ∷ 12 ∷ []) × (counted (each (slotOf 1)) ≡ 12 ∷ 12 ∷ 12 ∷ 12 ∷ [])
+unfolding model
+as-often = (refl, refl)

@@ -1,0 +1,4 @@
+pub mod Matched
+pub mod Calls
+pub mod Runs
+pub mod Words

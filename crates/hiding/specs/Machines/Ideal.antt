@@ -1,0 +1,132 @@
+-- The ideal machine: it knows the public part of each call and of a state alone, and draws each slot and each partition when it is shown.
+use mathlib.Core.List.{List, [], _∷_, _++_}
+use mathlib.Core.Option.{Option, none, some}
+use Prim.Native.Nat.{ℕ, zero, suc}
+use lib.ListN.{length, getD, replicate}
+use Rattle.lists.specs.Tables.{putAll}
+use Rattle.rules.specs.Completion.{complete}
+use Rattle.rules.specs.Open.{fresh}
+use Rattle.rules.specs.Setters.{_▷_, setPartition, setPlace, setWaiting, setMark, setQueue, setSent, setRequest}
+use Rattle.rules.specs.Turn.{Step, idle, noDummy, readForRequest, readForJob, rebuild, writeNext, command, send, doStep}
+use Rattle.rules.specs.State.{Command, cmd, write, Place, Request, State}
+use Rattle.rules.specs.Laws.Orders.{Drew}
+use Rattle.rules.specs.Shape.{Shape, slots, cell}
+use Rattle.matching.specs.Trades.{None}
+use Rattle.matching.specs.Machine.{Machine}
+use Rattle.matching.specs.Reads.{Arranges, Pick}
+use Rattle.hiding.specs.Machines.Public.{Later, later-request, later-turn, later-completion, later-collect, Entry, first, later, hide, publicRequest, unreadIn, decideP, boundsP, numberP, numberOpen}
+
+-- ---- What is seen: the number, the count of words, the command
+
+abbrev pub Seen : Type 0
+Seen = ℕ × ℕ × Command
+
+abbrev pub nothingSent : Command
+nothingSent = cmd 0 0 0 0
+
+-- the read of a request, at the slot drawn
+abbrev pub slotted : Step → List ℕ → Step
+slotted idle e = idle
+slotted noDummy e = noDummy
+slotted (readForRequest q ℓ x) e = readForRequest q ℓ (getD e 0 0)
+slotted (readForJob q ℓ x) e = readForJob q ℓ x
+slotted (rebuild q t) e = rebuild q t
+slotted (writeNext q t x) e = writeNext q t x
+
+abbrev pub commandP : State → Later → List ℕ → Command
+commandP i (later-request k b bs) e = nothingSent
+commandP i later-turn e = command (slotted (decideP i) e)
+commandP i (later-completion c bs) e = nothingSent
+commandP i later-collect e = nothingSent
+
+abbrev pub seenIf : ℕ → State → Later → List ℕ → Seen
+seenIf zero i l e = (0, length (boundsP i l), commandP i l e)
+seenIf (suc n) i l e = (suc n, 0, nothingSent)
+
+abbrev pub seenOpen : Shape → ℕ → Seen
+seenOpen h zero = (0, h .N, nothingSent)
+seenOpen h (suc n) = (suc n, 0, nothingSent)
+
+-- ---- What is drawn
+
+abbrev pub legalStep : State → Step → List ℕ → Type 0
+legalStep i idle e = None e
+legalStep i noDummy e = None e
+legalStep i (readForRequest q ℓ x) e = Pick (unreadIn (i .shape) (i .mark) (q, ℓ)) e
+legalStep i (readForJob q ℓ x) e = Drew (length (unreadIn (i .shape) (i .mark) (q, ℓ)) ∷ []) e  -- the place of slot x, which nobody sees
+legalStep i (rebuild q t) e = Arranges (unreadIn (i .shape) (i .mark) (q, t)) e  -- nothing, if the target has no unread slots
+legalStep i (writeNext q t x) e = None e
+
+abbrev pub legalIf : ℕ → State → Later → List ℕ → Type 0
+legalIf (suc n) i l e = None e
+legalIf zero i (later-request k b bs) e = Drew (i .shape .P ∷ i .shape .P ∷ []) e
+legalIf zero i later-turn e = legalStep i (decideP i) e
+legalIf zero i (later-completion c bs) e = None e
+legalIf zero i later-collect e = None e
+
+-- ---- The state after an accepted call, by its public part
+
+unfoldable pub rebuildP : ℕ → ℕ → (ℕ → Place) → List ℕ → State → State
+rebuildP q t place waiting s =
+    s ▷ setPlace place
+    ▷ setWaiting waiting
+    ▷ setMark (putAll (cell (s .shape) q t 0) (replicate (slots t) 1) (s .mark))
+    ▷ setSent 1
+    ▷ send (cmd write q t 0)
+
+abbrev pub nextStepI : State → Step → List ℕ → State
+nextStepI i idle e = i
+nextStepI i noDummy e = i
+nextStepI i (readForRequest q ℓ x) e = doStep (readForRequest q ℓ (getD e 0 0)) [] i
+nextStepI i (readForJob q ℓ x) e = doStep (readForJob q ℓ x) [] i
+nextStepI i (rebuild q t) e = rebuildP q t (i .place) (i .waiting) i
+nextStepI i (writeNext q t x) e = doStep (writeNext q t x) [] i
+
+unfoldable pub collectedI : Option Request → State → State
+collectedI none i = i
+collectedI (some r) i =
+    i ▷ setPartition (λ b. 0)
+    ▷ setQueue (i .queue ++ (i .partition (r .block) ∷ r .evict ∷ []))
+    ▷ setRequest none
+
+abbrev pub nextI : ℕ → State → Later → List ℕ → State
+nextI (suc n) i l e = i
+nextI zero i (later-request k b bs) e = i ▷ setPartition (λ b. getD e 0 0) ▷ setRequest (some (publicRequest (getD e 1 0) 0))
+nextI zero i later-turn e = nextStepI i (decideP i) e
+nextI zero i (later-completion c bs) e = complete c bs i
+nextI zero i later-collect e = collectedI (i .request) i
+
+-- ---- The machine
+
+-- before the open; after a refused one, closed; after an accepted one
+pub data Ideal : Type 0 where
+  unopened shut : Ideal
+  on : State → Ideal
+
+module _ (h : Shape) where
+  abbrev pub openI : ℕ → Ideal
+  openI zero = on (hide (fresh h []))
+  openI (suc n) = shut
+
+  abbrev pub ideal-legal : Ideal → Entry → List ℕ → Type 0
+  ideal-legal unopened c e = None e
+  ideal-legal shut c e = None e
+  ideal-legal (on i) (first m w) e = None e
+  ideal-legal (on i) (later l m w n) e = legalIf (numberP i l m w n) i l e
+
+  abbrev pub ideal-next : Ideal → Entry → List ℕ → Ideal
+  ideal-next unopened (first m w) e = openI (numberOpen h m w)
+  ideal-next unopened (later l m w n) e = unopened
+  ideal-next shut c e = shut
+  ideal-next (on i) (first m w) e = on i
+  ideal-next (on i) (later l m w n) e = on (nextI (numberP i l m w n) i l e)
+
+  abbrev pub ideal-seen : Ideal → Entry → List ℕ → Seen
+  ideal-seen unopened (first m w) e = seenOpen h (numberOpen h m w)
+  ideal-seen unopened (later l m w n) e = (2, 0, nothingSent)
+  ideal-seen shut c e = (2, 0, nothingSent)
+  ideal-seen (on i) (first m w) e = (2, 0, nothingSent)
+  ideal-seen (on i) (later l m w n) e = seenIf (numberP i l m w n) i l e
+
+  abbrev pub ideal : Machine Entry (List ℕ) Seen
+  ideal = record { State = Ideal; Legal = ideal-legal; next = ideal-next; seen = ideal-seen }

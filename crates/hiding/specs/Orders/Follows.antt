@@ -1,0 +1,234 @@
+-- The rules' state after a call, as the middle machine has it: the state without its slots, what its unread items hold, and their slots.
+use mathlib.Core.Path.{_≡_, refl, ap, fun-ext, subst}
+use mathlib.Core.Bool.{Bool, true, false}
+use mathlib.Core.List.{List, [], _∷_}
+use mathlib.Core.Option.{Option, none, some}
+use Prim.Native.Nat.{ℕ, zero, suc, _+_}
+use lib.ListN.{length}
+use lib.Dec.{eqb}
+use lib.Pow.{pow-pos}
+use Rattle.lists.specs.Tables.{put}
+use Rattle.lists.specs.Members.{keep-same}
+use Rattle.lists.specs.Tests.{if_then_else_}
+use Rattle.lists.specs.Search.{below, indexOf}
+use Rattle.lists.specs.Distinct.{index-mem}
+use Rattle.rules.specs.Laws.Answers.{accepted-passed}
+use Rattle.rules.specs.Request.{accept}
+use Rattle.rules.specs.Questions.{bounds, questions, inHand}
+use Rattle.rules.specs.Completion
+use Rattle.rules.specs.Completion.{complete}
+use Rattle.rules.specs.Laws.Levels.{sources-le}
+use Rattle.rules.specs.Levels
+use Rattle.rules.specs.Shape.{Shape, slots}
+use Rattle.rules.specs.Draws.{newOrder}
+use Rattle.rules.specs.Collect
+use Rattle.rules.specs.Collect.{collected, finished}
+use Rattle.rules.specs.State.{State, Command, Request, Place, nowhere, stored}
+use Rattle.rules.specs.Turn
+use Rattle.rules.specs.Turn.{Step, idle, noDummy, readForRequest, readForJob, rebuild, writeNext, decide, stepBounds, doStep, command}
+use Rattle.rules.specs.Blocks
+use Rattle.rules.specs.Laws.Orders.{Drew}
+use Rattle.rules.specs.Run.{act, sentCommand}
+use Rattle.rules.specs.Rebuild
+use Rattle.rules.specs.Rebuild.{gathered, newPlace, itemPlace}
+use Rattle.rules.specs.Laws.Range.{range-facts, InRange}
+use Rattle.matching.specs.Reads.{arranges-mem}
+use Rattle.matching.specs.Order.{order-ok}
+use Rattle.reachable.specs.Live.{storedIn, isBelow}
+use Rattle.hiding.specs.Machines.Ideal.{slotted, seenIf, rebuildP}
+use Rattle.hiding.specs.Machines.Middle
+use Rattle.hiding.specs.Machines.Middle.{levelOnly, forget, chosenM, gatheredM, Items, nextStepM, nextM, itemsStep, itemsM, collectedM}
+use Rattle.hiding.specs.Orders.Trades.{HiddenOn, OpenP, rebuild-step, decideP-open, tradeStep, tradeIf}
+use Rattle.hiding.specs.Orders.Number.{slotless, step-hide, bounds-hide}
+use Rattle.hiding.specs.Orders.Rank.{rank-is, in-order}
+use Rattle.hiding.specs.Machines.Rules.{on, numberR, called, boundsR, nextR, seenR, Orders, itemsIn, slotsIn, itemsOf, ordersOf, view}
+use Rattle.hiding.specs.Orders.Items.{orders-read, items-read, orders-written, items-written, items-left}
+use Rattle.hiding.specs.Machines.Public.{Later, later-request, later-turn, later-completion, later-collect, hide, unreadIn, decideP}
+use Rattle.hiding.specs.Unchanged.{Rest, complete-rest}
+use Rattle.hiding.specs.Machines.Needs.{Reachable}
+
+-- ---- what is forgotten plays no part
+
+below-level : (top : ℕ) (x : Place) → isBelow top (levelOnly x) ≡ isBelow top x
+unfolding isBelow
+below-level top nowhere = refl
+below-level top (stored ℓ i) = refl
+
+storedIn-forget : (s : State) (q top : ℕ) → storedIn (forget s) q top ≡ storedIn s q top
+unfolding storedIn
+storedIn-forget s q top = keep-same _ _ (below (s .shape .N)) (λ b m. rw (below-level top (s .place b)))
+
+chosen-forget : (s : State) (q : ℕ) → chosenM (forget s) q ≡ chosenM s q
+unfolding chosenM
+chosen-forget s q = rw (storedIn-forget s q (s .shape .L))
+
+gathered-forget : (s : State) (q : ℕ) → gatheredM (forget s) q ≡ gatheredM s q
+unfolding gatheredM
+gathered-forget s q = keep-same _ _ (below (s .shape .N)) (λ b m. rw (chosen-forget s q, below-level (Levels.sources (s .shape) (s .counter q)) (s .place b)))
+
+place-forget : (t : ℕ) (blocks o : List ℕ) (f : ℕ → Place) → (λ (b : ℕ). levelOnly (newPlace t blocks o f b)) ≡ newPlace t blocks [] (λ b. levelOnly (f b))
+unfolding newPlace itemPlace
+place-forget t blocks o f = fun-ext (λ b. go (indexOf b blocks) (f b))
+  where
+    go : (k : Option ℕ) (x : Place) → levelOnly (itemPlace t o k x) ≡ itemPlace t [] k (levelOnly x)
+    go none x = refl
+    go (some k) x = refl
+
+put-forget : (b : ℕ) (f : ℕ → Place) → (λ (a : ℕ). levelOnly (put b nowhere f a)) ≡ put b nowhere (λ a. levelOnly (f a))
+unfolding put
+put-forget b f = fun-ext (λ a. go a (eqb a b) refl)
+  where
+    go : (a : ℕ) (t : Bool) → eqb a b ≡ t → levelOnly (put b nowhere f a) ≡ put b nowhere (λ a. levelOnly (f a)) a
+    go a true e = rw (e, put)
+    go a false e = rw (e, put)
+
+-- a completion's bytes are those of no block, where no slot holds one
+complete-forget : (s : State) (c : Command) (bs : List ℕ) → forget (complete c bs s) ≡ complete c bs (forget s)
+unfolding complete Completion.completeRead Completion.completeWrite Completion.completed Completion.gatherBytes Completion.finishJob Completion.endJob Completion.jobDone Blocks.holder Blocks.named
+complete-forget s c bs = go (eqb (c .kind) 1) (Blocks.holder s (c .partition) (c .level) (c .slot)) (s .queue)
+  where
+    s′ : State
+    s′ = Completion.completed c s
+
+    ended : (q : ℕ) (qs : List ℕ) (t : Bool) → forget (if t then Completion.endJob q qs s′ else s′) ≡ (if t then Completion.endJob q qs (forget s′) else forget s′)
+    ended q qs true = refl
+    ended q qs false = refl
+
+    go : (t : Bool) (b : Option ℕ) (qs : List ℕ) → forget (if t then Completion.gatherBytes b bs s′ else Completion.finishJob qs s′) ≡ (if t then forget s′ else Completion.finishJob qs (forget s′))
+    go true none qs = refl
+    go true (some b) qs = refl
+    go false b [] = refl
+    go false b (q ∷ qs) = ended q qs (Completion.jobDone s′ q)
+
+-- ---- the state after a call, as the middle machine has it
+
+-- the next state, what its items hold, and their slots
+pub record Follows (s′ m : State) (it : Items) (o : Orders) : Type 0 where
+  pub state : forget s′ ≡ m
+  pub items : itemsOf s′ ≡ it
+  pub orders : ordersOf s′ ≡ o
+
+pub follows-view : (s′ m : State) (it : Items) (o : Orders) → Follows s′ m it o → view (on s′) ≡ (Middle.on m it, o)
+follows-view s′ m it o f = λ i. (Middle.on (f .state i) (f .items i), f .orders i)
+
+module _ (h : Shape) (reach : Reachable h) (s : State) (k : reach .Holds s) (hid : HiddenOn (forget s) (ordersOf s)) (d : List ℕ) where
+  abbrev rangeOf : InRange s
+  rangeOf = range-facts s (reach .range s k)
+
+  -- what a step of a turn has to show
+  abbrev pub StepFollows : (x : Step) → OpenP (s .shape) (s .mark) (slotless x) → Type 0
+  StepFollows x p =
+      let y = tradeStep (forget s) (itemsOf s) (slotless x) p .f (ordersOf s, d) in
+      (command x ≡ command (slotted (slotless x) (y .0)))
+      × Follows (doStep x d s) (nextStepM (forget s) (slotless x) (y .0)) (itemsStep (forget s) (itemsOf s) (slotless x) (y .0)) (y .1)
+
+  -- a request's read
+  request-follows : (q ℓ x : ℕ) (p : OpenP (s .shape) (s .mark) (readForRequest q ℓ 0)) → decide s ≡ readForRequest q ℓ x → StepFollows (readForRequest q ℓ x) p
+  unfolding doStep Turn.markRead Turn.send
+  request-follows q ℓ x p e =
+      let r = rank-is h reach s k hid q ℓ x e in
+      let m = in-order h reach s k hid q ℓ x e in
+      let g = index-mem x (ordersOf s (q, ℓ)) m .1 in
+      rw (r, g) (
+        refl,
+        record {
+          state = refl;
+          items = items-read s rangeOf q ℓ x (hid (q, ℓ) .1) m;
+          orders = orders-read s rangeOf q ℓ x (hid (q, ℓ) .1) m;
+        },
+      )
+
+  -- a job's read
+  job-follows : (q ℓ x : ℕ) (p : OpenP (s .shape) (s .mark) (readForJob q ℓ x)) → StepFollows (readForJob q ℓ x) p
+  unfolding doStep Turn.markRead Turn.send
+  job-follows q ℓ x p =
+      let m = arranges-mem x (unreadIn (s .shape) (s .mark) (q, ℓ)) (ordersOf s (q, ℓ)) (hid (q, ℓ)) p in (
+        refl,
+        record {
+          state = refl;
+          items = items-read s rangeOf q ℓ x (hid (q, ℓ) .1) m;
+          orders = orders-read s rangeOf q ℓ x (hid (q, ℓ) .1) m;
+        },
+      )
+
+  -- a rebuild
+  rebuild-follows : (q t : ℕ) (p : OpenP (s .shape) (s .mark) (rebuild q t)) → decide s ≡ rebuild q t → Drew (stepBounds (rebuild q t)) d → StepFollows (rebuild q t) p
+  unfolding doStep Rebuild.doRebuild Turn.send rebuildP
+  rebuild-follows q t p e b =
+      let g = reach .gathers s q t k e in
+      let a = order-ok (slots t) (pow-pos (t + 1)) d (rebuild-step s q t d .0 b) in
+      rw (gathered-forget s q, chosen-forget s q, ← g .0, ← g .1) (
+        refl,
+        record {
+          state = rw (place-forget t (gathered s q) (newOrder (slots t) d) (s .place));
+          items = items-written s rangeOf q t (p .0) (p .1) (gathered s q) (newOrder (slots t) d) a
+              (Levels.sources (s .shape) (s .counter q)) (sources-le (s .shape) (s .counter q)) (λ ℓ i. reach .spent s q t ℓ i k e);
+          orders = orders-written s rangeOf q t (p .0) (p .1) (gathered s q) (newOrder (slots t) d) a;
+        },
+      )
+
+  write-follows : (q t x : ℕ) (p : OpenP (s .shape) (s .mark) (writeNext q t x)) → Drew (stepBounds (writeNext q t x)) d → StepFollows (writeNext q t x) p
+  unfolding doStep Turn.send
+  write-follows q t x p b = (refl, record { state = refl; items = refl; orders = refl })
+
+  idle-follows : (p : OpenP (s .shape) (s .mark) idle) → StepFollows idle p
+  unfolding doStep
+  idle-follows p = (refl, record { state = refl; items = refl; orders = refl })
+
+  noDummy-follows : (p : OpenP (s .shape) (s .mark) noDummy) → StepFollows noDummy p
+  unfolding doStep
+  noDummy-follows p = (refl, record { state = refl; items = refl; orders = refl })
+
+  pub step-follows : (x : Step) (p : OpenP (s .shape) (s .mark) (slotless x)) → decide s ≡ x → Drew (stepBounds x) d → StepFollows x p
+  step-follows idle p e b = idle-follows p
+  step-follows noDummy p e b = noDummy-follows p
+  step-follows (readForRequest q ℓ x) p e b = request-follows q ℓ x p e
+  step-follows (readForJob q ℓ x) p e b = job-follows q ℓ x p
+  step-follows (rebuild q t) p e b = rebuild-follows q t p e b
+  step-follows (writeNext q t x) p e b = write-follows q t x p b
+
+  -- ---- the other calls
+
+  complete-follows : (c : Command) (bs : List ℕ) → Follows (complete c bs s) (complete c bs (forget s)) (itemsOf s) (ordersOf s)
+  complete-follows c bs =
+      let e = complete-rest s c bs in
+      record {
+        state = complete-forget s c bs;
+        items = ap (λ (x : Rest). itemsIn (x .shape) (x .mark) (x .order) (x .holds)) e;
+        orders = ap (λ (x : Rest). slotsIn (x .shape) (x .mark) (x .order)) e;
+      }
+
+  collect-follows : (o : Option Request) → s .request ≡ o → inHand (finished s) o ≡ true → Follows (collected o s) (collectedM o (forget s)) (itemsOf s) (ordersOf s)
+  unfolding collected collectedM Collect.finish inHand
+  collect-follows none e f = record { state = refl; items = refl; orders = refl }
+  collect-follows (some r) e f = record {
+    state = rw (put-forget (r .block) (s .place));
+    items = items-left s rangeOf (s .partition (r .block)) (s .place (r .block)) (λ ℓ i g. reach .left s r ℓ i k e f g);
+    orders = refl;
+  }
+
+  -- what a call has to show
+  abbrev pub CallFollows : ℕ → Later → Type 0
+  CallFollows n l =
+      let y = tradeIf n (forget s) (itemsOf s) l .f (ordersOf s, d) in
+      (seenR n s l ≡ seenIf n (hide s) l (y .0))
+      × Follows (nextR n s l d) (nextM n (forget s) l (y .0)) (itemsM n (forget s) (itemsOf s) l (y .0)) (y .1)
+
+  abbrev TurnFollows : (z : Step) → OpenP (s .shape) (s .mark) z → Type 0
+  TurnFollows z p =
+      let y = tradeStep (forget s) (itemsOf s) z p .f (ordersOf s, d) in
+      (command (decide s) ≡ command (slotted z (y .0)))
+      × Follows (doStep (decide s) d s) (nextStepM (forget s) z (y .0)) (itemsStep (forget s) (itemsOf s) z (y .0)) (y .1)
+
+  turn-follows : Drew (stepBounds (decide s)) d → TurnFollows (decideP (hide s)) (decideP-open (hide s))
+  turn-follows b = subst (λ z. (p : OpenP (s .shape) (s .mark) z) → TurnFollows z p) (step-hide h reach s k) (λ p. step-follows (decide s) p refl b) (decideP-open (hide s))
+
+  pub call-follows : (n : ℕ) (l : Later) (m w j : ℕ) → numberR s l m w j ≡ n → Drew (boundsR n s l) d → CallFollows n l
+  unfolding act bounds sentCommand accept questions
+  call-follows (suc n) l m w j e b = (refl, record { state = refl; items = refl; orders = refl })
+  call-follows zero (later-request t a bs) m w j e b = (refl, record { state = refl; items = refl; orders = refl })
+  call-follows zero later-turn m w j e b =
+      let r = turn-follows b in
+      (λ i. (0, ap length (bounds-hide h reach s k later-turn) i, r .0 i), r .1)
+  call-follows zero (later-completion c bs) m w j e b = (refl, complete-follows c bs)
+  call-follows zero later-collect m w j e b = (refl, collect-follows (s .request) refl (accepted-passed s (called later-collect m w j) e .1 .1 .0))

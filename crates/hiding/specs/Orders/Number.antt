@@ -1,0 +1,249 @@
+-- In a state that calls left, the number of a call, the bounds of its draws and its step are those of the public parts.
+use mathlib.Core.Path.{_≡_, refl, ap, sym, _∙_}
+use mathlib.Core.Bool.{Bool, true, false, not, _&&_, _||_, true≢false}
+use mathlib.Core.List.{List, [], _∷_}
+use mathlib.Core.Option.{Option, none, some, Option·getD}
+use Prim.Native.Nat.{ℕ, suc}
+use lib.ListN.{length, replicate, length-replicate}
+use lib.Dec.{eqb, leb, ltb, leb·zero, leb·suc-zero, leb·suc-suc}
+use borrow.Author.Tests.{leb-true, ltb-true, lt-ltb}
+use Rattle.lists.specs.Members.{mem-member}
+use Rattle.lists.specs.Search.{isNone, any, orElse, member}
+use Rattle.lists.specs.Tests.{if_then_else_, between, and-l, and-r, every-yes}
+use Rattle.lists.specs.Distinct.{Mem}
+use Rattle.rules.specs.Memory.{needed}
+use Rattle.rules.specs.Laws.Kept.{kind-read}
+use Rattle.rules.specs.Blocks
+use Rattle.rules.specs.Levels
+use Rattle.rules.specs.Laws.Range.{range-facts}
+use Rattle.rules.specs.Request.{held, levelsLeft, slotIn, dummy}
+use Rattle.rules.specs.Shape.{Shape, within}
+use Rattle.rules.specs.Rebuild
+use Rattle.rules.specs.State.{State, Request, nowhere, read}
+use Rattle.rules.specs.Collect.{finished}
+use Rattle.rules.specs.Turn
+use Rattle.rules.specs.Turn.{Step, idle, noDummy, readForRequest, readForJob, rebuild, writeNext, firstRead, readStep, requestStep, jobStep, decide, command, stepBounds}
+use Rattle.rules.specs.Questions.{possible, inHand, sends, bounds, ready, questions, firstNo, number}
+use Rattle.rules.specs.Ranges.{isKind, bytesOf, inRange}
+use Rattle.rules.specs.Draws.{Drawn, draw, draws, drawnFirst}
+use Rattle.hiding.specs.Machines.Rules.{numberR}
+use Rattle.hiding.specs.Orders.Decides.{OpenStep, decide-open}
+use Rattle.hiding.specs.Machines.Needs.{Reachable}
+use Rattle.hiding.specs.Machines.Public.{Later, later-request, later-turn, later-completion, later-collect, ask, formed, publicAsk, publicLater, publicRequest, blank, hide, requestStepP, plannedP, checked, isNil, decideP, boundsP, questionsP, numberP}
+
+-- words are enough if there is one for each draw
+pub enough : (ms ws : List ℕ) → not (isNone (draws ms ws)) ≡ leb (length ms) (length ws)
+unfolding draws isNone
+enough [] ws = sym (leb·zero (length ws))
+enough (m ∷ ms) [] = sym (leb·suc-zero (length ms))
+enough (m ∷ ms) (w ∷ ws) = go (draws ms ws) (enough ms ws)
+  where
+    go : (o : Option Drawn) → not (isNone o) ≡ leb (length ms) (length ws) → not (isNone (drawnFirst (draw m w) o)) ≡ leb (suc (length ms)) (suc (length ws))
+    go none e = unfold drawnFirst isNone in (e ∙ sym (leb·suc-suc (length ms) (length ws)))
+    go (some d) e = unfold drawnFirst isNone in (e ∙ sym (leb·suc-suc (length ms) (length ws)))
+
+pub enough-zeros : (ms : List ℕ) (w : ℕ) → not (isNone (draws ms (replicate w 0))) ≡ leb (length ms) w
+enough-zeros ms w = enough ms (replicate w 0) ∙ simp length-replicate
+
+-- ---- the step
+
+-- a step without the slot of a request's read
+abbrev pub slotless : Step → Step
+slotless idle = idle
+slotless noDummy = noDummy
+slotless (readForRequest q ℓ x) = readForRequest q ℓ 0
+slotless (readForJob q ℓ x) = readForJob q ℓ x
+slotless (rebuild q t) = rebuild q t
+slotless (writeNext q t x) = writeNext q t x
+
+jobStep-hide : (s : State) (qs : List ℕ) → jobStep (hide s) qs ≡ jobStep s qs
+unfolding jobStep Rebuild.unread Turn.rebuildStep Turn.writeStep Blocks.isUnread
+jobStep-hide s [] = refl
+jobStep-hide s (q ∷ qs) = refl
+
+-- a job's step has no slot to lose
+job-slotless : (s : State) (qs : List ℕ) → slotless (jobStep s qs) ≡ jobStep s qs
+unfolding jobStep Turn.gatherStep Turn.rebuildStep Turn.writeStep
+job-slotless s [] = refl
+job-slotless s (q ∷ qs) = go (eqb (s .sent) 0) (Rebuild.unread s q) (any (λ c. eqb (c .partition) q) (s .outstanding)) (ltb (s .sent) _)
+  where
+    go : (t : Bool) (o : Option (ℕ × ℕ)) (a b : Bool) →
+        let x = if t then Turn.gatherStep q o (if a then idle else rebuild q (Levels.target (s .shape) (s .counter q))) else (if b then writeNext q (Levels.target (s .shape) (s .counter q)) (s .sent) else idle) in
+        slotless x ≡ x
+    go true none true b = refl
+    go true none false b = refl
+    go true (some p) a b = refl
+    go false o a true = refl
+    go false o a false = refl
+
+held-hide : (s : State) (r : Request) → s .request ≡ some r → held (hide s) (publicRequest (r .evict) (r .level)) ≡ held s r
+unfolding held
+held-hide s r e = rw e
+
+left-hide : (s : State) (r : Request) → s .request ≡ some r → levelsLeft (hide s) (publicRequest (r .evict) (r .level)) ≡ levelsLeft s r
+unfolding levelsLeft
+left-hide s r e = rw e
+
+pub finished-hide : (s : State) (r : Request) → s .request ≡ some r → finished (hide s) (publicRequest (r .evict) (r .level)) ≡ finished s r
+unfolding finished
+finished-hide s r e = rw (held-hide s r e, left-hide s r e) (rw e)
+
+module _ (s : State) where
+  -- the step of a state that lacks no dummy
+  decide-some : (o : Option Request) → s .request ≡ o → possible s (Option·getD (requestStep s o) (jobStep s (s .queue))) ≡ true →
+      slotless (Option·getD (requestStep s o) (jobStep s (s .queue))) ≡ Option·getD (requestStepP (hide s) (blank o)) (jobStep (hide s) (s .queue))
+  unfolding requestStep requestStepP firstRead readStep possible slotIn orElse
+  decide-some none e p = job-slotless s (s .queue) ∙ sym (jobStep-hide s (s .queue))
+  decide-some (some r) e p =
+      rw (held-hide s r e, left-hide s r e) (go (held s r) (levelsLeft s r) p)
+    where
+      q : ℕ
+      q = s .partition (r .block)
+
+      at-level : (ℓ : ℕ) (o : Option ℕ) → possible s (readStep q ℓ o) ≡ true → slotless (readStep q ℓ o) ≡ readForRequest ((hide s) .partition 0) ℓ 0
+      at-level ℓ none p = absurd (true≢false (sym p))
+      at-level ℓ (some i) p = rw e
+
+      go : (t : Bool) (ls : List ℕ) → possible s (Option·getD (if t then none else firstRead q (s .place (r .block)) (dummy s q) ls) (jobStep s (s .queue))) ≡ true →
+          slotless (Option·getD (if t then none else firstRead q (s .place (r .block)) (dummy s q) ls) (jobStep s (s .queue)))
+          ≡ Option·getD (if t then none else firstRead ((hide s) .partition 0) nowhere (λ ℓ. some 0) ls) (jobStep (hide s) (s .queue))
+      go true ls p = job-slotless s (s .queue) ∙ sym (jobStep-hide s (s .queue))
+      go false [] p = job-slotless s (s .queue) ∙ sym (jobStep-hide s (s .queue))
+      go false (ℓ ∷ ls) p = at-level ℓ (orElse (slotIn ℓ (s .place (r .block))) (dummy s q ℓ)) p
+
+  decide-hide : possible s (decide s) ≡ true → slotless (decide s) ≡ plannedP (hide s)
+  unfolding decide plannedP
+  decide-hide p = decide-some (s .request) refl p
+
+-- the slot plays no part in the bounds, in whether a command is sent, and in its kind
+abbrev tells : Step → List ℕ × Bool × ℕ
+tells x = (stepBounds x, sends x, command x .kind)
+
+slotless-tells : (x : Step) → tells (slotless x) ≡ tells x
+unfolding stepBounds sends command
+slotless-tells idle = refl
+slotless-tells noDummy = refl
+slotless-tells (readForRequest q ℓ x) = refl
+slotless-tells (readForJob q ℓ x) = refl
+slotless-tells (rebuild q t) = refl
+slotless-tells (writeNext q t x) = refl
+
+slotless-bounds : (x : Step) → stepBounds (slotless x) ≡ stepBounds x
+slotless-bounds x = ap (λ (y : List ℕ × Bool × ℕ). y .0) (slotless-tells x)
+
+slotless-sends : (x : Step) → sends (slotless x) ≡ sends x
+slotless-sends x = ap (λ (y : List ℕ × Bool × ℕ). y .1) (slotless-tells x)
+
+slotless-kind : (x : Step) → command (slotless x) .kind ≡ command x .kind
+slotless-kind x = ap (λ (y : List ℕ × Bool × ℕ). y .2) (slotless-tells x)
+
+-- a step that reads unread slots passes the check
+isNil-mem : (x : ℕ) (xs : List ℕ) → Mem x xs → isNil xs ≡ false
+unfolding isNil
+isNil-mem x [] m = absurd m
+isNil-mem x (y ∷ ys) m = refl
+
+checked-open : (s : State) (x : Step) → OpenStep (s .shape) (s .mark) x → checked (hide s) (slotless x) ≡ slotless x
+unfolding checked
+checked-open s idle o = refl
+checked-open s noDummy o = refl
+checked-open s (readForRequest q ℓ x) o = rw (isNil-mem x _ o)
+checked-open s (readForJob q ℓ x) o = rw (mem-member x _ o)
+checked-open s (rebuild q t) o = rw (lt-ltb q (s .shape .P) (o .0), lt-ltb t (s .shape .L) (o .1))
+checked-open s (writeNext q t x) o = refl
+
+-- ---- the number
+
+ready-in : (s : State) (m : ℕ) → inRange s ≡ true → ready s m ≡ leb (needed (s .shape)) m
+unfolding ready
+ready-in s m e = rw e (go (leb (needed (s .shape)) m))
+  where
+    go : (t : Bool) → (t && true) ≡ t
+    go true = refl
+    go false = refl
+
+blocks-pos : (h : Shape) → within h ≡ true → ltb 0 (h .N) ≡ true
+unfolding within between
+blocks-pos h e = lt-ltb 0 (h .N) (leb-true 1 (h .N) (and-l (leb 1 (h .N)) (leb (h .N) 4096) (every-yes _ e .0)))
+
+-- question 8 is never answered no where 5 is answered yes
+seven : (a o b c d e f : Bool) → (b ≡ true → e ≡ true) →
+    firstNo ((a, 2) ∷ (o, 4) ∷ (b, 5) ∷ (c, 6) ∷ (d, 7) ∷ (e, 8) ∷ (f, 3) ∷ []) ≡ firstNo ((a, 2) ∷ (o, 4) ∷ (b, 5) ∷ (c, 6) ∷ (d, 7) ∷ (f, 3) ∷ [])
+unfolding firstNo
+seven a o true c d e f k = rw (k refl)
+seven a o false c d e f k = refl
+
+none-blank : (o : Option Request) → isNone (blank o) ≡ isNone o
+unfolding isNone
+none-blank none = refl
+none-blank (some r) = refl
+
+pub formed-facts : (h : Shape) (k b n : ℕ) → formed h k b n ≡ true → (isKind k ≡ true) × (ltb b (h .N) ≡ true) × (eqb n (bytesOf h k) ≡ true)
+unfolding formed
+formed-facts h k b n e =
+    let r = and-r (isKind k) (ltb b (h .N) && eqb n (bytesOf h k)) e in
+    (and-l (isKind k) (ltb b (h .N) && eqb n (bytesOf h k)) e, and-l (ltb b (h .N)) (eqb n (bytesOf h k)) r, and-r (ltb b (h .N)) (eqb n (bytesOf h k)) r)
+
+bytes-read : (h : Shape) → eqb 0 (bytesOf h read) ≡ true
+unfolding bytesOf
+bytes-read h = refl
+
+module _ (h : Shape) (reach : Reachable h) (s : State) (k : reach .Holds s) where
+  same-shape : s .shape ≡ h
+  same-shape = reach .shape s k
+
+  in-shape : within h ≡ true
+  in-shape = rw (reach .shape s k) at (range-facts s (reach .range s k) .shape)
+
+  pub step-hide : slotless (decide s) ≡ decideP (hide s)
+  unfolding decideP
+  step-hide = rw (← decide-hide s (reach .able s k)) (sym (fits (decide s) (decide-open h reach s k)))
+    where
+      fits : (x : Step) → OpenStep (s .shape) (s .mark) x → checked (hide s) (slotless x) ≡ slotless x
+      fits x o = checked-open s x o
+
+  pub bounds-hide : (l : Later) → bounds s (ask l) ≡ boundsP (hide s) l
+  unfolding bounds
+  bounds-hide (later-request j b bs) = refl
+  bounds-hide later-turn = sym (slotless-bounds (decide s)) ∙ ap stepBounds step-hide
+  bounds-hide (later-completion c bs) = refl
+  bounds-hide later-collect = refl
+
+  number-request : (j b : ℕ) (bs : List ℕ) (m w n : ℕ) → numberR s (later-request j b bs) m w n ≡ numberP (hide s) (publicLater h (later-request j b bs)) m w n
+  unfolding number questions bounds numberP questionsP
+  number-request j b bs m w n = rw (ready-in s m (reach .range s k), enough-zeros (s .shape .P ∷ s .shape .P ∷ []) w)
+      (seven _ _ _ _ _ _ _ room ∙ go (formed h j b (length bs)) refl)
+    where
+      room : ltb b (s .shape .N) ≡ true → (ltb (length (s .waiting)) (s .shape .E) || member b (s .waiting)) ≡ true
+      room e = rw same-shape (reach .room s b k (ltb-true b (h .N) (rw same-shape at e)))
+
+      go : (t : Bool) → formed h j b (length bs) ≡ t →
+          firstNo ((leb (needed (s .shape)) m && isKind j, 2) ∷ (isNone (s .request), 4) ∷ (ltb b (s .shape .N), 5)
+          ∷ (eqb (length bs) (bytesOf (s .shape) j), 6) ∷ (leb (length (s .queue)) 62, 7) ∷ (leb 2 w, 3) ∷ [])
+          ≡ numberP (hide s) (publicAsk t j b (length bs)) m w n
+      go true e = let f = formed-facts h j b (length bs) e in
+          rw (none-blank (s .request), same-shape, f .0, f .1, f .2, kind-read, bytes-read h, blocks-pos h in-shape)
+      go false e = simp (none-blank, length-replicate)
+
+  number-turn : (m w n : ℕ) → numberR s later-turn m w n ≡ numberP (hide s) later-turn m w n
+  unfolding firstNo number questions bounds numberP questionsP
+  number-turn m w n =
+      rw (ready-in s m (reach .range s k), enough-zeros (stepBounds (decide s)) w, reach .able s k, ← step-hide, slotless-sends (decide s), slotless-kind (decide s), slotless-bounds (decide s))
+
+  inHand-hide : (o : Option Request) → s .request ≡ o → inHand (finished (hide s)) (blank o) ≡ inHand (finished s) o
+  unfolding inHand
+  inHand-hide none e = refl
+  inHand-hide (some r) e = finished-hide s r e
+
+  inHand-true : (o : Option Request) → inHand (λ r. true) (blank o) ≡ inHand (λ r. true) o
+  unfolding inHand
+  inHand-true none = refl
+  inHand-true (some r) = refl
+
+  -- The number is that of the public parts
+  pub number-hide : (l : Later) (m w n : ℕ) → numberR s l m w n ≡ numberP (hide s) (publicLater h l) m w n
+  unfolding number questions numberP questionsP
+  number-hide (later-request j b bs) m w n = number-request j b bs m w n
+  number-hide later-turn m w n = number-turn m w n
+  number-hide (later-completion c bs) m w n = rw (ready-in s m (reach .range s k)) (simp length-replicate)
+  number-hide later-collect m w n = rw (ready-in s m (reach .range s k), inHand-hide (s .request) refl, inHand-true (s .request))

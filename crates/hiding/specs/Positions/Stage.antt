@@ -1,0 +1,261 @@
+-- The second stage: the middle machine is the ideal one with the positions hidden, of the request's block already its next one.
+use mathlib.Core.Path.{_≡_, refl, ap, sym, _∙_, subst}
+use mathlib.Core.Bool.{Bool, true, false, true≢false}
+use mathlib.Core.Logic.{_↔_, Iff·rfl}
+use mathlib.Core.List.{List, [], _∷_}
+use mathlib.Core.Option.{Option, none, some}
+use Prim.Native.Nat.{ℕ, zero, suc, _<_}
+use native.Mathlib.Omega.{arith}
+use lib.ListN.{length, replicate}
+use lib.Dec.{eqb, ltb}
+use borrow.Author.Tests.{ltb-true, lt-ltb}
+use Rattle.lists.specs.Search.{isNone}
+use Rattle.lists.specs.Tests.{if_then_else_}
+use Rattle.lists.specs.Tables.{put}
+use Rattle.rules.specs.Blocks
+use Rattle.rules.specs.Request.{passLevel, accept}
+use Rattle.rules.specs.Laws.Orders.{Drew}
+use Rattle.rules.specs.Shape.{Shape}
+use Rattle.rules.specs.Open.{fresh}
+use Rattle.rules.specs.State.{State, Command, Request}
+use Rattle.rules.specs.Completion
+use Rattle.rules.specs.Completion.{complete}
+use Rattle.rules.specs.Questions.{firstNo}
+use Rattle.rules.specs.Turn
+use Rattle.rules.specs.Turn.{Step, idle, noDummy, readForRequest, readForJob, rebuild, writeNext, doStep}
+use Rattle.matching.specs.Deferred.{Trade, full}
+use Rattle.matching.specs.Trades.{None, Trades, stays, renamed, none-drew, telling}
+use Rattle.matching.specs.Positions.{Positions, Zero, settled, show}
+use Rattle.matching.specs.Machine.{Machine, along}
+use Rattle.matching.specs.TwoLists.{Stage}
+use Rattle.hiding.specs.Orders.Number.{formed-facts}
+use Rattle.hiding.specs.Machines.Middle.{Mid, unopened, shut, on, nextStepM, collectedM, nextM, boundsOpen, openM, mid, mid-legal, mid-next, mid-seen}
+use Rattle.hiding.specs.Positions.Trades.{PlacedIn, askP, tradeP, next-shape, fresh-placed}
+use Rattle.hiding.specs.Machines.Ideal
+use Rattle.hiding.specs.Machines.Ideal.{seenIf, Seen, legalIf, rebuildP, nextStepI, collectedI, nextI, Ideal, openI, ideal, ideal-legal, ideal-next, ideal-seen}
+use Rattle.hiding.specs.Machines.Public.{Later, later-request, later-turn, later-completion, later-collect, Entry, first, later, formed, publicAsk, publicLater, publicEntry, present, blank, hide, decideP, questionsP, numberP, numberOpen}
+
+-- ---- the public part of the next state is the ideal machine's next state
+
+-- the positions: of the request's block the next one
+abbrev pub positionsOf : Positions → Option Request → Positions
+positionsOf f none = f
+positionsOf f (some r) = put (r .block) (r .next) f
+
+abbrev pub positions : State → Positions
+positions s = positionsOf (s .partition) (s .request)
+
+pass-blank : (ℓ : ℕ) (o : Option Request) → passLevel ℓ (blank o) ≡ blank (passLevel ℓ o)
+unfolding passLevel
+pass-blank ℓ none = refl
+pass-blank ℓ (some r) = refl
+
+pass-present : (f : ℕ → ℕ) (ℓ : ℕ) (o : Option Request) → present f (passLevel ℓ o) ≡ present f o
+unfolding passLevel
+pass-present f ℓ none = refl
+pass-present f ℓ (some r) = refl
+
+pass-positions : (f : ℕ → ℕ) (ℓ : ℕ) (o : Option Request) → positionsOf f (passLevel ℓ o) ≡ positionsOf f o
+unfolding passLevel
+pass-positions f ℓ none = refl
+pass-positions f ℓ (some r) = refl
+
+blank-none : (o : Option Request) → isNone (blank o) ≡ true → o ≡ none
+unfolding isNone
+blank-none none e = refl
+blank-none (some r) e = absurd (true≢false (sym e))
+
+module _ (s : State) where
+  -- hidden parts of a next state
+  abbrev Leads : State → State → Type 0
+  Leads i′ s′ = (i′ ≡ hide s′) × (positions s ≡ positions s′)
+
+  step-leads : (x : Step) (e : List ℕ) → Leads (nextStepI (hide s) x e) (nextStepM s x e)
+  unfolding doStep Turn.markRead Turn.send rebuildP
+  step-leads idle e = (refl, refl)
+  step-leads noDummy e = (refl, refl)
+  step-leads (readForRequest q ℓ x) e = (rw (pass-blank ℓ (s .request), pass-present (s .partition) ℓ (s .request)), sym (pass-positions (s .partition) ℓ (s .request)))
+  step-leads (readForJob q ℓ x) e = (refl, refl)
+  step-leads (rebuild q t) e = (refl, refl)
+  step-leads (writeNext q t x) e = (refl, refl)
+
+  complete-leads : (c : Command) (bs bs′ : List ℕ) → Leads (complete c bs′ (hide s)) (complete c bs s)
+  unfolding complete Completion.completeRead Completion.completeWrite Completion.completed Completion.gatherBytes Completion.finishJob Completion.endJob Completion.jobDone Blocks.holder Blocks.named
+  complete-leads c bs bs′ = go (eqb (c .kind) 1) (Blocks.holder s (c .partition) (c .level) (c .slot)) (s .queue)
+    where
+      s′ : State
+      s′ = Completion.completed c s
+
+      ended : (q : ℕ) (qs : List ℕ) (t : Bool) → Leads (if t then Completion.endJob q qs (hide s′) else hide s′) (if t then Completion.endJob q qs s′ else s′)
+      ended q qs true = (refl, refl)
+      ended q qs false = (refl, refl)
+
+      go : (t : Bool) (b : Option ℕ) (qs : List ℕ) → Leads (if t then hide s′ else Completion.finishJob qs (hide s′)) (if t then Completion.gatherBytes b bs s′ else Completion.finishJob qs s′)
+      go true none qs = (refl, refl)
+      go true (some b) qs = (refl, refl)
+      go false b [] = (refl, refl)
+      go false b (q ∷ qs) = ended q qs (Completion.jobDone s′ q)
+
+  collect-leads : (o : Option Request) → s .request ≡ o → Leads (collectedI (blank o) (hide s)) (collectedM o s)
+  unfolding collectedI collectedM
+  collect-leads none e = (refl, refl)
+  collect-leads (some r) e = (rw e, rw e)
+
+  -- a request
+  ask-leads : (h : Shape) (k b : ℕ) (bs e : List ℕ) → s .request ≡ none → Drew (s .shape .P ∷ s .shape .P ∷ []) e →
+      let y = show b (positions s, e) in
+      (nextI zero (hide s) (publicLater h (later-request k b bs)) (y .0) ≡ hide (accept k b bs e s)) × (y .1 ≡ positions (accept k b bs e s))
+  unfolding accept
+  ask-leads h k b bs [] n p = absurd p
+  ask-leads h k b bs (d ∷ []) n p = absurd (p .1)
+  ask-leads h k b bs (d ∷ c ∷ []) n p =
+      let e : positions s ≡ s .partition = ap (positionsOf (s .partition)) n in
+      (go (formed h k b (length bs)) (positions s b) (ap (λ (f : ℕ → ℕ). f b) e), ap (put b d) e)
+    where
+      go : (t : Bool) (v : ℕ) → v ≡ s .partition b → nextI zero (hide s) (publicAsk t k b (length bs)) (v ∷ c ∷ []) ≡ hide (accept k b bs (d ∷ c ∷ []) s)
+      go true v e = rw e
+      go false v e = rw e
+  ask-leads h k b bs (d ∷ c ∷ a ∷ e) n p = absurd (p .1 .1)
+
+-- ---- the stage
+
+-- an accepted request is well-formed, and none was in hand
+firstNo-ask : (a o b c d f : Bool) → firstNo ((a, 2) ∷ (o, 4) ∷ (b, 5) ∷ (c, 6) ∷ (d, 7) ∷ (f, 3) ∷ []) ≡ 0 → (a ≡ true) × (o ≡ true) × (b ≡ true) × (c ≡ true)
+unfolding firstNo
+firstNo-ask true true true true d f e = (refl, refl, refl, refl)
+firstNo-ask false o b c d f e = absurd (omega arith)
+firstNo-ask true false b c d f e = absurd (omega arith)
+firstNo-ask true true false c d f e = absurd (omega arith)
+firstNo-ask true true true false d f e = absurd (omega arith)
+
+asked : (s : State) (k b : ℕ) (bs : List ℕ) (m w n : ℕ) → numberP (hide s) (publicLater (s .shape) (later-request k b bs)) m w n ≡ 0 → (s .request ≡ none) × (b < s .shape .N)
+unfolding numberP questionsP
+asked s k b bs m w n e = go (formed (s .shape) k b (length bs)) refl e
+  where
+    go : (t : Bool) → formed (s .shape) k b (length bs) ≡ t → numberP (hide s) (publicAsk t k b (length bs)) m w n ≡ 0 → (s .request ≡ none) × (b < s .shape .N)
+    go true f e = (blank-none (s .request) (firstNo-ask _ _ _ _ _ _ e .1), ltb-true b (s .shape .N) (formed-facts (s .shape) k b (length bs) f .1))
+    go false f e = let r = firstNo-ask _ _ _ _ _ _ e in (blank-none (s .request) (r .1), ltb-true b (s .shape .N) (r .2))
+
+module _ (h : Shape) where
+  abbrev pub outside : Machine Entry (List ℕ) Seen
+  outside = along (publicEntry h) (ideal h)
+
+  abbrev pub Inv₂ : Ideal → Type 0
+  Inv₂ Ideal.unopened = Unit
+  Inv₂ Ideal.shut = Unit
+  Inv₂ (Ideal.on i) = i .shape ≡ h
+
+  abbrev pub Hidden₂ : Ideal → Positions → Type 0
+  Hidden₂ Ideal.unopened pos = Zero pos
+  Hidden₂ Ideal.shut pos = Zero pos
+  Hidden₂ (Ideal.on i) pos = PlacedIn (i .shape) pos
+
+  abbrev pub Drawn₂ : Ideal → Entry → List ℕ → Type 0
+  Drawn₂ Ideal.unopened (first m w) e = Drew (boundsOpen h (numberOpen h m w)) e
+  Drawn₂ Ideal.unopened (later l m w n) e = None e
+  Drawn₂ Ideal.shut c e = None e
+  Drawn₂ (Ideal.on i) (first m w) e = None e
+  Drawn₂ (Ideal.on i) (later l m w n) e = legalIf (numberP i (publicLater h l) m w n) i l e
+
+  abbrev pub start₂ : (n : ℕ) → Trades {D = List ℕ} {E = List ℕ} {H = Positions} Zero (Drew (boundsOpen h n)) None (λ e. Hidden₂ (openI h n))
+  start₂ zero = renamed Zero None (λ d. Iff·rfl) (fresh-placed h) (settled (h .N) (h .P))
+  start₂ (suc n) = stays none-drew (λ d o p. Iff·rfl)
+
+  abbrev pub base₂ : (i : Ideal) (c : Entry) →
+      Trades {D = List ℕ} {E = List ℕ} {H = Positions} (Hidden₂ i) (Drawn₂ i c) (ideal-legal h i (publicEntry h c)) (λ e. Hidden₂ (ideal-next h i (publicEntry h c) e))
+  base₂ Ideal.unopened (first m w) = start₂ (numberOpen h m w)
+  base₂ Ideal.unopened (later l m w n) = stays (λ d. Iff·rfl) (λ d o p. Iff·rfl)
+  base₂ Ideal.shut c = stays (λ d. Iff·rfl) (λ d o p. Iff·rfl)
+  base₂ (Ideal.on i) (first m w) = stays (λ d. Iff·rfl) (λ d o p. Iff·rfl)
+  base₂ (Ideal.on i) (later l m w n) = tradeP h i (numberP i (publicLater h l) m w n) l
+
+  abbrev pub shown₂ : Ideal → Positions → Entry → List ℕ → Seen
+  shown₂ i pos c e = ideal-seen h i (publicEntry h c) (base₂ i c .f (pos, e) .0)
+
+  abbrev pub trade₂ : (i : Ideal) (c : Entry) → Trade outside Inv₂ Hidden₂ Drawn₂ shown₂ i c
+  trade₂ i c =
+      telling (Inv₂ i) (Hidden₂ i) (Drawn₂ i c) (ideal-legal h i (publicEntry h c)) (λ e. Hidden₂ (ideal-next h i (publicEntry h c) e))
+      (base₂ i c) (ideal-seen h i (publicEntry h c))
+
+  open-inv : (n : ℕ) → Inv₂ (openI h n)
+  unfolding fresh
+  open-inv zero = refl
+  open-inv (suc n) = tt
+
+  pub keep₂ : (i : Ideal) (c : Entry) (e : List ℕ) → Inv₂ i → ideal-legal h i (publicEntry h c) e → Inv₂ (ideal-next h i (publicEntry h c) e)
+  keep₂ Ideal.unopened (first m w) e k p = open-inv (numberOpen h m w)
+  keep₂ Ideal.unopened (later l m w n) e k p = tt
+  keep₂ Ideal.shut c e k p = tt
+  keep₂ (Ideal.on i) (first m w) e k p = k
+  keep₂ (Ideal.on i) (later l m w n) e k p = next-shape h i (numberP i (publicLater h l) m w n) (publicLater h l) e ∙ k
+
+  abbrev pub publicView : Mid → Ideal × Positions
+  publicView unopened = (Ideal.unopened, λ b. 0)
+  publicView shut = (Ideal.shut, λ b. 0)
+  publicView (on s it) = (Ideal.on (hide s), positions s)
+
+  pub legal₂ : (m : Mid) (c : Entry) (e : List ℕ) → mid-legal h m c e ↔ Drawn₂ (publicView m .0) c e
+  legal₂ unopened (first m w) e = Iff·rfl
+  legal₂ unopened (later l m w n) e = Iff·rfl
+  legal₂ shut c e = Iff·rfl
+  legal₂ (on s it) (first m w) e = Iff·rfl
+  legal₂ (on s it) (later l m w n) e = Iff·rfl
+
+  abbrev pub full₂ : Machine Entry (List ℕ) Seen
+  full₂ = full outside Inv₂ Hidden₂ Drawn₂ shown₂ keep₂ trade₂
+
+  module _ (s : State) (same : s .shape ≡ h) (e : List ℕ) where
+    abbrev Shows : (l : Later) (j : ℕ) → List ℕ × Positions → Type 0
+    Shows l j y =
+        (seenIf j (hide s) l e ≡ seenIf j (hide s) (publicLater h l) (y .0))
+        × ((nextI j (hide s) (publicLater h l) (y .0) ≡ hide (nextM j s l e)) × (y .1 ≡ positions (nextM j s l e)))
+
+    ask-shows : (k b : ℕ) (bs : List ℕ) (t : Bool) (q : ltb b (s .shape .N) ≡ t) → t ≡ true → s .request ≡ none → legalIf zero (hide s) (later-request k b bs) e →
+        Shows (later-request k b bs) zero (askP h (hide s) k b bs t q .f (positions s, e))
+    ask-shows k b bs true q i n p = (seen-public (show b (positions s, e) .0), ask-leads s h k b bs e n p)
+      where
+        seen-public : (e′ : List ℕ) → seenIf zero (hide s) (later-request k b bs) e ≡ seenIf zero (hide s) (publicLater h (later-request k b bs)) e′
+        seen-public e′ = go (formed h k b (length bs))
+          where
+            go : (t : Bool) → seenIf zero (hide s) (later-request k b bs) e ≡ seenIf zero (hide s) (publicAsk t k b (length bs)) e′
+            go true = refl
+            go false = refl
+    ask-shows k b bs false q i n p = absurd (true≢false (sym i))
+
+    call-shows : (l : Later) (m w n j : ℕ) → numberP (hide s) (publicLater h l) m w n ≡ j → legalIf j (hide s) l e → Shows l j (tradeP h (hide s) j l .f (positions s, e))
+    call-shows l m w n (suc j) q p = (refl, (refl, refl))
+    call-shows (later-request k b bs) m w n zero q p =
+        let r = asked s k b bs m w n (subst (λ h′. numberP (hide s) (publicLater h′ (later-request k b bs)) m w n ≡ 0) (sym same) q) in
+        ask-shows k b bs (ltb b (s .shape .N)) refl (lt-ltb b (s .shape .N) (r .1)) (r .0) p
+    call-shows later-turn m w n zero q p = (refl, step-leads s (decideP (hide s)) e)
+    call-shows (later-completion c bs) m w n zero q p = (refl, complete-leads s c bs (replicate (length bs) 0))
+    call-shows later-collect m w n zero q p = (refl, collect-leads s (s .request) refl)
+
+  start-shows : (e : List ℕ) (j : ℕ) → Drew (boundsOpen h j) e → (openI h j, start₂ j .f (λ b. 0, e) .1) ≡ publicView (openM h j e)
+  unfolding fresh
+  start-shows e zero p = refl
+  start-shows e (suc j) p = refl
+
+  pub step₂ : (m : Mid) (c : Entry) (e : List ℕ) → Inv₂ (publicView m .0) → mid-legal h m c e →
+      (mid-seen h m c e ≡ shown₂ (publicView m .0) (publicView m .1) c e) × (full₂ .next (publicView m) c e ≡ publicView (mid-next h m c e))
+  step₂ unopened (first m w) e k p = (refl, start-shows e (numberOpen h m w) p)
+  step₂ unopened (later l m w n) e k p = (refl, refl)
+  step₂ shut c e k p = (refl, refl)
+  step₂ (on s it) (first m w) e k p = (refl, refl)
+  step₂ (on s it) (later l m w n) e k p =
+      let r = call-shows s k e l m w n (numberP (hide s) (publicLater h l) m w n) refl p in
+      (r .0, λ i. (Ideal.on (r .1 .0 i), r .1 .1 i))
+
+  -- The second stage
+  abbrev pub second-stage : Stage (mid h) outside Positions
+  second-stage = record {
+    Inv = Inv₂;
+    Hidden = Hidden₂;
+    Drawn = Drawn₂;
+    shown = shown₂;
+    keep = keep₂;
+    trade = trade₂;
+    Rel = λ m q. q ≡ publicView m;
+    legal = λ m q c d e. rw e (legal₂ m c d);
+    step = λ m q c d e i k p. rw e (step₂ m c d (rw e at i) p);
+  }

@@ -1,0 +1,91 @@
+-- What the calls leave as it was.
+use mathlib.Core.Path.{_≡_, refl, ap}
+use mathlib.Core.Bool.{Bool, true, false}
+use mathlib.Core.List.{List, [], _∷_}
+use mathlib.Core.Option.{Option, none, some}
+use Prim.Native.Nat.{ℕ}
+use lib.Dec.{eqb}
+use Rattle.lists.specs.Tests.{if_then_else_}
+use Rattle.rules.specs.Open.{fresh}
+use Rattle.rules.specs.Completion
+use Rattle.rules.specs.Completion.{complete}
+use Rattle.rules.specs.Collect
+use Rattle.rules.specs.Collect.{collected}
+use Rattle.rules.specs.Run.{act}
+use Rattle.rules.specs.State.{State, Command, Place, Request}
+use Rattle.rules.specs.Turn
+use Rattle.rules.specs.Turn.{Step, idle, noDummy, readForRequest, readForJob, rebuild, writeNext, decide, doStep}
+use Rattle.rules.specs.Rebuild
+use Rattle.rules.specs.Blocks
+use Rattle.rules.specs.Request.{accept}
+use Rattle.rules.specs.Shape.{Shape}
+use Rattle.hiding.specs.Machines.Public.{Later, later-request, later-turn, later-completion, later-collect, ask}
+
+-- ---- a completion
+
+-- what it leaves of a state
+pub record Rest : Type 0 where
+  pub shape : Shape
+  pub partition : ℕ → ℕ
+  pub place : ℕ → Place
+  pub waiting : List ℕ
+  pub order : ℕ → ℕ
+  pub mark : ℕ → ℕ
+  pub holds : ℕ → ℕ
+  pub request : Option Request
+
+abbrev pub restOf : State → Rest
+restOf s = record {
+  shape = s .shape;
+  partition = s .partition;
+  place = s .place;
+  waiting = s .waiting;
+  order = s .order;
+  mark = s .mark;
+  holds = s .holds;
+  request = s .request;
+}
+
+pub complete-rest : (s : State) (c : Command) (bs : List ℕ) → restOf (complete c bs s) ≡ restOf s
+unfolding complete Completion.completeRead Completion.completeWrite Completion.completed Completion.gatherBytes Completion.finishJob Completion.endJob
+complete-rest s c bs = go (eqb (c .kind) 1) (Blocks.holder s (c .partition) (c .level) (c .slot)) (s .queue)
+  where
+    s′ : State
+    s′ = Completion.completed c s
+
+    ended : (q : ℕ) (qs : List ℕ) (t : Bool) → restOf (if t then Completion.endJob q qs s′ else s′) ≡ restOf s
+    ended q qs true = refl
+    ended q qs false = refl
+
+    go : (t : Bool) (b : Option ℕ) (qs : List ℕ) → restOf (if t then Completion.gatherBytes b bs s′ else Completion.finishJob qs s′) ≡ restOf s
+    go true none qs = refl
+    go true (some b) qs = refl
+    go false b [] = refl
+    go false b (q ∷ qs) = ended q qs (Completion.jobDone s′ q)
+
+-- ---- no later call changes the shape
+
+step-shape : (s : State) (x : Step) (js : List ℕ) → (doStep x js s) .shape ≡ s .shape
+unfolding doStep Turn.markRead Turn.send Rebuild.doRebuild
+step-shape s idle js = refl
+step-shape s noDummy js = refl
+step-shape s (readForRequest q ℓ x) js = refl
+step-shape s (readForJob q ℓ x) js = refl
+step-shape s (rebuild q t) js = refl
+step-shape s (writeNext q t x) js = refl
+
+collect-shape : (s : State) (o : Option Request) → (collected o s) .shape ≡ s .shape
+unfolding collected Collect.finish
+collect-shape s none = refl
+collect-shape s (some r) = refl
+
+pub act-shape : (s : State) (l : Later) (js : List ℕ) → (act s (ask l) js) .shape ≡ s .shape
+unfolding act accept
+act-shape s (later-request k b bs) js = refl
+act-shape s later-turn js = step-shape s (decide s) js
+act-shape s (later-completion c bs) js = ap (λ (x : Rest). x .shape) (complete-rest s c bs)
+act-shape s later-collect js = collect-shape s (s .request)
+
+pub fresh-shape : (h : Shape) (js : List ℕ) → (fresh h js) .shape ≡ h
+unfolding fresh
+fresh-shape h js = refl
