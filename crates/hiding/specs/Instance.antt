@@ -41,12 +41,13 @@ use Rattle.rules.specs.Rebuild.{gathered}
 use Rattle.matching.specs.Draws.{Below}
 use Rattle.reachable.specs.Blocks.{place-lt}
 use Rattle.reachable.specs.Slots.{gathered-stored, chosen-stored}
-use Rattle.reachable.specs.Live.{counted, Gathers, counted-other, front-mem}
+use Rattle.reachable.specs.Live.{counted, Gathers, counted-other, front-mem, not-front}
 use Rattle.reachable.specs.Decided.{Rebuilds, decided}
-use Rattle.reachable.specs.Sent.{Own}
-use Rattle.reachable.specs.SentMore.{fresh-sent, sources-read}
-use Rattle.reachable.specs.Never.{not-front, always-possible, room-or-waits}
-use Rattle.reachable.specs.Reached.{Reached, fresh-reached, act-kept}
+use Rattle.reachable.specs.Invariant.{Own, Reached}
+use Rattle.reachable.specs.Consequences.{sources-read}
+use Rattle.reachable.specs.Never.{always-possible, room-or-waits}
+use Rattle.reachable.specs.Kept.Open.{fresh-kept}
+use Rattle.reachable.specs.Reached.{act-kept}
 use Rattle.hiding.specs.Public.{Later, asks, turns, completes, collects, ask}
 use Rattle.hiding.specs.Real.{Reachable, called}
 use Rattle.hiding.specs.Middle.{gatheredM, chosenM}
@@ -87,7 +88,7 @@ kept-none p a (suc n) y e l m = go (p a) refl (ℕ-discrete y a) (λ k j. kept-n
 
 module _ (s : State) (f : Reached s) where
   in-n : (r : Request) → s .request ≡ some r → r .block < s .shape .N
-  in-n r e = (rw e at (f .stored .range .request)) .block
+  in-n r e = (rw e at (f .range .request)) .block
 
   -- an unheld request's partition has no job in front
   calm : (r : Request) → held s r ≡ false → counted s (s .partition (r .block)) ≡ s .counter (s .partition (r .block))
@@ -96,7 +97,7 @@ module _ (s : State) (f : Reached s) where
 
   -- its block's level is filled
   level-filled : (r : Request) (ℓ i : ℕ) → s .request ≡ some r → held s r ≡ false → s .place (r .block) ≡ stored ℓ i → filled (s .counter (s .partition (r .block))) ℓ ≡ true
-  level-filled r ℓ i e u p = ap (λ c. filled c ℓ) (sym (calm r u)) ∙ f .stored .agree .placed (r .block) ℓ i (in-n r e) p .0
+  level-filled r ℓ i e u p = ap (λ c. filled c ℓ) (sym (calm r u)) ∙ f .agree .placed (r .block) ℓ i (in-n r e) p .0
 
   -- ---- the shape stays
   step-shape : (x : Step) (js : List ℕ) → (doStep x js s) .shape ≡ s .shape
@@ -161,7 +162,7 @@ module _ (s : State) (f : Reached s) where
       let w = read-of r q ℓ x d e in
       let b = in-n r e in
       let c : cell (s .shape) (s .partition (r .block)) ℓ i ≡ cell (s .shape) q ℓ i = ap (λ z. cell (s .shape) z ℓ i) (sym (w .part)) in
-      (ap (s .mark) (sym c) ∙ unread-own w (f .sent .unread (r .block) ℓ i b p), ap (s .holds) (sym c) ∙ f .stored .agree .placed (r .block) ℓ i b p .1)
+      (ap (s .mark) (sym c) ∙ unread-own w (f .unread (r .block) ℓ i b p), ap (s .holds) (sym c) ∙ f .agree .placed (r .block) ℓ i b p .1)
     where
       unread-own : RequestReads s q ℓ x r → (s .mark (cell (s .shape) (s .partition (r .block)) ℓ i) ≡ 1) ⊎ (Own s (r .block) ℓ ⊎ Gathers s (s .partition (r .block)) ℓ) → s .mark (cell (s .shape) (s .partition (r .block)) ℓ i) ≡ 1
       unread-own w (inl m) = m
@@ -174,22 +175,22 @@ module _ (s : State) (f : Reached s) where
   owned : (r : Request) (q ℓ x i : ℕ) → decide s ≡ readForRequest q ℓ x → s .request ≡ some r → i < slots ℓ →
       s .mark (cell (s .shape) q ℓ i) ≡ 1 → s .holds (cell (s .shape) q ℓ i) ≡ suc (r .block) → s .place (r .block) ≡ stored ℓ i
   owned r q ℓ x i d e l m k =
-      let b : (q < s .shape .P) × (ℓ < s .shape .L) × (x < slots ℓ) = rw d at (decide-in s (f .stored .range)) in
-      f .stored .agree .held q ℓ i (r .block) (b .0) (b .1) l k .1
+      let b : (q < s .shape .P) × (ℓ < s .shape .L) × (x < slots ℓ) = rw d at (decide-in s (f .range)) in
+      f .agree .held q ℓ i (r .block) (b .0) (b .1) l k .1
 
   -- a rebuild gathers by slots what there is by places
   gathers : (q t : ℕ) → decide s ≡ rebuild q t → (gathered s q ≡ gatheredM s q) × (Rebuild.chosen s q ≡ chosenM s q)
   unfolding gatheredM chosenM
   gathers q t d =
-      let b : (q < s .shape .P) × (t < s .shape .L) = rw d at (decide-in s (f .stored .range)) in
-      let c = chosen-stored s (f .stored) q (b .0) in
-      (rw (← c) (gathered-stored s (f .stored) q (b .0)), c)
+      let b : (q < s .shape .P) × (t < s .shape .L) = rw d at (decide-in s (f .range)) in
+      let c = chosen-stored s f q (b .0) in
+      (rw (← c) (gathered-stored s f q (b .0)), c)
 
   -- its sources are read throughout
   spent : (q t ℓ i : ℕ) → decide s ≡ rebuild q t → ℓ < Levels.sources (s .shape) (s .counter q) → i < slots ℓ → ¬ (s .mark (cell (s .shape) q ℓ i) ≡ 1)
   spent q t ℓ i d l k m =
       let reb : Rebuilds s q t = rw d at (decided s) in
-      omega (arith, sym m ∙ sources-read s (f .stored) (f .sent) q t reb ℓ i l k)
+      omega (arith, sym m ∙ sources-read s f q t reb ℓ i l k)
 
   left : (r : Request) (ℓ i : ℕ) → s .request ≡ some r → finished s r ≡ true → s .place (r .block) ≡ stored ℓ i → ¬ (s .mark (cell (s .shape) (s .partition (r .block)) ℓ i) ≡ 1)
   unfolding finished levelsLeft
@@ -205,10 +206,10 @@ module _ (s : State) (f : Reached s) where
       none-left = eqb-true (length (levelsLeft s r)) 0 (and-r (not (held s r)) (eqb (length (levelsLeft s r)) 0) tests)
 
       top : ℓ < s .shape .L
-      top = place-lt (s .shape .L) ℓ i (s .place (r .block)) (f .stored .range .places (r .block) (in-n r e)) p .0
+      top = place-lt (s .shape .L) ℓ i (s .place (r .block)) (f .range .places (r .block) (in-n r e)) p .0
 
       go : Dec (ℓ < r .level) → ¬ (s .mark (cell (s .shape) (s .partition (r .block)) ℓ i) ≡ 1)
-      go (yes l) z = let v : _≡_ {A = ℕ} 0 1 = sym (f .sent .passed r ℓ i e p l) ∙ z in omega arith
+      go (yes l) z = let v : _≡_ {A = ℕ} 0 1 = sym (f .fetched r ℓ i e p l) ∙ z in omega arith
       go (no l) z = true≢false (sym (level-filled r ℓ i e unheld p) ∙ kept-none (filled (s .counter (s .partition (r .block)))) (r .level) (s .shape .L - r .level) ℓ none-left (omega arith) (omega (arith, top)))
 
 fresh-shape : (h : Shape) (js : List ℕ) → (fresh h js) .shape ≡ h
@@ -218,20 +219,20 @@ fresh-shape h js = refl
 room-for : (h : Shape) (s : State) (b : ℕ) → Reached s → s .shape ≡ h → h .E ≡ h .N → b < h .N → (ltb (length (s .waiting)) (h .E) || member b (s .waiting)) ≡ true
 room-for h s b f e q l =
     subst (λ (h′ : Shape). (ltb (length (s .waiting)) (h′ .E) || member b (s .waiting)) ≡ true) e
-    (room-or-waits s (f .stored) (subst (λ (h′ : Shape). h′ .E ≡ h′ .N) (sym e) q) b (subst (λ (h′ : Shape). b < h′ .N) (sym e) l))
+    (room-or-waits s f (subst (λ (h′ : Shape). h′ .E ≡ h′ .N) (sym e) q) b (subst (λ (h′ : Shape). b < h′ .N) (sym e) l))
 
 -- THE INSTANCE
 pub reached : (h : Shape) → h .E ≡ h .N → Reachable h
 reached h q = record {
   Holds = λ s. Reached s × (s .shape ≡ h);
-  start = λ js w b. (record { stored = fresh-reached h js (fresh-in h js w (below-drew _ js b)); sent = fresh-sent h js }, fresh-shape h js);
+  start = λ js w b. (fresh-kept h js (fresh-in h js w (below-drew _ js b)), fresh-shape h js);
   kept = λ s l m w n js k e b. (
     act-kept s (k .0) (ask l) m (replicate w 0) n js (accepted-passed s (called l m w n) e) (below-drew _ js b),
     act-shape s (k .0) l js ∙ k .1,
   );
   shape = λ s k. k .1;
-  range = λ s k. facts-range s (k .0 .stored .range);
-  able = λ s k. always-possible s (k .0 .stored);
+  range = λ s k. facts-range s (k .0 .range);
+  able = λ s k. always-possible s (k .0);
   room = λ s b k l. room-for h s b (k .0) (k .1) q l;
   gathers = λ s q t k. gathers s (k .0) q t;
   spent = λ s q t ℓ i k. spent s (k .0) q t ℓ i;

@@ -219,7 +219,7 @@ unfolding below
 getD-map-below f n i d h = getD-map f (count 0 n) i d 0 (omega (arith, length-count 0 n)) ∙ ap f (getD-count 0 n i 0 h ∙ omega arith)
 
 -- a list without duplicates is no longer than one that has all its members
-mem-without : (x z : ℕ) (ys : List ℕ) → Mem z ys → ¬ (z ≡ x) → Mem z (without (eqb x) ys)
+pub mem-without : (x z : ℕ) (ys : List ℕ) → Mem z ys → ¬ (z ≡ x) → Mem z (without (eqb x) ys)
 unfolding without
 mem-without x z [] m n = m
 mem-without x z (y ∷ ys) m n = go (eqb x y) refl m (λ k. mem-without x z ys k n)

@@ -20,7 +20,7 @@ use Rattle.rules.specs.Levels.{sources, target}
 use Rattle.rules.specs.Rebuild.{gathered, chosen}
 use Rattle.rules.specs.Laws.Range.{PlaceIn}
 use Rattle.reachable.specs.Live
-use Rattle.reachable.specs.Invariant.{storedAt, isIn, taken}
+use Rattle.reachable.specs.Invariant.{isIn, storedAt, taken}
 
 pub stored-inj : (ℓ m i j : ℕ) → stored ℓ i ≡ stored m j → (ℓ ≡ m) × (i ≡ j)
 stored-inj ℓ m i j e = (cc, cc)

@@ -23,7 +23,7 @@ use Rattle.rules.specs.Turn
 use Rattle.rules.specs.Turn.{Step, idle, noDummy, readForRequest, readForJob, rebuild, writeNext, decide}
 use Rattle.rules.specs.Levels.{filled, sources, target}
 use Rattle.rules.specs.Laws.Decided.{places-in}
-use Rattle.reachable.specs.Scan.{test, scan-least, scan-none}
+use Rattle.reachable.specs.Scan.{scan-none, scan-least, test}
 
 -- a request that finds no dummy
 pub record Lacks (s : State) : Type 0 where

@@ -22,13 +22,13 @@ use Rattle.rules.specs.Rebuild.{gathered, chosen}
 use Rattle.rules.specs.Blocks.{entries, blocksIn}
 use Rattle.rules.specs.Laws.Levels.{sources-le}
 use Rattle.rules.specs.Laws.Layout.{offset-in}
-use Rattle.reachable.specs.Live.{storedIn, isBelow}
+use Rattle.reachable.specs.Blocks.{lt-below, is-below, place-lt, stored-inj, nodup-in, in-why, why-in, Gathered}
 use Rattle.reachable.specs.Cells.{offset-of, offset-cell}
-use Rattle.reachable.specs.Invariant.{Stored}
-use Rattle.reachable.specs.Blocks.{Gathered, stored-inj, is-below, lt-below, place-lt, in-why, why-in, nodup-in}
+use Rattle.reachable.specs.Invariant.{Reached}
+use Rattle.reachable.specs.Live.{isBelow, storedIn}
 
 -- the front job's partition is one of the shape's
-pub front-in : (s : State) → Stored s → (q : ℕ) (rest : List ℕ) → s .queue ≡ q ∷ rest → q < s .shape .P
+pub front-in : (s : State) → Reached s → (q : ℕ) (rest : List ℕ) → s .queue ≡ q ∷ rest → q < s .shape .P
 front-in s f q rest e = all-mem (f .range .queue) q (rw e (inl refl))
 
 is-chosen : (o : Option ℕ) (b : ℕ) → Rebuild.isChosen o b ≡ true → o ≡ some b
@@ -40,7 +40,7 @@ chosen-is : (o : Option ℕ) (b : ℕ) → o ≡ some b → Rebuild.isChosen o b
 unfolding Rebuild.isChosen
 chosen-is o b e = rw e (eq-eqb b b refl)
 
-module _ (s : State) (f : Stored s) (q : ℕ) (hq : q < s .shape .P) where
+module _ (s : State) (f : Reached s) (q : ℕ) (hq : q < s .shape .P) where
   -- the slot of an entry that names a block is the block's place
   entry-at : (top j b : ℕ) → top ≤ s .shape .L → j < slots top - 2 → s .holds (cell (s .shape) q 0 j) ≡ suc b
       → (ℓ : ℕ) × (i : ℕ) × ((ℓ < top) × (offset ℓ i ≡ j) × (b < s .shape .N) × (s .partition b ≡ q) × (s .place b ≡ stored ℓ i))
