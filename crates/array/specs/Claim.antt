@@ -10,12 +10,12 @@ use mathlib.Core.Option.{Option, none, some}
 use Prim.Native.Nat.{ℕ}
 use lib.ListN.{replicate}
 use lib.Dec.{eqb}
-use Rattle.lists.specs.Tests.{if_then_else_}
 use Rattle.lists.specs.Tables.{put}
-use Rattle.rules.specs.Shape.{Shape}
-use Rattle.rules.specs.State.{State, Command, read, write}
+use Rattle.lists.specs.Tests.{if_then_else_}
 use Rattle.rules.specs.Questions.{Ask, opening, request, turn, completion, collect, Call}
 use Rattle.rules.specs.Run.{Outcome, run}
+use Rattle.rules.specs.Shape.{Shape}
+use Rattle.rules.specs.State.{State, Command, read, write}
 
 -- ---- The host
 

@@ -10,24 +10,24 @@ use native.Mathlib.Decide.{ℕ-discrete}
 use lib.ListN.{replicate}
 use lib.Dec.{eqb}
 use borrow.Author.Tests.{eqb-false, ne-eqb}
-use Rattle.lists.specs.Tests.{if_then_else_}
+use Rattle.lists.specs.All.{any-all}
+use Rattle.lists.specs.Distinct.{Mem}
+use Rattle.lists.specs.Members.{append-mem, member-append, append-right, keep-mem, mem-keep, member-mem, not-member}
 use Rattle.lists.specs.Search
 use Rattle.lists.specs.Tables.{put, put-same, put-other}
-use Rattle.lists.specs.Distinct.{Mem}
-use Rattle.lists.specs.All.{any-all}
-use Rattle.lists.specs.Members.{append-mem, member-append, append-right, keep-mem, mem-keep, member-mem, not-member}
+use Rattle.lists.specs.Tests.{if_then_else_}
 use Rattle.rules.specs.Blocks
+use Rattle.rules.specs.Collect.{finish, finished}
+use Rattle.rules.specs.Completion.{isCommand}
+use Rattle.rules.specs.Open.{fresh}
+use Rattle.rules.specs.Ranges.{others}
 use Rattle.rules.specs.Shape.{Shape, cell}
 use Rattle.rules.specs.State.{State, cmd, read, write, Place, nowhere, stored, Request}
-use Rattle.rules.specs.Ranges.{others}
-use Rattle.rules.specs.Completion.{isCommand}
-use Rattle.rules.specs.Collect.{finish, finished}
-use Rattle.rules.specs.Open.{fresh}
 use Rattle.reachable.specs.Blocks.{not-nowhere}
 use Rattle.reachable.specs.Consequences.{block-lt, finished-read, finished-quiet}
 use Rattle.reachable.specs.Invariant.{Reached}
 use Rattle.reachable.specs.Kept.Collect.{other-block, place-other, partition-other}
-use Rattle.reachable.specs.Live.{Target, drawn}
+use Rattle.reachable.specs.Live.{Target}
 use Rattle.reachable.specs.Outstanding.{command-is}
 use Rattle.reachable.specs.Pending.{front-more}
 use Rattle.array.specs.Claim.{Slots, Asked, change}

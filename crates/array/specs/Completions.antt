@@ -8,23 +8,24 @@ use Prim.Native.Nat.{ℕ, _<_}
 use native.Mathlib.Omega.{arith}
 use lib.Dec.{eqb}
 use borrow.Author.Tests.{eqb-true}
-use Rattle.lists.specs.Tests.{if_then_else_, and-l}
+use Rattle.lists.specs.All.{all-both, any-all, any-without, any-kept}
 use Rattle.lists.specs.Search.{any, without}
 use Rattle.lists.specs.Tables.{put, put-same, put-other}
-use Rattle.lists.specs.All.{all-both, any-all, any-without, any-kept}
+use Rattle.lists.specs.Tests.{if_then_else_, and-l}
 use Rattle.rules.specs.Blocks
-use Rattle.rules.specs.Shape.{cell, slots}
-use Rattle.rules.specs.State.{State, Command, cmd, read, write, stored}
-use Rattle.rules.specs.Setters.{setBytes}
-use Rattle.rules.specs.Laws.Range.{CommandIn}
 use Rattle.rules.specs.Completion
 use Rattle.rules.specs.Completion.{completed, gatherBytes, finishJob, endJob, isCommand}
+use Rattle.rules.specs.Laws.Range.{CommandIn}
 use Rattle.rules.specs.Levels.{target}
+use Rattle.rules.specs.Setters.{setBytes}
+use Rattle.rules.specs.Shape.{cell, slots}
+use Rattle.rules.specs.State.{State, Command, cmd, read, write, stored}
 use Rattle.reachable.specs.Blocks.{not-nowhere, place-lt}
 use Rattle.reachable.specs.Consequences.{holder-place, place-holder, reading-away}
-use Rattle.reachable.specs.Invariant.{Reached, Reading, One}
-use Rattle.reachable.specs.Live.{Target, isFront, drawn, front-eq}
+use Rattle.reachable.specs.Invariant.{Reached, Reading}
+use Rattle.reachable.specs.Live.{Target, isFront, front-eq}
 use Rattle.reachable.specs.Outstanding.{command-is, same-command, decOne}
+use Rattle.reachable.specs.Terms.{One}
 use Rattle.array.specs.Claim.{Slots}
 use Rattle.array.specs.Contents.{Contents, Due, Sent, Out}
 

@@ -4,12 +4,12 @@ use mathlib.Core.Logic.{_⊎_, ⊎-elim}
 use mathlib.Core.Bool.{true}
 use mathlib.Core.List.{List}
 use Prim.Native.Nat.{ℕ, _<_}
-use Rattle.lists.specs.Search.{any}
 use Rattle.lists.specs.Distinct.{Mem}
-use Rattle.rules.specs.Completion
+use Rattle.lists.specs.Search.{any}
 use Rattle.rules.specs.Blocks
-use Rattle.rules.specs.State.{State, cmd, read, write, nowhere, stored}
+use Rattle.rules.specs.Completion
 use Rattle.rules.specs.Shape.{cell}
+use Rattle.rules.specs.State.{State, cmd, read, write, nowhere, stored}
 use Rattle.reachable.specs.Live.{Target}
 use Rattle.array.specs.Claim.{Slots}
 

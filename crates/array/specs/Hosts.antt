@@ -8,12 +8,12 @@ use native.Mathlib.Omega.{arith}
 use lib.Dec.{eqb}
 use borrow.Author.Tests.{eqb-true, eq-eqb, ne-eqb}
 use Rattle.lists.specs.Tests.{if_then_else_}
-use Rattle.rules.specs.Shape.{Shape}
-use Rattle.rules.specs.State.{State, read, write}
 use Rattle.rules.specs.Questions.{Ask, opening, request, turn, completion, collect, Call}
 use Rattle.rules.specs.Run.{Outcome, run}
-use Rattle.reachable.specs.Invariant.{One}
+use Rattle.rules.specs.Shape.{Shape}
+use Rattle.rules.specs.State.{State, read, write}
 use Rattle.reachable.specs.Outstanding.{decOne}
+use Rattle.reachable.specs.Terms.{One}
 use Rattle.array.specs.Claim.{Slots, sends, Brings, Honest, store, Expected, Plain}
 use Rattle.array.specs.Slots.{store-no, store-yes, store-not}
 use Rattle.array.specs.Theorem.{plain-array}

@@ -7,11 +7,12 @@ use native.Mathlib.Decide.{ℕ-discrete}
 use lib.Dec.{eqb}
 use borrow.Author.Tests.{eq-eqb, ne-eqb}
 use Rattle.lists.specs.Tests.{if_then_else_}
-use Rattle.rules.specs.Run
 use Rattle.rules.specs.Blocks
+use Rattle.rules.specs.Run
 use Rattle.rules.specs.State.{State, Command, cmd, write, stored}
 use Rattle.reachable.specs.Consequences.{place-holder}
-use Rattle.reachable.specs.Invariant.{One, Reached}
+use Rattle.reachable.specs.Invariant.{Reached}
+use Rattle.reachable.specs.Terms.{One}
 use Rattle.array.specs.Claim.{Slots, store}
 
 -- What a command leaves in a slot

@@ -4,34 +4,34 @@ use mathlib.Core.Bool.{Bool, true, false, true≢false}
 use mathlib.Core.List.{List, [], _∷_}
 use mathlib.Core.Option.{Option, none, some}
 use Prim.Native.Nat.{ℕ}
+use native.Mathlib.Omega.{arith}
 use lib.Dec.{eqb, leb}
 use borrow.Author.Tests.{eqb-true, eqb-false, eq-eqb, ne-eqb, leb-true}
 use Rattle.lists.specs.Search
+use Rattle.lists.specs.Tests
 use Rattle.lists.specs.Tests.{if_then_else_, and-l, and-r}
 use Rattle.rules.specs.Blocks
-use Rattle.rules.specs.Rebuild
 use Rattle.rules.specs.Collect
-use Rattle.rules.specs.Shape.{slots}
-use Rattle.rules.specs.State.{State, Command, cmd, read, Request, closed, write}
-use Rattle.rules.specs.Ranges.{isKind}
-use Rattle.rules.specs.Draws.{Drawn, draws, newOrder}
-use Rattle.rules.specs.Laws.Answers.{Passed, accepted-passed, step-accepted, step-refused, step-number}
-use Rattle.rules.specs.Laws.Orders.{Drew}
-use Rattle.rules.specs.Laws.Decided.{StepIn, decide-in, stepBounds-pos}
-use Rattle.rules.specs.Laws.Kept.{completed-in, given-in, drew-of}
-use Rattle.rules.specs.Questions
-use Rattle.rules.specs.Questions.{Ask, opening, request, turn, completion, collect, Call, bounds, number, questions}
-use Rattle.rules.specs.Run
-use Rattle.rules.specs.Run.{Outcome, act, step, run}
-use Rattle.rules.specs.Turn
-use Rattle.rules.specs.Turn.{Step, idle, noDummy, readForRequest, readForJob, rebuild, writeNext, decide, command, doStep}
 use Rattle.rules.specs.Completion
 use Rattle.rules.specs.Completion.{complete}
+use Rattle.rules.specs.Draws.{Drawn, draws, newOrder}
+use Rattle.rules.specs.Laws.Answers.{Passed, accepted-passed, step-accepted, step-refused, step-number}
+use Rattle.rules.specs.Laws.Decided.{StepIn, decide-in, stepBounds-pos}
+use Rattle.rules.specs.Laws.Kept.{completed-in, given-in, drew-of}
+use Rattle.rules.specs.Laws.Orders.{Drew}
+use Rattle.rules.specs.Open.{fresh}
+use Rattle.rules.specs.Questions
+use Rattle.rules.specs.Questions.{Ask, opening, request, turn, completion, collect, Call, bounds, number, questions}
+use Rattle.rules.specs.Ranges.{isKind}
+use Rattle.rules.specs.Rebuild
 use Rattle.rules.specs.Request
 use Rattle.rules.specs.Request.{accept}
-use Rattle.rules.specs.Open.{fresh}
-use Rattle.lists.specs.Tests
-use native.Mathlib.Omega.{arith}
+use Rattle.rules.specs.Run
+use Rattle.rules.specs.Run.{Outcome, act, step, run}
+use Rattle.rules.specs.Shape.{slots}
+use Rattle.rules.specs.State.{State, Command, cmd, read, Request, closed, write}
+use Rattle.rules.specs.Turn
+use Rattle.rules.specs.Turn.{Step, idle, noDummy, readForRequest, readForJob, rebuild, writeNext, decide, command, doStep}
 use Rattle.reachable.specs.Consequences.{request-unread, job-unread}
 use Rattle.reachable.specs.Decided.{Decided, decided}
 use Rattle.reachable.specs.Invariant.{Reached}
@@ -45,7 +45,7 @@ use Rattle.array.specs.Contents.{Contents, moved}
 use Rattle.array.specs.Turns.{request-contents, job-contents, rebuild-contents, write-contents}
 
 -- the request in hand, as it was asked
-unfoldable pub askedOf : Option Request → Option Asked
+unfoldable askedOf : Option Request → Option Asked
 askedOf none = none
 askedOf (some r) = some (record { kind = r .kind; block = r .block; bytes = r .bytes })
 
@@ -59,7 +59,7 @@ unfolding store
 store-read q ℓ i bs f = refl
 
 -- A reached state, its host, and what is expected of it
-pub record Tied (s : State) (host : Host) (m : Expected) : Type 0 where
+record Tied (s : State) (host : Host) (m : Expected) : Type 0 where
   pub reached : Reached s
   pub asked : askedOf (s .request) ≡ m .asked
   pub contents : Contents s (host .last) (host .has) (m .array)
@@ -121,7 +121,7 @@ complete-asked s c bs = go (eqb (c .kind) 1) (Blocks.holder s (c .partition) (c 
     go false b (q ∷ qs) = ended q qs (Completion.jobDone s′ q)
 
 -- A state that calls left: closed, or tied to what is expected
-pub data Kept (s : State) (host : Host) (m : Expected) : Type 0 where
+data Kept (s : State) (host : Host) (m : Expected) : Type 0 where
   over : s ≡ closed → Kept s host m
   tied : Tied s host m → Kept s host m
 

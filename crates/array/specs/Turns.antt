@@ -9,31 +9,32 @@ use native.Mathlib.Omega.{arith}
 use native.Mathlib.Decide.{ℕ-discrete}
 use lib.ListN.{getD}
 use borrow.Author.Tests.{eqb-false}
+use Rattle.lists.specs.All.{any-more, any-last, any-snoc, any-all}
+use Rattle.lists.specs.Distinct.{Mem, index}
+use Rattle.lists.specs.Members.{mem-without, decMem}
 use Rattle.lists.specs.Search.{any}
 use Rattle.lists.specs.Tables.{put, put-other}
-use Rattle.lists.specs.All.{any-more, any-last, any-snoc, any-all}
-use Rattle.lists.specs.Members.{mem-without, decMem}
-use Rattle.lists.specs.Distinct.{Mem, index}
-use Rattle.rules.specs.Run
 use Rattle.rules.specs.Blocks
-use Rattle.rules.specs.Shape.{Shape, cell, slots}
-use Rattle.rules.specs.State.{State, Command, cmd, read, write, stored}
+use Rattle.rules.specs.Completion.{isCommand}
 use Rattle.rules.specs.Laws.Layout.{cell-inj}
-use Rattle.rules.specs.Turn
-use Rattle.rules.specs.Turn.{readForRequest, readForJob, writeNext, doStep}
+use Rattle.rules.specs.Levels.{sources, target}
 use Rattle.rules.specs.Rebuild
 use Rattle.rules.specs.Rebuild.{doRebuild, gathered, chosen}
-use Rattle.rules.specs.Levels.{sources, target}
-use Rattle.rules.specs.Completion.{isCommand}
+use Rattle.rules.specs.Run
+use Rattle.rules.specs.Shape.{Shape, cell, slots}
+use Rattle.rules.specs.State.{State, Command, cmd, read, write, stored}
+use Rattle.rules.specs.Turn
+use Rattle.rules.specs.Turn.{readForRequest, readForJob, writeNext, doStep}
 use Rattle.reachable.specs.Blocks.{place-lt, chosen-waits, is-below, gathered-lt, stored-inj, not-nowhere}
 use Rattle.reachable.specs.Consequences.{sources-read}
 use Rattle.reachable.specs.Decided.{Writes}
-use Rattle.reachable.specs.Invariant.{One, Reached}
+use Rattle.reachable.specs.Invariant.{Reached}
 use Rattle.reachable.specs.Kept.Rebuild.Drawing.{Drawing, partition-in, place-in, place-out, above-target, leave-mem}
 use Rattle.reachable.specs.Kept.Rebuild.Marks.{mark-here, mark-else}
-use Rattle.reachable.specs.Live.{drawn, Target, front-eq, isFront, front-is}
+use Rattle.reachable.specs.Live.{Target, front-eq, isFront, front-is}
 use Rattle.reachable.specs.Outstanding.{command-is, is-command, decOne}
 use Rattle.reachable.specs.Slots.{gathered-why, front-in, why-gathered}
+use Rattle.reachable.specs.Terms.{One}
 use Rattle.array.specs.Claim.{Slots, store}
 use Rattle.array.specs.Contents.{Contents, Known, Sent, Written, Settled, Nowhere, Drawn}
 use Rattle.array.specs.Slots.{store-yes, slot-bytes, store-not}
@@ -181,7 +182,7 @@ module _ (s : State) (f : Reached s) (last has : Slots) (array : ℕ → List �
   is-place b = refl
 
   -- a block in its place after the rebuild: gathered, and in the target; or where it was
-  pub data Case (b ℓ i : ℕ) : Type 0 where
+  data Case (b ℓ i : ℕ) : Type 0 where
     moves : Mem b (gathered s q) → s .partition b ≡ q → t ≡ ℓ → Case b ℓ i
     rests : s .place b ≡ stored ℓ i → ((q ≡ s .partition b) × (t ≡ ℓ) → ⊥) → Case b ℓ i
 

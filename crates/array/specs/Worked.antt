@@ -3,8 +3,8 @@
 use mathlib.Core.Path.{_≡_, refl}
 use Prim.Native.Nat.{ℕ}
 use native.Mathlib.Omega.{arith}
-use Rattle.rules.specs.Unfold.{model}
 use Rattle.rules.specs.Checked.Worked.{worked-calls, worked-outcomes}
+use Rattle.rules.specs.Unfold.{model}
 use Rattle.array.specs.Claim.{Slots, store, sends, Expected, Plain, change, next, expects}
 use Rattle.array.specs.Hosts.{AtOnce, AtCompletion, lands, landed}
 

@@ -228,3 +228,13 @@ module _ {A : Type 0} (p : A → Bool) where
         go true k (inr l) ih = rw (without-yes q x xs k) l
         go false k (inl l) ih = rw (without-no q x xs k) (or-left (p x) (any p (without q xs)) l)
         go false k (inr l) ih = rw (without-no q x xs k) (or-right (p x) (any p (without q xs)) (ih l))
+
+-- two tests that answer alike find the same
+pub find-same : {A : Type 0} (p q : A → Bool) {xs : List A} → All (λ x. p x ≡ q x) xs → find p xs ≡ find q xs
+unfolding find
+find-same p q nil = refl
+find-same p q (cons {x = x} {xs = xs} h t) = go (q x) refl (find-same p q t)
+  where
+    go : (b : Bool) → q x ≡ b → find p xs ≡ find q xs → find p (x ∷ xs) ≡ find q (x ∷ xs)
+    go true e k = find-yes p x xs (h ∙ e) ∙ sym (find-yes q x xs e)
+    go false e k = find-no p x xs (h ∙ e) ∙ k ∙ sym (find-no q x xs e)

@@ -8,31 +8,31 @@ use Prim.Native.Nat.{ℕ, zero, suc, _-_, _<_}
 use native.Mathlib.Omega.{arith}
 use native.Mathlib.Decide.{decLt}
 use lib.Dec.{eqb}
-use borrow.Author.Tests.{eqb-true, not-true, eqb-false, eq-eqb}
 use lib.ListN.{length}
-use Rattle.lists.specs.Search.{below, find, any}
-use Rattle.lists.specs.Distinct.{Mem}
-use Rattle.lists.specs.Members.{kept-none, not-member, all-mem}
-use Rattle.lists.specs.Tests.{and-l, and-r, if_then_else_}
-use Rattle.rules.specs.Collect
-use Rattle.rules.specs.Blocks
-use Rattle.rules.specs.Request
-use Rattle.rules.specs.State.{State, Command, stored, Request, cmd, read, Place, nowhere}
-use Rattle.rules.specs.Shape.{cell, slots, offset}
-use Rattle.rules.specs.Levels.{filled, sources}
-use Rattle.rules.specs.Laws.Levels.{levels-pos, sources-le}
-use Rattle.lists.specs.Search
-use Rattle.lists.specs.Tables.{put, put-has}
+use borrow.Author.Tests.{eqb-true, not-true, eqb-false, eq-eqb}
 use Rattle.lists.specs.All
 use Rattle.lists.specs.All.{All, IfSome, all-map, any-none}
+use Rattle.lists.specs.Distinct.{Mem}
+use Rattle.lists.specs.Members.{kept-none, not-member, all-mem}
+use Rattle.lists.specs.Search
+use Rattle.lists.specs.Search.{below, find, any}
+use Rattle.lists.specs.Tables.{put, put-has}
+use Rattle.lists.specs.Tests.{and-l, and-r, if_then_else_}
+use Rattle.rules.specs.Blocks
+use Rattle.rules.specs.Collect
+use Rattle.rules.specs.Laws.Levels.{levels-pos, sources-le}
 use Rattle.rules.specs.Laws.Range.{RequestIn}
-use Rattle.rules.specs.Rebuild.{places}
+use Rattle.rules.specs.Levels.{filled, sources}
+use Rattle.rules.specs.Request
+use Rattle.rules.specs.Shape.{cell, slots, offset}
+use Rattle.rules.specs.State.{State, Command, stored, Request, cmd, read, Place, nowhere}
 use Rattle.reachable.specs.Bits.{source-filled}
 use Rattle.reachable.specs.Blocks.{place-lt}
 use Rattle.reachable.specs.Decided.{Rebuilds, RequestReads, JobReads}
-use Rattle.reachable.specs.Invariant.{Reached, Reading, Own, Writing, Elsewhere}
-use Rattle.reachable.specs.Live.{passedBy, isFront, front-mem, counted-other, not-front, front-is, Gathers}
+use Rattle.reachable.specs.Invariant.{Reached, Reading, Own, Items, Writing}
+use Rattle.reachable.specs.Live.{passedBy, isFront, front-mem, counted-other, counted, not-front, front-is, Gathers}
 use Rattle.reachable.specs.Pending.{passed-none, passed-why}
+use Rattle.reachable.specs.Terms.{Elsewhere}
 
 pub slot-own : (ℓ i : ℕ) (x : Place) → Request.slotIn ℓ x ≡ some i → x ≡ stored ℓ i
 unfolding Request.slotIn
@@ -47,7 +47,7 @@ pub own-slot : (ℓ i : ℕ) → Request.slotIn ℓ (stored ℓ i) ≡ none → 
 unfolding Request.slotIn
 own-slot ℓ i e = let e′ : some i ≡ none = rw (eq-eqb ℓ ℓ refl) at e in let z : _≡_ {A = ℕ} 0 1 = cc in omega arith
 
-named-zero : (n : ℕ) → Search.isNone (Blocks.named n) ≡ true → n ≡ 0
+pub named-zero : (n : ℕ) → Search.isNone (Blocks.named n) ≡ true → n ≡ 0
 unfolding Blocks.named Search.isNone
 named-zero zero e = refl
 named-zero (suc n) e = absurd (true≢false (sym e))
@@ -75,7 +75,7 @@ block-lt s f r e = go (s .request) e (f .range .request)
     go : (o : Option Request) → o ≡ some r → IfSome (RequestIn (s .shape)) o → r .block < s .shape .N
     go o e k = let k′ : RequestIn (s .shape) r = rw e at k in k′ .block
 
-pub named-is : (n b : ℕ) → Blocks.named n ≡ some b → n ≡ suc b
+named-is : (n b : ℕ) → Blocks.named n ≡ some b → n ≡ suc b
 unfolding Blocks.named
 named-is zero b e = let z : _≡_ {A = ℕ} 0 1 = cc in absurd (omega arith)
 named-is (suc n) b e = let w : n ≡ b = cc in ap suc w
@@ -91,7 +91,7 @@ module _ (s : State) (f : Reached s) where
   place-holder b ℓ i hb e = ap Blocks.named (f .agree .placed b ℓ i hb e .1)
 
   -- The partition of a request that has sent a read has no job
-  pub passed-away : (p ℓ : ℕ) → passedBy (s .partition) (s .request) p ℓ ≡ true → ¬ Mem p (s .queue)
+  passed-away : (p ℓ : ℕ) → passedBy (s .partition) (s .request) p ℓ ≡ true → ¬ Mem p (s .queue)
   unfolding Request.held
   passed-away p ℓ k m = go (s .request) refl k
     where
@@ -180,6 +180,11 @@ module _ (s : State) (f : Reached s) where
 -- A slot that counts as read still does when another read is sent
 pub still-read : (x c : ℕ) (mark : ℕ → ℕ) → mark c ≡ 0 → put x 0 mark c ≡ 0
 still-read x c mark e = put-has (λ v. v ≡ 0) x 0 mark c refl e
+
+pub read-items : (s : State) → Reached s → (x : ℕ) → Items (s .shape) (counted s) (s .order) (put x 0 (s .mark)) (s .holds)
+read-items s f x q ℓ hq hℓ e =
+    let r = f .items q ℓ hq hℓ e in
+    (r .0, record { few = r .1 .few; blocks = λ k l hk z. still-read x _ (s .mark) (r .1 .blocks k l hk z); dummies = r .1 .dummies })
 
 -- A read of an unread slot is in another slot than each outstanding command, if the writes are of other partitions
 pub read-apart : (s : State) → Reached s → (q ℓ i : ℕ) → s .mark (cell (s .shape) q ℓ i) ≡ 1 → ((c : Command) → Writing s c → ¬ (c .partition ≡ q)) → All (λ c. Elsewhere c (cmd read q ℓ i)) (s .outstanding)

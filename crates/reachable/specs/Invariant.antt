@@ -7,16 +7,17 @@ use mathlib.Core.Option.{Option, some}
 use Prim.Native.Nat.{ℕ, zero, suc, _+_, _-_, _%_, _^_, _≤_, _<_}
 use lib.ListN.{length}
 use lib.Dec.{eqb}
-use Rattle.lists.specs.Search.{keep, below}
 use Rattle.lists.specs.All.{All}
 use Rattle.lists.specs.Distinct.{Mem, NoDup}
+use Rattle.lists.specs.Search.{keep, below}
 use Rattle.lists.specs.Totals.{total}
+use Rattle.rules.specs.Laws.Range.{InRange}
+use Rattle.rules.specs.Levels.{filled, sources, target}
 use Rattle.rules.specs.Request
 use Rattle.rules.specs.Shape.{Shape, cell, offset, slots}
 use Rattle.rules.specs.State.{State, Command, Place, nowhere, stored, Request, read, write}
-use Rattle.rules.specs.Levels.{filled, sources, target}
-use Rattle.rules.specs.Laws.Range.{InRange}
 use Rattle.reachable.specs.Live.{storedIn, counted, Gathers, readsOf, pending, isFront, passedBy}
+use Rattle.reachable.specs.Terms.{Numbered, Apart}
 
 -- ---- Blocks and slots
 
@@ -29,6 +30,10 @@ pub record Waiting (waiting : List ℕ) (place : ℕ → Place) : Type 0 where
 pub record Orders (h : Shape) (count : ℕ → ℕ) (order : ℕ → ℕ) : Type 0 where
   pub one : (q ℓ j k : ℕ) → q < h .P → ℓ < h .L → filled (count q) ℓ ≡ true → j < slots ℓ → k < slots ℓ → order (cell h q ℓ j) ≡ order (cell h q ℓ k) → j ≡ k
   pub each : (q ℓ i : ℕ) → q < h .P → ℓ < h .L → filled (count q) ℓ ≡ true → i < slots ℓ → (k : ℕ) × ((k < slots ℓ) × (order (cell h q ℓ k) ≡ i))
+
+-- The items of a live level are so numbered
+abbrev pub Items : Shape → (ℕ → ℕ) → (ℕ → ℕ) → (ℕ → ℕ) → (ℕ → ℕ) → Type 0
+Items h count order mark holds = (q ℓ : ℕ) → q < h .P → ℓ < h .L → filled (count q) ℓ ≡ true → (n : ℕ) × Numbered h order mark holds q ℓ n
 
 -- A block's place is in a live level, whose slot holds it; and what a slot holds has its place there: no entry is stale
 pub record Agree (h : Shape) (count : ℕ → ℕ) (partition : ℕ → ℕ) (place : ℕ → Place) (holds : ℕ → ℕ) : Type 0 where
@@ -104,19 +109,6 @@ Spent s = (q ℓ i : ℕ) → isFront (s .queue) q ≡ true → (s .sent ≡ 0 �
 
 -- ---- Outstanding commands
 
--- Two slots are one
-abbrev pub One : ℕ → ℕ → ℕ → ℕ → ℕ → ℕ → Type 0
-One p m j q ℓ i = (p ≡ q) × (m ≡ ℓ) × (j ≡ i)
-
--- Two commands are in different slots
-abbrev pub Elsewhere : Command → Command → Type 0
-Elsewhere c d = One (c .partition) (c .level) (c .slot) (d .partition) (d .level) (d .slot) → ⊥
-
--- No two commands of a list are in one slot
-pub data Apart : List Command → Type 0 where
-  none-apart : Apart []
-  one-apart : {c : Command} {cs : List Command} → All (Elsewhere c) cs → Apart cs → Apart (c ∷ cs)
-
 -- An outstanding read: its slot counts as read, its level is filled, and the request for its partition has passed it, or the front job gathers it
 pub record ReadOf (h : Shape) (counter mark partition : ℕ → ℕ) (request : Option Request) (queue : List ℕ) (sent : ℕ) (c : Command) : Type 0 where
   pub kind : c .kind ≡ read
@@ -148,6 +140,7 @@ pub record Reached (s : State) : Type 0 where
   pub range : InRange s  -- each number is in its range
   pub waiting : Waiting (s .waiting) (s .place)
   pub orders : Orders (s .shape) (counted s) (s .order)
+  pub items : Items (s .shape) (counted s) (s .order) (s .mark) (s .holds)
   pub agree : Agree (s .shape) (counted s) (s .partition) (s .place) (s .holds)
   pub room : Room s
   pub full : Full s

@@ -7,13 +7,13 @@ use mathlib.Core.Option.{Option, none, some}
 use Prim.Native.Nat.{ℕ, zero, suc, _-_, _<_}
 use lib.Dec.{eqb, ltb}
 use borrow.Author.Tests.{eqb-true, eq-eqb, ne-eqb}
-use Rattle.lists.specs.Tests.{if_then_else_}
-use Rattle.lists.specs.Search.{member, keep, below}
-use Rattle.lists.specs.Totals.{total}
 use Rattle.lists.specs.Distinct.{Mem}
+use Rattle.lists.specs.Search.{member, keep, below}
+use Rattle.lists.specs.Tests.{if_then_else_}
+use Rattle.lists.specs.Totals.{total}
+use Rattle.rules.specs.Levels.{sources, target, grown}
 use Rattle.rules.specs.Shape.{Shape, cell, slots}
 use Rattle.rules.specs.State.{nowhere, stored, State, Request, Place}
-use Rattle.rules.specs.Levels.{sources, target, grown}
 
 -- the front job is for q
 unfoldable pub isFront : List ℕ → ℕ → Bool

@@ -12,29 +12,29 @@ use lib.ListN.{length, length-append}
 use lib.Dec.{ltb}
 use lib.Pow.{pow-pos, pow-mono}
 use borrow.Author.Tests.{eq-eqb, lt-ltb, le-leb, ltb-true}
-use Rattle.lists.specs.Search
-use Rattle.lists.specs.Search.{below, member}
-use Rattle.lists.specs.Tests.{and-l, and-true, or-left, or-right}
 use Rattle.lists.specs.All.{All, cons, find-none}
 use Rattle.lists.specs.Distinct.{Mem}
 use Rattle.lists.specs.Members.{not-member, all-mem, below-mem, decMem, nodup-le, nodup-sub, mem-member, map-mem, append-right, member-append}
+use Rattle.lists.specs.Search
+use Rattle.lists.specs.Search.{below, member}
+use Rattle.lists.specs.Tests.{and-l, and-true, or-left, or-right}
 use Rattle.lists.specs.Totals.{total-gap}
 use Rattle.rules.specs.Blocks
-use Rattle.rules.specs.Request
-use Rattle.rules.specs.State.{State, stored, Request}
-use Rattle.rules.specs.Shape.{cell, slots}
-use Rattle.rules.specs.Ranges.{isKind}
+use Rattle.rules.specs.Laws.Levels.{sources-le}
+use Rattle.rules.specs.Levels.{filled, sources, target}
 use Rattle.rules.specs.Questions
 use Rattle.rules.specs.Questions.{request, turn, possible, questions, firstNo}
-use Rattle.rules.specs.Levels.{filled, sources, target}
+use Rattle.rules.specs.Ranges.{isKind}
 use Rattle.rules.specs.Rebuild.{gathered, chosen}
+use Rattle.rules.specs.Request
+use Rattle.rules.specs.Shape.{cell, slots}
+use Rattle.rules.specs.State.{State, stored, Request}
 use Rattle.rules.specs.Turn.{decide, Step, idle, noDummy, readForRequest, readForJob, rebuild, writeNext}
-use Rattle.rules.specs.Laws.Levels.{sources-le}
-use Rattle.reachable.specs.Live
 use Rattle.reachable.specs.Blocks.{in-why, is-below, why-in, lt-below, why-at, in-is, nodup-in, nodup-gathered, gathered-lt, target-min}
 use Rattle.reachable.specs.Consequences.{block-lt}
 use Rattle.reachable.specs.Decided.{Lacks, Decided, decided}
 use Rattle.reachable.specs.Invariant.{taken, Reached, holdsOf, storedAt}
+use Rattle.reachable.specs.Live
 use Rattle.reachable.specs.Live.{readsOf, counted, counted-other, not-front, pending, Gathers, front-mem}
 use Rattle.reachable.specs.Pending.{undrawn-mem, passed-why, pending-cases}
 use Rattle.reachable.specs.Slots.{gathered-why, chosen-room, front-in}
@@ -44,12 +44,12 @@ unfolding taken
 taken-none zero e = refl
 taken-none (suc n) e = absurd (omega arith)
 
-named-none : (n : ℕ) → n ≡ 0 → Search.isNone (Blocks.named n) ≡ true
+pub named-none : (n : ℕ) → n ≡ 0 → Search.isNone (Blocks.named n) ≡ true
 unfolding Blocks.named Search.isNone
 named-none n e = rw e
 
 -- A request always finds an unread dummy
-pub never-lacks : (s : State) → Reached s → Lacks s → ⊥
+never-lacks : (s : State) → Reached s → Lacks s → ⊥
 unfolding readsOf holdsOf
 never-lacks s f k = go (f .reads q ℓ hq (k .top) (ap (λ c. filled c ℓ) count ∙ k .full))
   where
@@ -149,7 +149,7 @@ module _ (s : State) (f : Reached s) (q : ℕ) (hq : q < s .shape .P) where
       go (some a) e (no l) = rw (last l) (omega (arith, gathered-one a e, chosen-room s f q hq a e, ap (λ n. length (Live.storedIn s q n)) (all-from l)))
 
 -- A step that a turn decides is possible
-pub possible-step : (s : State) → Reached s → (x : Step) → Decided s x → possible s x ≡ true
+possible-step : (s : State) → Reached s → (x : Step) → Decided s x → possible s x ≡ true
 unfolding possible
 possible-step s f idle d = refl
 possible-step s f noDummy d = absurd (never-lacks s f d)
@@ -171,9 +171,9 @@ last-two true true true false e h = absurd (omega arith)
 last-two true true true true false h = absurd (omega arith)
 last-two true true true true true h = absurd (omega arith)
 
-pub never-late : (s : State) → Reached s → (m : ℕ) (ws : List ℕ) (k : ℕ) → firstNo (questions s turn m ws k) ≡ 2 → Questions.ready s m ≡ false
+pub late-two : (s : State) → Reached s → (m : ℕ) (ws : List ℕ) (k : ℕ) → firstNo (questions s turn m ws k) ≡ 2 → Questions.ready s m ≡ false
 unfolding questions
-never-late s f m ws k e = last-two _ _ _ _ _ (rw (always-possible s f) at e)
+late-two s f m ws k e = last-two _ _ _ _ _ (rw (always-possible s f) at e)
 
 -- Document 01: with E equal to N a request is never answered 8
 pub room-or-waits : (s : State) → Reached s → s .shape .E ≡ s .shape .N → (b : ℕ) → b < s .shape .N → (ltb (length (s .waiting)) (s .shape .E) || member b (s .waiting)) ≡ true

@@ -6,12 +6,12 @@ use Prim.Native.Nat.{ℕ}
 use native.Mathlib.Decide.{ℕ-discrete}
 use lib.Dec.{eqb}
 use borrow.Author.Tests.{eqb-true, eq-eqb}
-use Rattle.lists.specs.Search.{without, without-yes, without-no}
 use Rattle.lists.specs.All.{All, nil, cons, all-append, all-without}
+use Rattle.lists.specs.Search.{without, without-yes, without-no}
 use Rattle.lists.specs.Tests.{and-l, and-r, and-true}
-use Rattle.rules.specs.State.{Command, cmd}
 use Rattle.rules.specs.Completion.{isCommand}
-use Rattle.reachable.specs.Invariant.{Apart, Elsewhere, none-apart, one-apart, One}
+use Rattle.rules.specs.State.{Command, cmd}
+use Rattle.reachable.specs.Terms.{Apart, Elsewhere, none-apart, one-apart, One}
 
 pub apart-snoc : {cs : List Command} (c : Command) → Apart cs → All (λ d. Elsewhere d c) cs → Apart (cs ++ (c ∷ []))
 apart-snoc c none-apart nil = one-apart nil none-apart

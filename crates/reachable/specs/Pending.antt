@@ -3,22 +3,22 @@ use mathlib.Core.Path.{_≡_, refl, ap, sym, _∙_}
 use mathlib.Core.Logic.{_⊎_, inl, inr, ⊎-elim}
 use mathlib.Core.Bool.{Bool, true, false, _||_, true≢false, _&&_}
 use mathlib.Core.List.{List, [], _∷_, _++_}
+use mathlib.Core.Option.{Option, none, some}
 use Prim.Native.Nat.{ℕ, zero, suc, _+_, _-_, _≤_, _<_}
 use native.Mathlib.Omega.{arith}
 use native.Mathlib.Decide.{ℕ-discrete}
-use Rattle.lists.specs.Tests.{if_then_else_, or-true, or-right, and-l, and-r, and-true}
-use Rattle.lists.specs.Search.{member}
-use Rattle.lists.specs.Tables.{put, put-same, put-other}
-use Rattle.lists.specs.Distinct.{Mem}
-use Rattle.lists.specs.Members.{mem-member, member-mem}
-use Rattle.lists.specs.Totals.{total-one, total-same}
-use Rattle.rules.specs.Shape.{Shape, cell, slots}
-use Rattle.rules.specs.State.{State, Request}
-use Rattle.rules.specs.Laws.Layout.{cell-inj}
-use mathlib.Core.Option.{Option, none, some}
 use lib.Dec.{eqb, ltb}
 use borrow.Author.Tests.{eqb-true, eq-eqb, lt-ltb, ltb-true}
+use Rattle.lists.specs.Distinct.{Mem}
+use Rattle.lists.specs.Members.{mem-member, member-mem}
+use Rattle.lists.specs.Search.{member}
+use Rattle.lists.specs.Tables.{put, put-same, put-other}
+use Rattle.lists.specs.Tests.{if_then_else_, or-true, or-right, and-l, and-r, and-true}
+use Rattle.lists.specs.Totals.{total-one, total-same}
+use Rattle.rules.specs.Laws.Layout.{cell-inj}
 use Rattle.rules.specs.Request
+use Rattle.rules.specs.Shape.{Shape, cell, slots}
+use Rattle.rules.specs.State.{State, Request}
 use Rattle.reachable.specs.Live.{undrawn, isFront, pending, passedBy, readsOf}
 
 pub undrawn-mem : (x : ℕ) (qs : List ℕ) (n : ℕ) → Mem x (undrawn qs n) → Mem x qs
@@ -62,7 +62,7 @@ unfolding isFront
 front-more qs xs q p rest e = rw e
 
 module _ (s : State) (p ℓ : ℕ) where
-  pub pending-job : Mem p (undrawn (s .queue) (s .sent)) → pending s p ℓ ≡ 1
+  pending-job : Mem p (undrawn (s .queue) (s .sent)) → pending s p ℓ ≡ 1
   unfolding pending
   pending-job m = rw (mem-member p (undrawn (s .queue) (s .sent)) m)
 

@@ -1,6 +1,4 @@
 -- Every state that calls left is closed, or has the invariant.
-use Rattle.rules.specs.Run
-use Rattle.rules.specs.Questions.{number, questions, bounds, Ask, opening, request, turn, completion, collect, Call}
 use mathlib.Core.Path.{_≡_, refl, sym}
 use mathlib.Core.Bool.{Bool, true, false, _&&_, true≢false}
 use mathlib.Core.List.{List, [], _∷_}
@@ -8,28 +6,30 @@ use mathlib.Core.Option.{Option, none, some}
 use Prim.Native.Nat.{ℕ, _<_, _-_}
 use lib.Dec.{eqb, leb}
 use borrow.Author.Tests.{eqb-true, eqb-false}
+use Rattle.lists.specs.All.{nil, cons, all-replicate}
 use Rattle.lists.specs.Search
 use Rattle.lists.specs.Tests.{if_then_else_, and-l}
+use Rattle.rules.specs.Blocks
+use Rattle.rules.specs.Collect
 use Rattle.rules.specs.Completion
-use Rattle.rules.specs.State.{State, Command, Request, closed}
+use Rattle.rules.specs.Draws.{newOrder, draws}
+use Rattle.rules.specs.Laws.Answers.{Passed, accepted-passed, step-accepted, step-refused}
+use Rattle.rules.specs.Laws.Decided.{decide-in, StepIn, stepBounds-pos}
+use Rattle.rules.specs.Laws.Kept.{act-in, completed-in, fresh-in, drew-of, given-in}
+use Rattle.rules.specs.Laws.Levels.{partitions-pos}
+use Rattle.rules.specs.Laws.Orders.{Drew, done}
+use Rattle.rules.specs.Laws.Range.{InRange, facts-range}
+use Rattle.rules.specs.Memory
+use Rattle.rules.specs.Questions
+use Rattle.rules.specs.Questions.{number, questions, bounds, Ask, opening, request, turn, completion, collect, Call}
+use Rattle.rules.specs.Ranges.{isKind}
+use Rattle.rules.specs.Run
+use Rattle.rules.specs.Run.{act, step, after}
 use Rattle.rules.specs.Shape.{Shape, slots}
+use Rattle.rules.specs.State.{State, Command, Request, closed}
 use Rattle.rules.specs.Turn
 use Rattle.rules.specs.Turn.{readForRequest, readForJob, writeNext, doStep, decide, Step, idle, noDummy, rebuild}
-use Rattle.rules.specs.Laws.Range.{InRange, facts-range}
-use Rattle.lists.specs.All.{nil, cons, all-replicate}
-use Rattle.rules.specs.Blocks
-use Rattle.rules.specs.Laws.Levels.{partitions-pos}
-use Rattle.rules.specs.Collect
-use Rattle.rules.specs.Ranges.{isKind}
-use Rattle.rules.specs.Memory
-use Rattle.rules.specs.Draws.{newOrder, draws}
-use Rattle.rules.specs.Questions
-use Rattle.rules.specs.Run.{act, step, after}
 use Rattle.rules.specs.Unfold.{model}
-use Rattle.rules.specs.Laws.Answers.{Passed, accepted-passed, step-accepted, step-refused}
-use Rattle.rules.specs.Laws.Orders.{Drew, done}
-use Rattle.rules.specs.Laws.Kept.{act-in, completed-in, fresh-in, drew-of, given-in}
-use Rattle.rules.specs.Laws.Decided.{decide-in, StepIn, stepBounds-pos}
 use Rattle.reachable.specs.Decided.{Decided, decided}
 use Rattle.reachable.specs.Invariant.{Reached}
 use Rattle.reachable.specs.Kept.Accept.{accept-kept}
@@ -131,23 +131,10 @@ step-was s c l = go (eqb (number s c) 0) refl
         rw (step-accepted s c z) (live (unfold Run.accepted in (accepted-kept s (c .ask) (c .memory) (c .words) (c .buffer) l (accepted-passed s c z))))
     go false e = rw (step-refused s c (eqb-false (number s c) 0 e)) (refuse-was s (c .ask) l)
 
--- Every state that calls left is closed or reached
-pub after-was : (cs : List Call) (s : State) → Was s → Was (after s cs)
+after-was : (cs : List Call) (s : State) → Was s → Was (after s cs)
 unfolding after
 after-was [] s l = l
 after-was (c ∷ cs) s l = after-was cs (step s c .0) (step-was s c l)
-
-pub reachable : (cs : List Call) → Was (after closed cs)
-reachable cs = after-was cs closed (shut refl)
-
--- In such a state `ready` asks only for the memory
-pub ready-memory : (s : State) (m : ℕ) → Reached s → Questions.ready s m ≡ leb (Memory.needed (s .shape)) m
-unfolding Questions.ready
-ready-memory s m f = rw (facts-range s (f .range)) (and-yes (leb (Memory.needed (s .shape)) m))
-  where
-    and-yes : (t : Bool) → (t && true) ≡ t
-    and-yes true = refl
-    and-yes false = refl
 
 -- the open does not look at what was before it
 open-same : (s : State) (h : Shape) (k : ℕ) (ws : List ℕ) (n : ℕ) → let c : Call = record { ask = opening h; memory = k; words = ws; buffer = n } in step s c ≡ step closed c
@@ -159,3 +146,17 @@ open-first s c h e = same (c .ask) h e
   where
     same : (a : Ask) (h : Shape) → a ≡ opening h → step s (record { ask = a; memory = c .memory; words = c .words; buffer = c .buffer }) ≡ step closed (record { ask = a; memory = c .memory; words = c .words; buffer = c .buffer })
     same a h e = rw e (open-same s h (c .memory) (c .words) (c .buffer))
+
+-- Every state that an open and calls after it left is closed, or reached; whatever state was before the open
+pub reachable : (s : State) (c : Call) (h : Shape) → c .ask ≡ opening h → (cs : List Call) → Was (after s (c ∷ cs))
+unfolding after
+reachable s c h e cs = after-was cs (step s c .0) (rw (open-first s c h e) (step-was closed c (shut refl)))
+
+-- In such a state `ready` asks only for the memory
+pub ready-memory : (s : State) (m : ℕ) → Reached s → Questions.ready s m ≡ leb (Memory.needed (s .shape)) m
+unfolding Questions.ready
+ready-memory s m f = rw (facts-range s (f .range)) (and-yes (leb (Memory.needed (s .shape)) m))
+  where
+    and-yes : (t : Bool) → (t && true) ≡ t
+    and-yes true = refl
+    and-yes false = refl

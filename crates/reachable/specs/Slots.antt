@@ -9,19 +9,19 @@ use native.Mathlib.Omega.{arith}
 use lib.ListN.{length, length-map}
 use lib.Dec.{eqb, ltb}
 use borrow.Author.Tests.{eqb-true, eq-eqb, ltb-true, lt-ltb}
-use Rattle.lists.specs.Tests.{if_then_else_, and-l, and-r, and-true, or-true, or-left, or-right, both-true}
-use Rattle.lists.specs.Search.{find, keep, below}
+use Rattle.lists.specs.All.{keep-passes}
 use Rattle.lists.specs.Distinct.{Mem, NoDup}
 use Rattle.lists.specs.Members.{all-mem, keep-mem, mem-keep, nodup-below, mem-below, below-mem, mem-member, member-mem, map-mem, mem-map, nodup-sub, nodup-keep-map, nodup-map-suc, keep-same}
-use Rattle.lists.specs.All.{keep-passes}
-use Rattle.rules.specs.Shape.{cell, offset, slots}
-use Rattle.rules.specs.State.{State, stored}
+use Rattle.lists.specs.Search.{find, keep, below}
+use Rattle.lists.specs.Tests.{if_then_else_, and-l, and-r, and-true, or-true, or-left, or-right, both-true}
+use Rattle.rules.specs.Blocks.{entries, blocksIn}
+use Rattle.rules.specs.Laws.Layout.{offset-in}
+use Rattle.rules.specs.Laws.Levels.{sources-le}
 use Rattle.rules.specs.Levels.{sources}
 use Rattle.rules.specs.Rebuild
 use Rattle.rules.specs.Rebuild.{gathered, chosen}
-use Rattle.rules.specs.Blocks.{entries, blocksIn}
-use Rattle.rules.specs.Laws.Levels.{sources-le}
-use Rattle.rules.specs.Laws.Layout.{offset-in}
+use Rattle.rules.specs.Shape.{cell, offset, slots}
+use Rattle.rules.specs.State.{State, stored}
 use Rattle.reachable.specs.Blocks.{lt-below, is-below, place-lt, stored-inj, nodup-in, in-why, why-in, Gathered}
 use Rattle.reachable.specs.Cells.{offset-of, offset-cell}
 use Rattle.reachable.specs.Invariant.{Reached}
@@ -52,14 +52,14 @@ module _ (s : State) (f : Reached s) (q : ℕ) (hq : q < s .shape .P) where
       let a = f .agree .held q (r .0) (r .1) b hq hℓ (r .2 .1) e′ in
       (r .0, r .1, (r .2 .0, r .2 .2, omega (arith, f .range .holds q (r .0) (r .1) hq hℓ (r .2 .1), e′), a .0, a .1))
 
-  pub entry-why : (top b : ℕ) → top ≤ s .shape .L → Mem (suc b) (entries s q top) → (b < s .shape .N) × (s .partition b ≡ q) × (isBelow top (s .place b) ≡ true)
+  entry-why : (top b : ℕ) → top ≤ s .shape .L → Mem (suc b) (entries s q top) → (b < s .shape .N) × (s .partition b ≡ q) × (isBelow top (s .place b) ≡ true)
   unfolding entries
   entry-why top b ht m =
       let r = mem-map (λ j. s .holds (cell (s .shape) q 0 j)) (suc b) (below (slots top - 2)) m in
       let x = entry-at top (r .0) b ht (mem-below (slots top - 2) (r .0) (r .1 .0)) (sym (r .1 .1)) in
       (x .2 .2, x .2 .3, lt-below top (x .0) (x .1) (s .place b) (x .2 .4) (x .2 .0))
 
-  pub why-entry : (top b : ℕ) → b < s .shape .N → s .partition b ≡ q → isBelow top (s .place b) ≡ true → Mem (suc b) (entries s q top)
+  why-entry : (top b : ℕ) → b < s .shape .N → s .partition b ≡ q → isBelow top (s .place b) ≡ true → Mem (suc b) (entries s q top)
   unfolding entries
   why-entry top b hb e k =
       let x = is-below top (s .place b) (k) in
@@ -84,7 +84,7 @@ module _ (s : State) (f : Reached s) (q : ℕ) (hq : q < s .shape .P) where
       omega (arith, u .2 .1, v .2 .1, w .1, ap slots (w .0))
 
   -- Document 01: q stores so many blocks. The slots that hold a block are as many as the blocks that have their place there
-  pub held-stored : (top : ℕ) → top ≤ s .shape .L → blocksIn s q top ≡ length (storedIn s q top)
+  held-stored : (top : ℕ) → top ≤ s .shape .L → blocksIn s q top ≡ length (storedIn s q top)
   unfolding blocksIn
   held-stored top ht = omega (
     arith,

@@ -6,13 +6,12 @@ use mathlib.Core.List.{List}
 use mathlib.Core.Option.{none, some}
 use Prim.Native.Nat.{ℕ, _≤_, _-_}
 use native.Mathlib.Omega.{arith}
+use Rattle.lists.specs.All.{all-map}
+use Rattle.rules.specs.Laws.Range.{InRange}
 use Rattle.rules.specs.Request
 use Rattle.rules.specs.State.{State, Request}
-use Rattle.rules.specs.Laws.Range.{InRange}
-use Rattle.lists.specs.All.{all-map}
-use Rattle.rules.specs.Questions.{request}
+use Rattle.reachable.specs.Invariant.{Reached, storedAt}
 use Rattle.reachable.specs.Live
-use Rattle.reachable.specs.Invariant.{Reached, storedAt, taken}
 use Rattle.reachable.specs.Live.{counted, drawn, pending}
 use Rattle.reachable.specs.Pending.{passed-none, pending-more}
 
@@ -22,6 +21,7 @@ accept-kept s f e k b bs js range = record {
   range = range;
   waiting = f .waiting;
   orders = f .orders;
+  items = f .items;
   agree = f .agree;
   room = f .room;
   full = f .full;

@@ -9,24 +9,23 @@ use native.Mathlib.Omega.{arith}
 use native.Mathlib.Decide.{ℕ-discrete}
 use lib.Dec.{eqb}
 use borrow.Author.Tests.{eq-eqb, eqb-false}
-use Rattle.lists.specs.Tables.{put, put-same, put-other}
+use Rattle.lists.specs.All.{all-map, all-both, keep-passes}
 use Rattle.lists.specs.Distinct.{Mem}
 use Rattle.lists.specs.Members.{all-mem, keep-mem, nodup-keep, nodup-snoc, nodup-sub, append-mem, member-append, append-right}
-use Rattle.rules.specs.State.{State, Request, Place, nowhere, stored}
-use Rattle.rules.specs.Shape.{slots, Shape, cell, offset}
-use Rattle.rules.specs.Levels.{filled, sources}
-use Rattle.rules.specs.Laws.Range.{InRange}
-use Rattle.lists.specs.All.{all-map, all-both, keep-passes}
+use Rattle.lists.specs.Tables.{put, put-same, put-other}
+use Rattle.lists.specs.Totals.{total-le}
 use Rattle.rules.specs.Collect
 use Rattle.rules.specs.Collect.{finish, emptied}
-use Rattle.lists.specs.Totals.{total-le}
-use Rattle.rules.specs.Ranges.{others}
-use Rattle.rules.specs.Questions.{request}
 use Rattle.rules.specs.Laws.Orders.{done}
-use Rattle.reachable.specs.Live
+use Rattle.rules.specs.Laws.Range.{InRange}
+use Rattle.rules.specs.Levels.{filled, sources}
+use Rattle.rules.specs.Ranges.{others}
+use Rattle.rules.specs.Shape.{slots, Shape, cell, offset}
+use Rattle.rules.specs.State.{State, Request, Place, nowhere, stored}
 use Rattle.reachable.specs.Blocks.{not-nowhere, stored-inj, at-why, why-at, in-why, why-in, nodup-at, nodup-in}
-use Rattle.reachable.specs.Consequences.{block-lt, finished-quiet}
-use Rattle.reachable.specs.Invariant.{Reached, Waiting, Agree, storedAt, isIn, Room, Full, taken, Taken, holdsOf, Reads, Unread, Commands}
+use Rattle.reachable.specs.Consequences.{block-lt, finished-read, finished-quiet}
+use Rattle.reachable.specs.Invariant.{Reached, Waiting, Items, Agree, storedAt, isIn, Room, Full, taken, Taken, holdsOf, Reads, Unread, Commands}
+use Rattle.reachable.specs.Live
 use Rattle.reachable.specs.Live.{counted, counted-calm, drawn, pending, undrawn, Gathers, isFront}
 use Rattle.reachable.specs.Pending.{Filled, front-more, front-append, pending-more, undrawn-append, passed-why}
 
@@ -110,6 +109,37 @@ module _ (s : State) (f : Reached s) (r : Request) (inHand : s .request ≡ some
           by : Dec (c ≡ cell h (s .partition b) m j) → (s .holds c ≡ suc x) × ((m j : ℕ) → s .place b ≡ stored m j → ¬ (c ≡ cell h (s .partition b) m j))
           by (yes w) = absurd (let z : 0 ≡ suc x = sym (ap (put (cell h (s .partition b) m j) 0 (s .holds)) w ∙ put-same (cell h (s .partition b) m j) 0 (s .holds)) ∙ e in omega arith)
           by (no w) = (sym (put-other (cell h (s .partition b) m j) 0 (s .holds) c w) ∙ e, λ m′ j′ z v. let u = stored-inj m m′ j j′ (sym k ∙ z) in w (v ∙ rw (u .0, u .1)))
+
+  -- a slot that holds nothing held nothing before, or has been read: the block's own slot
+  holds-gone : (c : ℕ) → s′ .holds c ≡ 0 → (s .holds c ≡ 0) ⊎ (s .mark c ≡ 0)
+  unfolding finish emptied
+  holds-gone c e = go (s .place b) refl e
+    where
+      go : (y : Place) → s .place b ≡ y → emptied (cell h (s .partition b)) y (s .holds) c ≡ 0 → (s .holds c ≡ 0) ⊎ (s .mark c ≡ 0)
+      go nowhere k e = inl e
+      go (stored m j) k e = by (ℕ-discrete c (cell h (s .partition b) m j))
+        where
+          by : Dec (c ≡ cell h (s .partition b) m j) → (s .holds c ≡ 0) ⊎ (s .mark c ≡ 0)
+          by (yes w) = inr (ap (s .mark) w ∙ finished-read s f r m j inHand done k)
+          by (no w) = inl (sym (put-other (cell h (s .partition b) m j) 0 (s .holds) c w) ∙ e)
+
+  items-kept : Items h (counted s′) (s .order) (s .mark) (s′ .holds)
+  items-kept q ℓ hq hℓ e =
+      let x = f .items q ℓ hq hℓ (rw counted-kept at e) in (
+        x .0,
+        record {
+          few = x .1 .few;
+          blocks = λ k l hk z. ⊎-elim (x .1 .blocks k l hk) (λ w. w) (holds-gone _ z);
+          dummies = λ k l hk. none-more _ (x .1 .dummies k l hk);
+        },
+      )
+    where
+      none-more : (c : ℕ) → s .holds c ≡ 0 → s′ .holds c ≡ 0
+      none-more c z = go (s′ .holds c) refl
+        where
+          go : (v : ℕ) → s′ .holds c ≡ v → s′ .holds c ≡ 0
+          go zero w = w
+          go (suc x) w = absurd (omega (arith, holds-before c x w .0))
 
   agree-kept : Agree h (counted s′) (s′ .partition) (s′ .place) (s′ .holds)
   agree-kept = record { placed = placed; held = held }
@@ -213,6 +243,7 @@ module _ (s : State) (f : Reached s) (r : Request) (inHand : s .request ≡ some
     range = range;
     waiting = waiting-kept;
     orders = unfold finish in (rw counted-kept (f .orders));
+    items = items-kept;
     agree = agree-kept;
     room = room-kept;
     full = full-kept;

@@ -10,21 +10,21 @@ use native.Mathlib.Decide.{ℕ-discrete}
 use lib.Dec.{eqb}
 use lib.Pow.{pow-pos}
 use borrow.Author.Tests.{eqb-true, eq-eqb, not-true}
-use Rattle.lists.specs.Tests.{if_then_else_, and-l, and-r}
-use Rattle.lists.specs.Tables.{put, put-same, put-other}
-use Rattle.lists.specs.Members.{not-member}
-use Rattle.rules.specs.Completion
-use Rattle.rules.specs.Request
-use Rattle.rules.specs.State.{State, Command, write, Request}
-use Rattle.rules.specs.Shape.{slots}
-use Rattle.rules.specs.Levels.{target, grown, filled}
-use Rattle.rules.specs.Laws.Range.{InRange}
-use Rattle.lists.specs.Search.{any, member}
 use Rattle.lists.specs.All.{All, all-map, all-without, all-both, any-none}
 use Rattle.lists.specs.Members
-use Rattle.reachable.specs.Live
+use Rattle.lists.specs.Members.{not-member}
+use Rattle.lists.specs.Search.{any, member}
+use Rattle.lists.specs.Tables.{put, put-same, put-other}
+use Rattle.lists.specs.Tests.{if_then_else_, and-l, and-r}
+use Rattle.rules.specs.Completion
+use Rattle.rules.specs.Laws.Range.{InRange}
+use Rattle.rules.specs.Levels.{target, grown, filled}
+use Rattle.rules.specs.Request
+use Rattle.rules.specs.Shape.{slots}
+use Rattle.rules.specs.State.{State, Command, write, Request}
 use Rattle.reachable.specs.Consequences.{reading-away}
-use Rattle.reachable.specs.Invariant.{Reached, storedAt, taken, Reads, Unheld, Reading, Commands}
+use Rattle.reachable.specs.Invariant.{Reached, storedAt, Reads, Unheld, Reading, Commands}
+use Rattle.reachable.specs.Live
 use Rattle.reachable.specs.Live.{counted, drawn, pending, counted-calm, counted-drawn, front-is, counted-other, isFront, front-eq}
 use Rattle.reachable.specs.Outstanding.{apart-without}
 use Rattle.reachable.specs.Pending.{pending-more, undrawn-rest}
@@ -36,6 +36,7 @@ completed-kept s f c range = record {
   range = range;
   waiting = f .waiting;
   orders = f .orders;
+  items = f .items;
   agree = f .agree;
   room = f .room;
   full = f .full;
@@ -60,6 +61,7 @@ bytes-kept s f (some b) bs range = record {
   range = range;
   waiting = f .waiting;
   orders = f .orders;
+  items = f .items;
   agree = f .agree;
   room = f .room;
   full = f .full;
@@ -135,6 +137,7 @@ module _ (s : State) (f : Reached s) (q : ℕ) (rest : List ℕ) (front : s .que
     range = range;
     waiting = f .waiting;
     orders = rw counted-kept (f .orders);
+    items = rw counted-kept (f .items);
     agree = rw counted-kept (f .agree);
     room = f .room;
     full = f .full;

@@ -8,28 +8,28 @@ use Prim.Native.Nat.{ℕ, _+_, _%_, _^_, _≤_, _<_, _-_}
 use native.Mathlib.Omega.{arith}
 use native.Mathlib.Decide.{ℕ-discrete, decLt}
 use borrow.Author.Tests.{eqb-false}
-use Rattle.lists.specs.Tables.{put, put-same, put-other}
+use Rattle.lists.specs.All.{nil, cons, all-append, all-map}
 use Rattle.lists.specs.Members.{all-mem}
+use Rattle.lists.specs.Tables.{put, put-same, put-other}
+use Rattle.rules.specs.Blocks
+use Rattle.rules.specs.Laws.Layout.{cell-inj}
+use Rattle.rules.specs.Laws.Levels.{sources-le}
+use Rattle.rules.specs.Laws.Range.{InRange}
 use Rattle.rules.specs.Request
-use Rattle.rules.specs.State.{State, read, Request, cmd}
 use Rattle.rules.specs.Shape.{slots, cell, offset}
+use Rattle.rules.specs.State.{State, read, Request, cmd}
 use Rattle.rules.specs.Turn
 use Rattle.rules.specs.Turn.{readForJob, doStep}
-use Rattle.rules.specs.Laws.Range.{InRange}
-use Rattle.lists.specs.All.{nil, cons, all-append, all-map}
-use Rattle.rules.specs.Blocks
-use Rattle.rules.specs.Laws.Levels.{sources-le}
-use Rattle.rules.specs.Laws.Layout.{cell-inj}
-use Rattle.rules.specs.Rebuild.{places}
-use Rattle.reachable.specs.Live
 use Rattle.reachable.specs.Blocks.{place-lt}
 use Rattle.reachable.specs.Cells.{offset-cell}
-use Rattle.reachable.specs.Consequences.{job-gathers, still-read, read-apart, job-unread, job-full}
+use Rattle.reachable.specs.Consequences.{job-gathers, still-read, read-apart, job-unread, job-full, read-items}
 use Rattle.reachable.specs.Decided.{JobReads}
-use Rattle.reachable.specs.Invariant.{Reached, Reads, Unread, Own, Scanned, Apart, Commands, storedAt, taken}
+use Rattle.reachable.specs.Invariant.{Reached, Reads, Unread, Own, Scanned, Commands, storedAt}
+use Rattle.reachable.specs.Live
 use Rattle.reachable.specs.Live.{counted, drawn, pending, readsOf, Gathers, front-is, front-eq, front-mem}
 use Rattle.reachable.specs.Outstanding.{apart-snoc}
 use Rattle.reachable.specs.Pending.{mark-same}
+use Rattle.reachable.specs.Terms.{Apart}
 
 module _ (s : State) (f : Reached s) (q ℓ i : ℕ) (d : JobReads s q ℓ i) (hℓ : ℓ < s .shape .L) (js : List ℕ) where
   abbrev s′ : State
@@ -109,6 +109,7 @@ module _ (s : State) (f : Reached s) (q ℓ i : ℕ) (d : JobReads s q ℓ i) (h
     range = range;
     waiting = f .waiting;
     orders = f .orders;
+    items = read-items s f (cell (s .shape) q ℓ i);
     agree = f .agree;
     room = f .room;
     full = f .full;

@@ -4,19 +4,19 @@ use mathlib.Core.Bool.{true, false, true≢false}
 use mathlib.Core.List.{List, []}
 use Prim.Native.Nat.{ℕ, suc, _^_, _≤_, zero, _-_}
 use native.Mathlib.Omega.{arith}
-use Rattle.lists.specs.Members.{nodup-sub}
-use Rattle.rules.specs.Shape.{slots, Shape, cell}
-use Rattle.rules.specs.Levels.{filled}
-use Rattle.rules.specs.Laws.Range.{InRange}
 use Rattle.lists.specs.All.{nil}
-use Rattle.rules.specs.Open.{fresh}
+use Rattle.lists.specs.Members.{nodup-sub}
 use Rattle.lists.specs.Totals.{total-none}
-use Rattle.rules.specs.Laws.Orders.{one}
-use Rattle.reachable.specs.Live
+use Rattle.rules.specs.Laws.Range.{InRange}
+use Rattle.rules.specs.Levels.{filled}
+use Rattle.rules.specs.Open.{fresh}
+use Rattle.rules.specs.Shape.{slots, Shape, cell}
 use Rattle.reachable.specs.Bits.{filled-suc}
 use Rattle.reachable.specs.Blocks.{not-nowhere, nodup-at, at-why, nodup-in, in-why}
-use Rattle.reachable.specs.Invariant.{taken, holdsOf, Reached, isIn, storedAt, none-apart}
+use Rattle.reachable.specs.Invariant.{taken, holdsOf, Reached, isIn, storedAt}
+use Rattle.reachable.specs.Live
 use Rattle.reachable.specs.Live.{counted, counted-calm}
+use Rattle.reachable.specs.Terms.{none-apart}
 
 -- no level of a fresh state is filled
 empty : (ℓ : ℕ) → filled 0 ℓ ≡ false
@@ -41,6 +41,7 @@ module _ (h : Shape) (js : List ℕ) where
     range = range;
     waiting = record { once = tt; absent = λ b m. refl };
     orders = record { one = λ q ℓ j k hq hℓ e. absurd (no-level q ℓ e); each = λ q ℓ i hq hℓ e. absurd (no-level q ℓ e) };
+    items = λ q ℓ hq hℓ e. absurd (no-level q ℓ e);
     agree = record { placed = λ b ℓ i hb e. absurd (not-nowhere ℓ i e); held = λ q ℓ i b hq hℓ hi e. absurd (omega (arith, e)) };
     room = λ q ℓ. omega (arith, nodup-sub (storedAt (fresh h js) q ℓ) [] (nodup-at (fresh h js) q ℓ) (λ b m. true≢false (sym (at-why (fresh h js) q ℓ b m .2))));
     full = λ q. omega (arith, nodup-sub (Live.storedIn (fresh h js) q (h .L)) [] (nodup-in (fresh h js) q (h .L)) (λ b m. true≢false (sym (in-why (fresh h js) q (h .L) b m .2))));

@@ -7,27 +7,26 @@ use mathlib.Core.Option.{none, some}
 use Prim.Native.Nat.{ℕ, suc, _+_, _%_, _^_, _≤_, _<_, _-_}
 use native.Mathlib.Omega.{arith}
 use native.Mathlib.Decide.{ℕ-discrete, decLt}
-use Rattle.lists.specs.Tables.{put, put-same, put-other}
+use Rattle.lists.specs.All.{nil, cons, all-append, all-map}
 use Rattle.lists.specs.Distinct.{Mem}
-use Rattle.rules.specs.Request
-use Rattle.rules.specs.State.{State, Command, read, Request, cmd, stored}
-use Rattle.rules.specs.Shape.{slots, Shape, cell}
+use Rattle.lists.specs.Tables.{put, put-same, put-other}
+use Rattle.rules.specs.Laws.Layout.{cell-inj}
+use Rattle.rules.specs.Laws.Range.{InRange}
 use Rattle.rules.specs.Levels.{filled}
+use Rattle.rules.specs.Request
+use Rattle.rules.specs.Shape.{slots, Shape, cell}
+use Rattle.rules.specs.State.{State, Command, read, Request, cmd, stored}
 use Rattle.rules.specs.Turn
 use Rattle.rules.specs.Turn.{readForRequest, doStep}
-use Rattle.rules.specs.Laws.Range.{InRange}
-use Rattle.lists.specs.All.{nil, cons, all-append, all-map}
-use Rattle.rules.specs.Laws.Layout.{cell-inj}
-use Rattle.rules.specs.Rebuild.{places}
-use Rattle.rules.specs.Questions.{request}
-use Rattle.reachable.specs.Live
 use Rattle.reachable.specs.Blocks.{place-lt, stored-inj}
-use Rattle.reachable.specs.Consequences.{unqueued, block-lt, slot-own, dummy-free, own-slot, still-read, read-apart, request-unread}
+use Rattle.reachable.specs.Consequences.{unqueued, block-lt, slot-own, dummy-free, own-slot, still-read, read-apart, request-unread, read-items}
 use Rattle.reachable.specs.Decided.{RequestReads}
-use Rattle.reachable.specs.Invariant.{Reached, Reads, Unheld, Unread, Own, Apart, Reading, Commands, Fetched, storedAt, taken}
+use Rattle.reachable.specs.Invariant.{Reached, Reads, Unheld, Unread, Own, Reading, Commands, Fetched, storedAt}
+use Rattle.reachable.specs.Live
 use Rattle.reachable.specs.Live.{counted, drawn, pending, readsOf, Gathers, counted-other, not-front, front-mem}
 use Rattle.reachable.specs.Outstanding.{apart-snoc}
 use Rattle.reachable.specs.Pending.{pending-more, passed-why, passed-level, mark-same, undrawn-mem, pending-cases, mark-more, pending-request}
+use Rattle.reachable.specs.Terms.{Apart}
 
 module _ (s : State) (f : Reached s) (q ℓ i : ℕ) (d : RequestReads s q ℓ i) (hℓ : ℓ < s .shape .L) (hi : i < slots ℓ) (js : List ℕ) where
   abbrev h : Shape
@@ -173,6 +172,7 @@ module _ (s : State) (f : Reached s) (q ℓ i : ℕ) (d : RequestReads s q ℓ i
     range = range;
     waiting = f .waiting;
     orders = f .orders;
+    items = read-items s f (cell h q ℓ i);
     agree = f .agree;
     room = f .room;
     full = f .full;

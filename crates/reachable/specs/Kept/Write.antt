@@ -5,19 +5,20 @@ use mathlib.Core.List.{List}
 use Prim.Native.Nat.{ℕ, suc, _%_, _^_, _≤_, _-_}
 use native.Mathlib.Omega.{arith}
 use borrow.Author.Tests.{ne-eqb}
+use Rattle.lists.specs.All.{nil, cons, all-append, all-map}
+use Rattle.rules.specs.Laws.Range.{InRange}
 use Rattle.rules.specs.Request
 use Rattle.rules.specs.State.{State, write, Request, cmd}
 use Rattle.rules.specs.Turn
 use Rattle.rules.specs.Turn.{writeNext, doStep}
-use Rattle.rules.specs.Laws.Range.{InRange}
-use Rattle.lists.specs.All.{nil, cons, all-append, all-map}
-use Rattle.reachable.specs.Live
 use Rattle.reachable.specs.Consequences.{reading-away}
 use Rattle.reachable.specs.Decided.{Writes}
-use Rattle.reachable.specs.Invariant.{Reached, Reads, Apart, Commands, storedAt, taken}
+use Rattle.reachable.specs.Invariant.{Reached, Reads, Commands, storedAt}
+use Rattle.reachable.specs.Live
 use Rattle.reachable.specs.Live.{counted, drawn, pending, front-is}
 use Rattle.reachable.specs.Outstanding.{apart-snoc}
 use Rattle.reachable.specs.Pending.{pending-more, undrawn-busy}
+use Rattle.reachable.specs.Terms.{Apart}
 
 module _ (s : State) (f : Reached s) (q t i : ℕ) (d : Writes s q t i) (js : List ℕ) where
   abbrev s′ : State
@@ -54,6 +55,7 @@ module _ (s : State) (f : Reached s) (q t i : ℕ) (d : Writes s q t i) (js : Li
     range = range;
     waiting = f .waiting;
     orders = rw counted-kept (f .orders);
+    items = rw counted-kept (f .items);
     agree = rw counted-kept (f .agree);
     room = f .room;
     full = f .full;

@@ -6,30 +6,30 @@ use mathlib.Core.List.{List}
 use Prim.Native.Nat.{ℕ, _<_, _-_}
 use native.Mathlib.Omega.{arith}
 use lib.Dec.{eqb}
+use lib.ListN.{getD}
 use borrow.Author.Tests.{eqb-false}
+use Rattle.lists.specs.All.{nil, cons, all-append, all-map, all-both}
 use Rattle.lists.specs.Distinct.{Mem, index}
 use Rattle.lists.specs.Members.{not-member, all-mem, decMem}
-use Rattle.rules.specs.Request
-use Rattle.rules.specs.State.{State, Command, write, Request, cmd, stored}
-use Rattle.rules.specs.Shape.{slots, Shape, cell}
-use Rattle.rules.specs.Levels.{sources}
-use Rattle.rules.specs.Turn
 use Rattle.rules.specs.Laws.Range.{InRange, CommandIn}
-use Rattle.lists.specs.All.{nil, cons, all-append, all-map, all-both}
-use lib.ListN.{getD}
-use Rattle.rules.specs.Rebuild.{places, gathered, doRebuild}
-use Rattle.rules.specs.Run.{step}
-use Rattle.reachable.specs.Live
+use Rattle.rules.specs.Levels.{sources}
+use Rattle.rules.specs.Rebuild.{gathered, doRebuild}
+use Rattle.rules.specs.Request
+use Rattle.rules.specs.Shape.{slots, Shape, cell}
+use Rattle.rules.specs.State.{State, Command, write, Request, cmd, stored}
+use Rattle.rules.specs.Turn
 use Rattle.reachable.specs.Blocks.{place-lt, stored-inj, target-min, chosen-waits}
 use Rattle.reachable.specs.Consequences.{sources-read, block-lt}
-use Rattle.reachable.specs.Invariant.{Reached, Unread, Own, Spent, Fetched, Reading, Apart, Commands, storedAt, taken}
+use Rattle.reachable.specs.Invariant.{Reached, Unread, Own, Spent, Fetched, Reading, Commands, storedAt}
 use Rattle.reachable.specs.Kept.Rebuild.Counts.{room-kept, full-kept}
 use Rattle.reachable.specs.Kept.Rebuild.Drawing.{Drawing, place-in, partition-in, place-out, above-target, top-lt, waiting-kept, orders-kept}
 use Rattle.reachable.specs.Kept.Rebuild.Holds.{agree-kept, taken-kept}
-use Rattle.reachable.specs.Kept.Rebuild.Marks.{mark-here, mark-else, begun-kept, reads-kept}
+use Rattle.reachable.specs.Kept.Rebuild.Marks.{mark-here, mark-else, items-kept, begun-kept, reads-kept}
+use Rattle.reachable.specs.Live
 use Rattle.reachable.specs.Live.{Gathers, front-eq, front-is, counted, drawn, pending}
 use Rattle.reachable.specs.Outstanding.{apart-snoc}
 use Rattle.reachable.specs.Slots.{gathered-why}
+use Rattle.reachable.specs.Terms.{Apart}
 
 module _ (s : State) (f : Reached s) (q t : ℕ) (o : List ℕ) (d : Drawing s q t o) (range : InRange (Turn.send (cmd write q t 0) (doRebuild q t o s))) where
   abbrev h : Shape
@@ -104,6 +104,7 @@ module _ (s : State) (f : Reached s) (q t : ℕ) (o : List ℕ) (d : Drawing s q
     range = range;
     waiting = waiting-kept s f q t o d;
     orders = orders-kept s f q t o d;
+    items = items-kept s f q t o d;
     agree = agree-kept s f q t o d;
     room = room-kept s f q t o d;
     full = full-kept s f q t o d;

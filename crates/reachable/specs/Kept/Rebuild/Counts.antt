@@ -7,17 +7,17 @@ use mathlib.Core.Option.{Option, none, some}
 use Prim.Native.Nat.{ℕ, _^_, _≤_, _<_, _-_}
 use native.Mathlib.Omega.{arith}
 use native.Mathlib.Decide.{ℕ-discrete}
+use lib.ListN.{length, getD}
 use Rattle.lists.specs.Distinct.{Mem, index}
 use Rattle.lists.specs.Members.{decMem, nodup-sub}
-use Rattle.rules.specs.State.{State, stored}
-use Rattle.rules.specs.Shape.{Shape}
 use Rattle.rules.specs.Levels.{sources}
-use lib.ListN.{length, getD}
-use Rattle.rules.specs.Rebuild.{places, gathered, doRebuild, chosen}
-use Rattle.reachable.specs.Live
+use Rattle.rules.specs.Rebuild.{gathered, doRebuild, chosen}
+use Rattle.rules.specs.Shape.{Shape}
+use Rattle.rules.specs.State.{State, stored}
 use Rattle.reachable.specs.Blocks.{at-why, is-in, why-at, in-is, stored-inj, nodup-at, in-why, why-in, is-below, place-lt, lt-below, nodup-in}
 use Rattle.reachable.specs.Invariant.{Reached, storedAt, isIn, Room, Full}
 use Rattle.reachable.specs.Kept.Rebuild.Drawing.{Drawing, place-out, above-target, place-in, partition-in, front-lt}
+use Rattle.reachable.specs.Live
 use Rattle.reachable.specs.Slots.{gathered-why, chosen-room}
 
 module _ (s : State) (f : Reached s) (q t : ℕ) (o : List ℕ) (d : Drawing s q t o) where

@@ -9,20 +9,20 @@ use native.Mathlib.Omega.{arith}
 use native.Mathlib.Decide.{ℕ-discrete, decLt}
 use lib.Dec.{eqb}
 use lib.Pow.{pow-pos}
+use lib.ListN.{length, getD}
 use borrow.Author.Tests.{ne-eqb}
+use Rattle.lists.specs.All.{All}
 use Rattle.lists.specs.Distinct.{Mem, NoDup, index, index-mem, nodup-inj}
 use Rattle.lists.specs.Members.{indexOf-mem, indexOf-none, without-mem, without-gone, nodup-without, full-mem}
-use Rattle.rules.specs.State.{State, stored}
-use Rattle.rules.specs.Shape.{slots, Shape}
-use Rattle.rules.specs.Levels.{grown, filled}
-use Rattle.lists.specs.All.{All}
-use Rattle.rules.specs.Laws.Levels.{levels-pos, target-lt}
-use lib.ListN.{length, getD}
-use Rattle.rules.specs.Rebuild.{gathered, doRebuild, chosen}
-use Rattle.rules.specs.Rebuild
 use Rattle.rules.specs.Draws.{newOrder, orderBounds}
+use Rattle.rules.specs.Laws.Levels.{levels-pos, target-lt}
+use Rattle.rules.specs.Laws.Orders.{Drew, order-below, length-order, nodup-order}
+use Rattle.rules.specs.Levels.{grown, filled}
+use Rattle.rules.specs.Rebuild
+use Rattle.rules.specs.Rebuild.{gathered, doRebuild, chosen}
 use Rattle.rules.specs.Run.{step}
-use Rattle.rules.specs.Laws.Orders.{Drew, one, order-below, length-order, nodup-order}
+use Rattle.rules.specs.Shape.{slots, Shape}
+use Rattle.rules.specs.State.{State, stored}
 use Rattle.reachable.specs.Bits.{grown-below, grown-above, filled-source}
 use Rattle.reachable.specs.Blocks.{nowhere-below, chosen-waits, lt-below}
 use Rattle.reachable.specs.Cells.{level-at, level-else}

@@ -7,22 +7,20 @@ use Prim.Native.Nat.{ℕ, suc, _+_, _^_, _≤_, _<_, _-_}
 use native.Mathlib.Omega.{arith}
 use native.Mathlib.Decide.{ℕ-discrete, decLt}
 use lib.Pow.{pow-pos, pow-mono}
-use Rattle.lists.specs.Distinct.{Mem, index, index-mem, index-at, mem-at}
-use Rattle.lists.specs.Members.{decMem, indexOf-mem, full-mem, getD-map-below}
-use Rattle.rules.specs.State.{State, stored}
-use Rattle.rules.specs.Shape.{slots, Shape, cell}
-use Rattle.rules.specs.Levels.{filled, sources}
-use Rattle.lists.specs.Search.{below}
-use Rattle.lists.specs.All.{all-getD}
-use Rattle.lists.specs.Members
-use Rattle.rules.specs.Laws.Levels.{sources-le}
 use lib.ListN.{length, getD, length-map, List·getD-eq-default}
-use Rattle.rules.specs.Rebuild.{places, gathered, doRebuild}
-use Rattle.lists.specs.Totals.{total-le, total-none, total-same, total-under, under, under-yes}
-use Rattle.rules.specs.Rebuild
-use Rattle.rules.specs.Run.{step}
+use Rattle.lists.specs.All.{all-getD}
+use Rattle.lists.specs.Distinct.{Mem, index, index-mem, index-at, mem-at}
 use Rattle.lists.specs.Lengths
-use Rattle.lists.specs.Lengths.{length-below}
+use Rattle.lists.specs.Members
+use Rattle.lists.specs.Members.{decMem, indexOf-mem, full-mem}
+use Rattle.lists.specs.Search.{below}
+use Rattle.lists.specs.Totals.{total-le, total-none, total-same, total-under, under, under-yes}
+use Rattle.rules.specs.Laws.Levels.{sources-le}
+use Rattle.rules.specs.Levels.{filled, sources}
+use Rattle.rules.specs.Rebuild
+use Rattle.rules.specs.Rebuild.{gathered, doRebuild}
+use Rattle.rules.specs.Shape.{slots, Shape, cell}
+use Rattle.rules.specs.State.{State, stored}
 use Rattle.reachable.specs.Bits.{grown-at}
 use Rattle.reachable.specs.Blocks.{target-min, stored-inj, place-lt, nodup-gathered, Gathered, not-nowhere, chosen-waits, below-lt, taken-le, taken-zero}
 use Rattle.reachable.specs.Cells.{level-at, level-else, cleared-here, cleared-else}
@@ -49,7 +47,7 @@ module _ (s : State) (f : Reached s) (q t : ℕ) (o : List ℕ) (d : Drawing s q
   unfolding Rebuild.newHolds Rebuild.itemHolds
   newHolds-at i k = Members.getD-map-below _ (slots t) i 0 k ∙ rw (indexOf-mem i o (full-mem (slots t) o (d .long) (d .once) (d .low) i k))
 
-  holds-here : (p ℓ i : ℕ) → (q ≡ p) × (t ≡ ℓ) → i < slots ℓ → s′ .holds (cell h p ℓ i) ≡ getD (map suc (gathered s q)) (index i o) 0
+  pub holds-here : (p ℓ i : ℕ) → (q ≡ p) × (t ≡ ℓ) → i < slots ℓ → s′ .holds (cell h p ℓ i) ≡ getD (map suc (gathered s q)) (index i o) 0
   unfolding doRebuild
   holds-here p ℓ i w k = level-at h q t _ _ newHolds-length p ℓ i w k ∙ newHolds-at i (rw (w .1) k)
 
@@ -59,7 +57,7 @@ module _ (s : State) (f : Reached s) (q t : ℕ) (o : List ℕ) (d : Drawing s q
       ∙ ap (λ x. Rebuild.cleared (cell h q 0 0) (slots (sources h c) - 2) (s .holds) (cell h x ℓ i)) (w .0)
       ∙ cleared-here h q (sources h c) (s .holds) ℓ i (omega (arith, w .1, d .step .goal, target-min h c)) hi
 
-  holds-else : (p ℓ i : ℕ) → ℓ < h .L → i < slots ℓ → (p ≡ q → t < ℓ) → s′ .holds (cell h p ℓ i) ≡ s .holds (cell h p ℓ i)
+  pub holds-else : (p ℓ i : ℕ) → ℓ < h .L → i < slots ℓ → (p ≡ q → t < ℓ) → s′ .holds (cell h p ℓ i) ≡ s .holds (cell h p ℓ i)
   unfolding doRebuild
   holds-else p ℓ i hℓ hi k = level-else h q t _ _ newHolds-length p ℓ i (top-lt s f q t o d) hℓ hi (λ z. omega (arith, k (sym (z .0)), z .1))
       ∙ cleared-else h q (sources h c) (s .holds) p ℓ i (sources-le h c) hℓ hi (λ z. omega (arith, k z, hℓ, d .step .goal, target-min h c))

@@ -1,31 +1,35 @@
 -- A rebuild: which slots count as read after it.
+use mathlib.Core.List.{map, List, _∷_}
 use mathlib.Core.Path.{_≡_, ap, sym, _∙_}
 use mathlib.Core.Logic.{_⊎_, inl, inr, ⊎-elim}
 use mathlib.Core.Bool.{true, _||_}
-use mathlib.Core.List.{List, _∷_}
-use Prim.Native.Nat.{ℕ, _+_, _%_, _^_, _≤_, _<_, _-_}
+use Prim.Native.Nat.{ℕ, suc, _+_, _%_, _^_, _≤_, _<_, _-_}
 use native.Mathlib.Omega.{arith}
 use native.Mathlib.Decide.{ℕ-discrete}
 use lib.Pow.{pow-pos}
+use lib.ListN.{getD, length-map, List·getD-eq-default, length, replicate, length-replicate, getD-replicate}
 use borrow.Author.Tests.{ne-eqb}
+use Rattle.lists.specs.All.{all-getD}
+use Rattle.lists.specs.Distinct.{index-at}
+use Rattle.lists.specs.Members.{getD-map}
 use Rattle.lists.specs.Search
+use Rattle.lists.specs.Search.{member}
 use Rattle.lists.specs.Tests.{if_then_else_}
-use Rattle.rules.specs.State.{State}
-use Rattle.rules.specs.Shape.{slots, Shape, cell}
-use Rattle.rules.specs.Levels.{target, filled, sources}
-use Rattle.lists.specs.Search.{any, member}
-use lib.ListN.{length, replicate, length-replicate, getD-replicate}
-use Rattle.rules.specs.Rebuild.{doRebuild}
 use Rattle.lists.specs.Totals.{total-none, total, total-same}
-use Rattle.rules.specs.Questions.{request}
-use Rattle.rules.specs.Run.{step, after}
+use Rattle.rules.specs.Levels.{target, filled, sources}
+use Rattle.rules.specs.Rebuild.{gathered, doRebuild}
+use Rattle.rules.specs.Run.{after}
+use Rattle.rules.specs.Shape.{slots, Shape, cell}
+use Rattle.rules.specs.State.{State}
 use Rattle.reachable.specs.Bits.{grown-mod}
 use Rattle.reachable.specs.Blocks.{target-min}
 use Rattle.reachable.specs.Cells.{level-at, level-else}
-use Rattle.reachable.specs.Invariant.{Reached, Reads, Begun}
+use Rattle.reachable.specs.Invariant.{Reached, Reads, Begun, Items}
 use Rattle.reachable.specs.Kept.Rebuild.Drawing.{Drawing, top-lt, lives, count-q, levels-some, counter-lt, count-p}
+use Rattle.reachable.specs.Kept.Rebuild.Holds.{holds-here, holds-else}
 use Rattle.reachable.specs.Live.{pending, passedBy, undrawn, readsOf, counted, Gathers, counted-calm, front-eq}
 use Rattle.reachable.specs.Pending.{pending-le}
+use Rattle.reachable.specs.Terms.{Numbered}
 
 module _ (s : State) (f : Reached s) (q t : ℕ) (o : List ℕ) (d : Drawing s q t o) where
   abbrev h : Shape
@@ -92,3 +96,45 @@ module _ (s : State) (f : Reached s) (q t : ℕ) (o : List ℕ) (d : Drawing s q
   pub begun-kept : Begun s′
   unfolding doRebuild
   begun-kept n = (q, d .step .rest, (d .step .front, pow-pos (target h c + 1)))
+
+  -- the items of the target are the gathered blocks and then dummies
+  pub items-kept : Items h (counted s′) (s′ .order) (s′ .mark) (s′ .holds)
+  unfolding doRebuild
+  items-kept p ℓ hp hℓ e = ⊎-elim here rest (lives s f q t o d p ℓ hℓ e)
+    where
+      here : (q ≡ p) × (t ≡ ℓ) → (n : ℕ) × Numbered h (s′ .order) (s′ .mark) (s′ .holds) p ℓ n
+      here w = (
+        length (gathered s q),
+        record {
+          few = rw (← w .1) (d .fit);
+          blocks = λ k l hk z. absurd (omega (arith, sym (entry k hk) ∙ z, getD-map suc (gathered s q) k 0 0 l));
+          dummies = λ k l hk. entry k hk ∙ List·getD-eq-default (map suc (gathered s q)) 0 {n = k} (omega (arith, length-map (gathered s q) suc));
+        },
+      )
+        where
+          entry : (k : ℕ) → k < slots ℓ → s′ .holds (cell h p ℓ (s′ .order (cell h p ℓ k))) ≡ getD (map suc (gathered s q)) k 0
+          entry k hk =
+              let hk′ : k < length o = rw (d .long, w .1) hk in
+              let at : s′ .order (cell h p ℓ k) ≡ getD o k 0 = level-at h q t o (s .order) (d .long) p ℓ k w hk in
+              let low : getD o k 0 < slots ℓ = rw (← w .1) (all-getD k (d .low) (pow-pos (t + 1))) in
+              ap (λ i. s′ .holds (cell h p ℓ i)) at ∙ holds-here s f q t o d p ℓ (getD o k 0) w low ∙ ap (λ j. getD (map suc (gathered s q)) j 0) (index-at o k (d .once) hk′)
+
+      rest : (((q ≡ p) × (t ≡ ℓ)) → ⊥) × (filled (counted s p) ℓ ≡ true) × (p ≡ q → t < ℓ) → (n : ℕ) × Numbered h (s′ .order) (s′ .mark) (s′ .holds) p ℓ n
+      rest w =
+          let r = f .items p ℓ hp hℓ (w .1) in (
+            r .0,
+            record {
+              few = r .1 .few;
+              blocks = λ k l hk z. marks k hk ∙ r .1 .blocks k l hk (sym (holds k hk) ∙ z);
+              dummies = λ k l hk. holds k hk ∙ r .1 .dummies k l hk;
+            },
+          )
+        where
+          order : (k : ℕ) → k < slots ℓ → s′ .order (cell h p ℓ k) ≡ s .order (cell h p ℓ k)
+          order k hk = level-else h q t o (s .order) (d .long) p ℓ k (top-lt s f q t o d) hℓ hk (w .0)
+
+          marks : (k : ℕ) → k < slots ℓ → s′ .mark (cell h p ℓ (s′ .order (cell h p ℓ k))) ≡ s .mark (cell h p ℓ (s .order (cell h p ℓ k)))
+          marks k hk = ap (λ i. s′ .mark (cell h p ℓ i)) (order k hk) ∙ mark-else p ℓ (s .order (cell h p ℓ k)) hℓ (f .range .orders p ℓ k hp hℓ hk) (w .0)
+
+          holds : (k : ℕ) → k < slots ℓ → s′ .holds (cell h p ℓ (s′ .order (cell h p ℓ k))) ≡ s .holds (cell h p ℓ (s .order (cell h p ℓ k)))
+          holds k hk = ap (λ i. s′ .holds (cell h p ℓ i)) (order k hk) ∙ holds-else s f q t o d p ℓ (s .order (cell h p ℓ k)) hℓ (f .range .orders p ℓ k hp hℓ hk) (w .2)
