@@ -30,7 +30,7 @@ use Rattle.reachable.specs.Bits.{source-filled}
 use Rattle.reachable.specs.Blocks.{place-lt}
 use Rattle.reachable.specs.Decided.{Rebuilds, RequestReads, JobReads}
 use Rattle.reachable.specs.Invariant.{Reached, Reading, Own, Items, Writing}
-use Rattle.reachable.specs.Live.{passedBy, isFront, front-mem, counted-other, counted, not-front, front-is, Gathers}
+use Rattle.reachable.specs.Live.{passedBy, isFront, front-mem, counted, counted-other, not-front, front-is, Gathers}
 use Rattle.reachable.specs.Pending.{passed-none, passed-why}
 use Rattle.reachable.specs.Terms.{Elsewhere}
 

@@ -13,70 +13,58 @@ use borrow.Author.Tests.{eqb-true, eq-eqb, not-true}
 use Rattle.lists.specs.All.{All, all-map, all-without, all-both, any-none}
 use Rattle.lists.specs.Members
 use Rattle.lists.specs.Members.{not-member}
-use Rattle.lists.specs.Search.{any, member}
+use Rattle.lists.specs.Search.{without, any, member}
 use Rattle.lists.specs.Tables.{put, put-same, put-other}
 use Rattle.lists.specs.Tests.{if_then_else_, and-l, and-r}
 use Rattle.rules.specs.Completion
 use Rattle.rules.specs.Laws.Range.{InRange}
 use Rattle.rules.specs.Levels.{target, grown, filled}
 use Rattle.rules.specs.Request
+use Rattle.rules.specs.Setters.{setBytes, setOutstanding}
 use Rattle.rules.specs.Shape.{slots}
 use Rattle.rules.specs.State.{State, Command, write, Request}
 use Rattle.reachable.specs.Consequences.{reading-away}
-use Rattle.reachable.specs.Invariant.{Reached, storedAt, Reads, Unheld, Reading, Commands}
+use Rattle.reachable.specs.Invariant.{Reached, Reading, Writing, storedAt, Reads, Unheld, Commands}
 use Rattle.reachable.specs.Live
 use Rattle.reachable.specs.Live.{counted, drawn, pending, counted-calm, counted-drawn, front-is, counted-other, isFront, front-eq}
 use Rattle.reachable.specs.Outstanding.{apart-without}
 use Rattle.reachable.specs.Pending.{pending-more, undrawn-rest}
+use Rattle.reachable.specs.Terms.{Apart}
 
--- A command completed: nothing but the outstanding commands is read differently
+-- A state that differs in its outstanding commands and in the contents of blocks: no other fact reads them
+outside-kept : (s : State) → Reached s → (y : ℕ → List ℕ) (os : List Command) → Apart os → All (λ c. Reading s c ⊎ Writing s c) os → InRange (setBytes y (setOutstanding os s)) → Reached (setBytes y (setOutstanding os s))
+unfolding counted drawn storedAt Live.storedIn pending Request.held
+outside-kept s f y os apart commands range = record {
+  range = range;
+  waiting = f .waiting;
+  orders = f .orders;
+  items = f .items;
+  agree = f .agree;
+  room = f .room;
+  full = f .full;
+  taken = f .taken;
+  begun = f .begun;
+  reads = f .reads;
+  unheld = f .unheld;
+  unread = f .unread;
+  fetched = f .fetched;
+  scanned = f .scanned;
+  jobless = f .jobless;
+  spent = f .spent;
+  apart = apart;
+  commands = commands;
+}
+
+-- A command completed
 pub completed-kept : (s : State) → Reached s → (c : Command) → InRange (Completion.completed c s) → Reached (Completion.completed c s)
-unfolding Completion.completed counted drawn storedAt Live.storedIn pending Request.held
-completed-kept s f c range = record {
-  range = range;
-  waiting = f .waiting;
-  orders = f .orders;
-  items = f .items;
-  agree = f .agree;
-  room = f .room;
-  full = f .full;
-  taken = f .taken;
-  begun = f .begun;
-  reads = f .reads;
-  unheld = f .unheld;
-  unread = f .unread;
-  fetched = f .fetched;
-  scanned = f .scanned;
-  jobless = f .jobless;
-  spent = f .spent;
-  apart = apart-without (Completion.isCommand c) (f .apart);
-  commands = all-without (Completion.isCommand c) (f .commands);
-}
+unfolding Completion.completed
+completed-kept s f c range = outside-kept s f (s .bytes) (without (Completion.isCommand c) (s .outstanding)) (apart-without (Completion.isCommand c) (f .apart)) (all-without (Completion.isCommand c) (f .commands)) range
 
--- ..and the bytes that a read brings are in no fact
+-- ..with the bytes that a read brings
 pub bytes-kept : (s : State) → Reached s → (o : Option ℕ) (bs : List ℕ) → InRange (Completion.gatherBytes o bs s) → Reached (Completion.gatherBytes o bs s)
-unfolding Completion.gatherBytes counted drawn storedAt Live.storedIn pending Request.held
+unfolding Completion.gatherBytes
 bytes-kept s f none bs range = f
-bytes-kept s f (some b) bs range = record {
-  range = range;
-  waiting = f .waiting;
-  orders = f .orders;
-  items = f .items;
-  agree = f .agree;
-  room = f .room;
-  full = f .full;
-  taken = f .taken;
-  begun = f .begun;
-  reads = f .reads;
-  unheld = f .unheld;
-  unread = f .unread;
-  fetched = f .fetched;
-  scanned = f .scanned;
-  jobless = f .jobless;
-  spent = f .spent;
-  apart = f .apart;
-  commands = f .commands;
-}
+bytes-kept s f (some b) bs range = outside-kept s f _ (s .outstanding) (f .apart) (f .commands) range
 
 -- The end of a job
 module _ (s : State) (f : Reached s) (q : ℕ) (rest : List ℕ) (front : s .queue ≡ q ∷ rest) (busy : s .sent ≡ 0 → ⊥)
