@@ -1,9 +1,9 @@
 -- Which slot a turn reads: the first unread one of the sources, the lowest dummy item's.
+use mathlib.Core.Option.{Option·getD, none, some}
 use mathlib.Core.Path.{_≡_, refl, ap, sym, _∙_}
 use mathlib.Core.Logic.{_⊎_, inl, inr, ⊎-elim}
 use mathlib.Core.Bool.{Bool, true, false, _&&_, true≢false}
 use mathlib.Core.List.{List, _∷_}
-use mathlib.Core.Option.{none, some}
 use Prim.Native.Nat.{ℕ, _+_, _-_, _≤_, _<_}
 use native.Mathlib.Omega.{arith}
 use native.Mathlib.Decide.{decLt}
@@ -11,8 +11,8 @@ use lib.Dec.{eqb, leb}
 use borrow.Author.Tests.{eqb-true, eqb-false, ne-eqb, eq-eqb, leb-false}
 use Rattle.lists.specs.All.{all-map, find-same}
 use Rattle.lists.specs.Members.{find-first}
-use Rattle.lists.specs.Search.{find, below, isNone}
-use Rattle.lists.specs.Tests.{and-l, and-r, and-true}
+use Rattle.lists.specs.Search.{orElse, find, below, isNone}
+use Rattle.lists.specs.Tests.{if_then_else_, and-l, and-r, and-true}
 use Rattle.rules.specs.Blocks
 use Rattle.rules.specs.Laws.Answers.{step-accepted, step-refused}
 use Rattle.rules.specs.Laws.Decided.{places-in}
@@ -25,6 +25,7 @@ use Rattle.rules.specs.Run
 use Rattle.rules.specs.Run.{step}
 use Rattle.rules.specs.Shape.{cell, offset, slots}
 use Rattle.rules.specs.State.{State, Command, cmd, read, Request}
+use Rattle.rules.specs.Turn
 use Rattle.rules.specs.Turn.{Step, idle, noDummy, readForRequest, readForJob, rebuild, writeNext, decide, command}
 use Rattle.reachable.specs.Consequences.{block-lt, unqueued, named-zero, job-full}
 use Rattle.reachable.specs.Decided.{JobReads, RequestReads, decided, Decided}
@@ -149,3 +150,15 @@ sent-turn s k q ℓ i e = go (eqb (number s k) 0) refl
     go : (t : Bool) → eqb (number s k) 0 ≡ t → command (decide s) ≡ cmd read q ℓ i
     go true z = by (k .ask) (unfold Run.accepted in (rw (step-accepted s k (eqb-true (number s k) 0 z)) at e))
     go false z = absurd (no-read (unfold Run.refused in (rw (step-refused s k (eqb-false (number s k) 0 z)) at e)))
+
+-- a request that isn't held and has a level left is read for
+pub request-decides : (s : State) (r : Request) → s .request ≡ some r → Request.held s r ≡ false → (ℓ : ℕ) (ls : List ℕ) → Request.levelsLeft s r ≡ ℓ ∷ ls
+    → decide s ≡ Turn.readStep (s .partition (r .block)) ℓ (orElse (Request.slotIn ℓ (s .place (r .block))) (Request.dummy s (s .partition (r .block)) ℓ))
+unfolding decide Turn.requestStep Turn.firstRead
+request-decides s r e u ℓ ls v =
+    ap (λ o. Option·getD (Turn.requestStep s o) (Turn.jobStep s (s .queue))) e
+    ∙ ap (λ t. Option·getD (if t then none else Turn.firstRead q (s .place (r .block)) (Request.dummy s q) (Request.levelsLeft s r)) (Turn.jobStep s (s .queue))) u
+    ∙ ap (λ l. Option·getD (Turn.firstRead q (s .place (r .block)) (Request.dummy s q) l) (Turn.jobStep s (s .queue))) v
+  where
+    q : ℕ
+    q = s .partition (r .block)

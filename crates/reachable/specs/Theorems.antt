@@ -5,13 +5,13 @@ use mathlib.Core.Path.{_≡_, refl, ap, sym, _∙_}
 use mathlib.Core.Logic.{_⊎_, inl, inr}
 use mathlib.Core.Bool.{true, false, true≢false}
 use mathlib.Core.List.{List, [], _∷_, _++_}
-use mathlib.Core.Option.{none, some}
+use mathlib.Core.Option.{Option, none, some}
 use Prim.Native.Nat.{ℕ, _+_, _-_, _^_, _≤_, _<_}
 use native.Mathlib.Omega.{arith}
 use lib.ListN.{length}
 use borrow.Author.Tests.{leb-false}
 use Rattle.lists.specs.All.{All}
-use Rattle.lists.specs.Search.{find, any}
+use Rattle.lists.specs.Search.{find, any, orElse}
 use Rattle.rules.specs.Blocks.{isUnread}
 use Rattle.rules.specs.Completion.{isCommand}
 use Rattle.rules.specs.Laws.Answers.{opens}
@@ -20,15 +20,16 @@ use Rattle.rules.specs.Memory.{needed}
 use Rattle.rules.specs.Questions
 use Rattle.rules.specs.Questions.{opening, request, turn, Call, possible, questions, firstNo, number}
 use Rattle.rules.specs.Rebuild.{places, unread, gathered}
-use Rattle.rules.specs.Request.{slotIn}
+use Rattle.rules.specs.Request.{held, levelsLeft, dummy, slotIn}
 use Rattle.rules.specs.Run.{Outcome, step, run, after}
 use Rattle.rules.specs.Shape.{Shape, slots}
 use Rattle.rules.specs.State.{State, Command, cmd, read, write, Request, closed}
+use Rattle.rules.specs.Turn
 use Rattle.rules.specs.Turn.{idle, Step, noDummy, readForRequest, readForJob, rebuild, decide, command}
 use Rattle.rules.specs.Unfold.{model}
 use Rattle.reachable.specs.Counts.{places-add, waiting-all}
 use Rattle.reachable.specs.Decided.{Rebuilds, decided, JobReads}
-use Rattle.reachable.specs.Found.{scan-all, lower-read, lowest-dummy, decided-filled, sent-turn}
+use Rattle.reachable.specs.Found.{request-decides, scan-all, lower-read, lowest-dummy, decided-filled, sent-turn}
 use Rattle.reachable.specs.Never.{always-possible, never-many, late-two, never-full, full-ready}
 use Rattle.reachable.specs.Reached.{Was, reachable, live, shut, ready-memory, was-reached}
 use Rattle.reachable.specs.Sends.{write-within, reads-after-writes, behind, read-is}
@@ -70,7 +71,23 @@ module _ (s : State) (c : Call) (h : Shape) (first : c .ask ≡ opening h) (cs :
       go (live f) = true≢false (sym (always-possible left f) ∙ ap (possible left) e ∙ unfold possible in refl)
       go (shut w) = closed-decides left w noDummy e (unfold Questions.sends in refl)
 
-  -- ..and never gathers more blocks than the target holds
+  -- ---- "Then it sends one read to each filled level of p": while a request that isn't held has a filled level left, a turn reads the first of
+  -- these levels; no turn is idle then
+  pub read-due : (r : Request) → left .request ≡ some r → held left r ≡ false → (ℓ : ℕ) (ls : List ℕ) → levelsLeft left r ≡ ℓ ∷ ls
+      → (i : ℕ) × (decide left ≡ readForRequest (left .partition (r .block)) ℓ i)
+  read-due r e u ℓ ls v = go (orElse (slotIn ℓ (left .place (r .block))) (dummy left q ℓ)) refl
+    where
+      q : ℕ
+      q = left .partition (r .block)
+
+      decides : decide left ≡ Turn.readStep q ℓ (orElse (slotIn ℓ (left .place (r .block))) (dummy left q ℓ))
+      decides = request-decides left r e u ℓ ls v
+
+      go : (o : Option ℕ) → orElse (slotIn ℓ (left .place (r .block))) (dummy left q ℓ) ≡ o → (i : ℕ) × (decide left ≡ readForRequest q ℓ i)
+      go none k = absurd (never-lacks-dummy (decides ∙ ap (Turn.readStep q ℓ) k ∙ unfold Turn.readStep in refl))
+      go (some i) k = (i, decides ∙ ap (Turn.readStep q ℓ) k ∙ unfold Turn.readStep in refl)
+
+  -- A turn never gathers more blocks than the target holds
   pub never-gathers-more : (q t : ℕ) → decide left ≡ rebuild q t → length (gathered left q) ≤ 2 ^ t
   never-gathers-more q t e = go was
     where
