@@ -3,84 +3,91 @@ use mathlib.Core.Path.{_≡_, refl, ap, sym, _∙_}
 use mathlib.Core.Bool.{Bool, true, false, true≢false}
 use mathlib.Core.List.{List, [], _∷_}
 use mathlib.Core.Option.{Option, none, some}
-use Prim.Native.Nat.{ℕ, _+_}
-use lib.Dec.{eqb}
-use lib.Pow.{pow-pos}
-use borrow.Author.Tests.{eqb-true, eqb-false, eq-eqb, ne-eqb}
+use Prim.Native.Nat.{ℕ}
+use native.Mathlib.Omega.{arith}
+use lib.Dec.{eqb, leb}
+use borrow.Author.Tests.{eqb-true, eqb-false, eq-eqb, ne-eqb, leb-true}
 use Rattle.lists.specs.Search
-use Rattle.lists.specs.Tests.{if_then_else_, and-l}
+use Rattle.lists.specs.Tests
+use Rattle.lists.specs.Tests.{if_then_else_, and-l, and-r}
 use Rattle.rules.specs.Blocks
-use Rattle.rules.specs.Rebuild
 use Rattle.rules.specs.Collect
-use Rattle.rules.specs.Shape.{Shape, slots}
-use Rattle.rules.specs.State.{State, Command, cmd, read, Request, closed}
-use Rattle.rules.specs.Ranges.{isKind}
-use Rattle.rules.specs.Draws.{Drawn, draws, newOrder}
-use Rattle.rules.specs.Laws.Answers.{Passed, accepted-passed, step-accepted, step-refused, step-number}
-use Rattle.rules.specs.Laws.Orders.{Drew, order-below, length-order, nodup-order}
-use Rattle.rules.specs.Laws.Decided.{StepIn, decide-in, stepBounds-pos}
-use Rattle.rules.specs.Laws.Kept.{completed-in, given-in, drew-of}
-use Rattle.rules.specs.Questions
-use Rattle.rules.specs.Questions.{Ask, opening, request, turn, completion, collect, Call, bounds, number, questions}
-use Rattle.rules.specs.Run
-use Rattle.rules.specs.Run.{Outcome, act, step, run}
-use Rattle.rules.specs.Turn
-use Rattle.rules.specs.Turn.{Step, idle, noDummy, readForRequest, readForJob, rebuild, writeNext, decide, command, doStep}
 use Rattle.rules.specs.Completion
 use Rattle.rules.specs.Completion.{complete}
+use Rattle.rules.specs.Draws.{Drawn, draws, newOrder}
+use Rattle.rules.specs.Laws.Answers.{Passed, accepted-passed, step-accepted, step-refused, step-number}
+use Rattle.rules.specs.Laws.Decided.{StepIn, decide-in, stepBounds-pos}
+use Rattle.rules.specs.Laws.Kept.{completed-in, given-in, drew-of}
+use Rattle.rules.specs.Laws.Orders.{Drew}
+use Rattle.rules.specs.Open.{fresh}
+use Rattle.rules.specs.Questions
+use Rattle.rules.specs.Questions.{Ask, opening, request, turn, completion, collect, Call, bounds, number, questions}
+use Rattle.rules.specs.Ranges.{isKind}
+use Rattle.rules.specs.Rebuild
 use Rattle.rules.specs.Request
 use Rattle.rules.specs.Request.{accept}
-use Rattle.rules.specs.Open.{fresh}
+use Rattle.rules.specs.Run
+use Rattle.rules.specs.Run.{Outcome, act, step, run}
+use Rattle.rules.specs.Shape.{slots}
+use Rattle.rules.specs.State.{State, Command, cmd, read, Request, closed, write}
+use Rattle.rules.specs.Turn
+use Rattle.rules.specs.Turn.{Step, idle, noDummy, readForRequest, readForJob, rebuild, writeNext, decide, command, doStep}
+use Rattle.reachable.specs.Consequences.{request-unread, job-unread}
 use Rattle.reachable.specs.Decided.{Decided, decided}
-use Rattle.reachable.specs.Never.{never-many}
-use Rattle.reachable.specs.Slots.{front-in}
-use Rattle.reachable.specs.Steps.{completed-kept}
-use Rattle.reachable.specs.SentSteps.{request-unread, job-unread}
-use Rattle.reachable.specs.Reached.{Reached, Was, shut, live, closed-out, accepted-kept}
-use Rattle.array.specs.Claim.{Asked, Seen, store, change, next, watch, Brings, Honest, Has, Hands, Plain, Claim}
-use Rattle.array.specs.Invariant.{Host, Contents}
-use Rattle.array.specs.Slots.{store-read}
-use Rattle.array.specs.Turns.{request-contents, job-contents, write-contents, rebuild-contents}
-use Rattle.array.specs.Others.{completeRead-contents, completeWrite-contents, collected-has, collect-contents, fresh-contents}
+use Rattle.reachable.specs.Invariant.{Reached}
+use Rattle.reachable.specs.Kept.Completion.{completed-kept}
+use Rattle.reachable.specs.Kept.Rebuild.Drawing.{drawing}
+use Rattle.reachable.specs.Reached.{Was, shut, live, closed-out, accepted-kept, open-first}
+use Rattle.array.specs.Claim.{Asked, store, Slots, Host, Expected, Brings, Has, change, Hands, sends, next, expects, Moves, Honest, Plain, Claim}
+use Rattle.array.specs.Collects.{collected-has, collect-contents, fresh-contents}
+use Rattle.array.specs.Completions.{completeRead-contents, completeWrite-contents}
+use Rattle.array.specs.Contents.{Contents, moved}
+use Rattle.array.specs.Turns.{request-contents, job-contents, rebuild-contents, write-contents}
 
 -- the request in hand, as it was asked
-unfoldable pub askedOf : Option Request → Option Asked
+unfoldable askedOf : Option Request → Option Asked
 askedOf none = none
 askedOf (some r) = some (record { kind = r .kind; block = r .block; bytes = r .bytes })
 
--- A reached state, and what was seen
-pub record Tied (s : State) (m : Seen) : Type 0 where
+other-kind : (k : ℕ) → isKind k ≡ true → ¬ (k ≡ read) → k ≡ write
+unfolding isKind Tests.between
+other-kind k e n = omega (arith, leb-true read k (and-l (leb read k) (leb k write) e), leb-true k write (and-r (leb read k) (leb k write) e))
+
+-- a read leaves the slots as they are
+store-read : (q ℓ i : ℕ) (bs : List ℕ) (f : Slots) → store (cmd read q ℓ i) bs f ≡ f
+unfolding store
+store-read q ℓ i bs f = refl
+
+-- A reached state, its host, and what is expected of it
+record Tied (s : State) (host : Host) (m : Expected) : Type 0 where
   pub reached : Reached s
   pub asked : askedOf (s .request) ≡ m .asked
-  pub contents : Contents s (m .host) (m .array)
+  pub contents : Contents s (host .last) (host .has) (m .array)
 
-module _ (s : State) (host : Host) (array : ℕ → List ℕ) (f : Reached s) (k : Contents s host array) where
+module _ (s : State) (last has : Slots) (array : ℕ → List ℕ) (f : Reached s) (k : Contents s last has array) where
   -- a turn
   turn-contents : (x : Step) (js : List ℕ) → Decided s x → StepIn (s .shape) x → Drew (Turn.stepBounds x) js → Reached (doStep x js s)
-      → Contents (doStep x js s) (store (command x) (Run.written (doStep x js s) (command x)) host) array
+      → Contents (doStep x js s) (store (command x) (Run.written (doStep x js s) (command x)) last) has array
   unfolding command Turn.stepBounds
   turn-contents idle js d h w f′ = unfold doStep store in k
   turn-contents noDummy js d h w f′ = unfold doStep store in k
-  turn-contents (readForRequest q ℓ i) js d h w f′ = rw (store-read q ℓ i (Run.written (doStep (readForRequest q ℓ i) js s) (cmd read q ℓ i)) host) (request-contents s (f .stored) host array k q ℓ i (h .1) (h .2) (request-unread s (f .stored) (f .sent) q ℓ i d (h .1) (h .2) js) js)
-  turn-contents (readForJob q ℓ i) js d h w f′ = rw (store-read q ℓ i (Run.written (doStep (readForJob q ℓ i) js s) (cmd read q ℓ i)) host) (job-contents s (f .stored) host array k q ℓ i (h .1) (h .2) (job-unread s (f .stored) (f .sent) q ℓ i d (h .1) js) js)
-  turn-contents (rebuild q t) js d h w f′ = unfold doStep in (
-      rebuild-contents s (f .stored) (f .sent) host array k q t d (newOrder (slots t) js) (length-order (slots t) js) (nodup-order (slots t) js (pow-pos (t + 1)) w) (order-below (slots t) js (pow-pos (t + 1)))
-      (rw (d .goal) (never-many s (f .stored) q (front-in s (f .stored) q (d .rest) (d .front)))) (f′ .stored)
-      )
-  turn-contents (writeNext q t i) js d h w f′ = write-contents s host array k q t i d js (f′ .stored)
+  turn-contents (readForRequest q ℓ i) js d h w f′ = rw (store-read q ℓ i (Run.written (doStep (readForRequest q ℓ i) js s) (cmd read q ℓ i)) last) (request-contents s f last has array k q ℓ i (h .1) (h .2) (request-unread s f q ℓ i d) js)
+  turn-contents (readForJob q ℓ i) js d h w f′ = rw (store-read q ℓ i (Run.written (doStep (readForJob q ℓ i) js s) (cmd read q ℓ i)) last) (job-contents s f last has array k q ℓ i (h .1) (h .2) (job-unread s f q ℓ i d) js)
+  turn-contents (rebuild q t) js d h w f′ = unfold doStep in (rebuild-contents s f last has array k q t (newOrder (slots t) js) (drawing s f q t js d w) f′)
+  turn-contents (writeNext q t i) js d h w f′ = write-contents s last has array k q t i d js f′
 
   -- a completion
-  complete-contents : (c : Command) (bs : List ℕ) → Search.any (Completion.isCommand c) (s .outstanding) ≡ true → (c .kind ≡ read → bs ≡ host (c .partition) (c .level) (c .slot)) → Contents (complete c bs s) host array
+  complete-contents : (c : Command) (bs : List ℕ) → isKind (c .kind) ≡ true → Search.any (Completion.isCommand c) (s .outstanding) ≡ true → Brings last has (completion c bs) → Contents (complete c bs s) last has array
   unfolding complete
-  complete-contents c bs out brings = go (eqb (c .kind) read) refl
+  complete-contents c bs kind out brings = go (eqb (c .kind) read) refl
     where
-      go : (t : Bool) → eqb (c .kind) read ≡ t → Contents (if t then Completion.completeRead c bs s else Completion.completeWrite c s) host array
-      go true e = let z = eqb-true (c .kind) read e in completeRead-contents s (f .stored) (f .sent) host array k c z out bs (brings z)
-      go false e = completeWrite-contents s host array k c (eqb-false (c .kind) read e) (completed-kept s (f .stored) c (completed-in s (f .stored .range) c))
+      go : (t : Bool) → eqb (c .kind) read ≡ t → Contents (if t then Completion.completeRead c bs s else Completion.completeWrite c s) last has array
+      go true e = let z = eqb-true (c .kind) read e in completeRead-contents s f last has array k c z out bs (brings .1 z)
+      go false e = let z = other-kind (c .kind) kind (eqb-false (c .kind) read e) in completeWrite-contents s last has array k c z (brings .0 z) (completed-kept s f c (completed-in s (f .range) c))
 
-  accept-contents : (j b : ℕ) (bs js : List ℕ) → Contents (accept j b bs js s) host array
+  accept-contents : (j b : ℕ) (bs js : List ℕ) → Contents (accept j b bs js s) last has array
   unfolding accept Blocks.zeros
-  accept-contents j b bs js = record { absent = k .absent; waiting = k .waiting; drawn = k .drawn; known = k .known; written = k .written }
+  accept-contents j b bs js = record { absent = k .absent; waiting = k .waiting; drawn = k .drawn; known = k .known; written = k .written; settled = k .settled }
 
 -- What was asked stays asked
 step-asked : (s : State) (x : Step) (js : List ℕ) → askedOf (doStep x js s .request) ≡ askedOf (s .request)
@@ -113,29 +120,29 @@ complete-asked s c bs = go (eqb (c .kind) 1) (Blocks.holder s (c .partition) (c 
     go false b [] = refl
     go false b (q ∷ qs) = ended q qs (Completion.jobDone s′ q)
 
--- A state that calls left: closed, or tied to what was seen
-pub data Kept (s : State) (m : Seen) : Type 0 where
-  over : s ≡ closed → Kept s m
-  tied : Tied s m → Kept s m
+-- A state that calls left: closed, or tied to what is expected
+data Kept (s : State) (host : Host) (m : Expected) : Type 0 where
+  over : s ≡ closed → Kept s host m
+  tied : Tied s host m → Kept s host m
 
-kept-was : (s : State) (m : Seen) → Kept s m → Was s
-kept-was s m (over e) = shut e
-kept-was s m (tied t) = live (t .reached)
+kept-was : (s : State) (host : Host) (m : Expected) → Kept s host m → Was s
+kept-was s host m (over e) = shut e
+kept-was s host m (tied t) = live (t .reached)
 
-kept-tied : (s : State) (m : Seen) (memory : ℕ) → Kept s m → Questions.ready s memory ≡ true → Tied s m
-kept-tied s m memory (over w) e = absurd (closed-out (rw w at (given-in s memory e)))
-kept-tied s m memory (tied t) e = t
+kept-tied : (s : State) (host : Host) (m : Expected) (memory : ℕ) → Kept s host m → Questions.ready s memory ≡ true → Tied s host m
+kept-tied s host m memory (over w) e = absurd (closed-out (rw w at (given-in s memory e)))
+kept-tied s host m memory (tied t) e = t
 
 -- A collect hands out the array's contents
-collect-hands : (s : State) (m : Seen) → Tied s m → (o : Option Request) → s .request ≡ o → Questions.inHand (Collect.finished s) o ≡ true
-    → Has (m .asked) (m .array) (Collect.answer s o) × Contents (Collect.collected o s) (m .host) (change (m .asked) (m .array))
+collect-hands : (s : State) (host : Host) (m : Expected) → Tied s host m → (o : Option Request) → s .request ≡ o → Questions.inHand (Collect.finished s) o ≡ true
+    → Has (m .asked) (m .array) (Collect.answer s o) × Contents (Collect.collected o s) (host .last) (host .has) (change (m .asked) (m .array))
 unfolding Questions.inHand Collect.answer Collect.collected
-collect-hands s m t none e done = absurd (true≢false (sym done))
-collect-hands s m t (some r) e done =
+collect-hands s host m t none e done = absurd (true≢false (sym done))
+collect-hands s host m t (some r) e done =
     let a : m .asked ≡ askedOf (some r) = sym (t .asked) ∙ ap askedOf e in
     rw a (unfold askedOf in (
-      collected-has s (t .reached) (m .host) (m .array) (t .contents) r e done,
-      collect-contents s (t .reached) (m .host) (m .array) (t .contents) r e done,
+      collected-has s (t .reached) (host .last) (host .has) (m .array) (t .contents) r e done,
+      collect-contents s (t .reached) (host .last) (host .has) (m .array) (t .contents) r e done,
     ))
 
 collect-asked : (s : State) (o : Option Request) → s .request ≡ o → askedOf (Collect.collected o s .request) ≡ none
@@ -144,120 +151,123 @@ collect-asked s none e = ap askedOf e
 collect-asked s (some r) e = refl
 
 -- An accepted call
-module _ (s : State) (m : Seen) (memory : ℕ) (ws : List ℕ) (n : ℕ) (l : Kept s m) where
+module _ (s : State) (host : Host) (m : Expected) (memory : ℕ) (ws : List ℕ) (n : ℕ) (l : Kept s host m) where
   abbrev result : Ask → State × Outcome
   result a = Run.accepted s a (draws (bounds s a) ws)
 
   abbrev drawn : Ask → List ℕ
   drawn a = Run.numbersOf (draws (bounds s a) ws)
 
-  call-tied : (a : Ask) → Passed (questions s a memory ws n) → Brings m a → Hands m a (result a .1) × Tied (result a .0) (next m a (result a .1))
-  unfolding Run.accepted next act questions Run.sentCommand Run.handed bounds
+  call-tied : (a : Ask) → Passed (questions s a memory ws n) → Brings (host .last) (host .has) a → Hands m a (result a .1) × Tied (result a .0) (record { last = sends (host .last) (result a .1); has = host .has }) (next m a)
+  unfolding Run.accepted next act questions Run.sentCommand Run.handed bounds sends store
   call-tied (opening h) p w = (
     tt,
     record {
-      reached = accepted-kept s (opening h) memory ws n (kept-was s m l) p;
+      reached = accepted-kept s (opening h) memory ws n (kept-was s host m l) p;
       asked = unfold fresh askedOf in refl;
-      contents = fresh-contents h (drawn (opening h)) (m .host);
+      contents = fresh-contents h (drawn (opening h)) (host .last) (host .has);
     },
   )
   call-tied (request j b bs) p w =
-      let t = kept-tied s m memory l (and-l (Questions.ready s memory) (isKind j) (p .0)) in (
+      let t = kept-tied s host m memory l (and-l (Questions.ready s memory) (isKind j) (p .0)) in (
         tt,
         record {
-          reached = accepted-kept s (request j b bs) memory ws n (kept-was s m l) p;
+          reached = accepted-kept s (request j b bs) memory ws n (kept-was s host m l) p;
           asked = unfold accept askedOf in refl;
-          contents = accept-contents s (m .host) (m .array) (t .reached) (t .contents) j b bs (drawn (request j b bs));
+          contents = accept-contents s (host .last) (host .has) (m .array) (t .reached) (t .contents) j b bs (drawn (request j b bs));
         },
       )
   call-tied turn p w =
-      let t = kept-tied s m memory l (p .0) in
-      let f = accepted-kept s turn memory ws n (kept-was s m l) p in (
+      let t = kept-tied s host m memory l (p .0) in
+      let f = accepted-kept s turn memory ws n (kept-was s host m l) p in (
         tt,
         record {
           reached = f;
           asked = step-asked s (decide s) (drawn turn) ∙ t .asked;
-          contents = turn-contents s (m .host) (m .array) (t .reached) (t .contents) (decide s) (drawn turn) (decided s) (decide-in s (t .reached .stored .range)) (drew-of (Turn.stepBounds (decide s)) ws (stepBounds-pos (decide s)) (p .1 .1 .1 .1 .0)) f;
+          contents = turn-contents s (host .last) (host .has) (m .array) (t .reached) (t .contents) (decide s) (drawn turn) (decided s) (decide-in s (t .reached .range)) (drew-of (Turn.stepBounds (decide s)) ws (stepBounds-pos (decide s)) (p .1 .1 .1 .1 .0)) f;
         },
       )
   call-tied (completion c bs) p w =
-      let t = kept-tied s m memory l (and-l (Questions.ready s memory) (isKind (c .kind)) (p .0)) in (
+      let t = kept-tied s host m memory l (and-l (Questions.ready s memory) (isKind (c .kind)) (p .0)) in (
         tt,
         record {
-          reached = accepted-kept s (completion c bs) memory ws n (kept-was s m l) p;
+          reached = accepted-kept s (completion c bs) memory ws n (kept-was s host m l) p;
           asked = ap askedOf (complete-asked s c bs) ∙ t .asked;
-          contents = complete-contents s (m .host) (m .array) (t .reached) (t .contents) c bs (p .1 .0) w;
+          contents = complete-contents s (host .last) (host .has) (m .array) (t .reached) (t .contents) c bs (and-r (Questions.ready s memory) (isKind (c .kind)) (p .0)) (p .1 .0) w;
         },
       )
   call-tied collect p w =
-      let t = kept-tied s m memory l (p .0) in
-      let x = collect-hands s m t (s .request) refl (p .1 .1 .0) in (
+      let t = kept-tied s host m memory l (p .0) in
+      let x = collect-hands s host m t (s .request) refl (p .1 .1 .0) in (
         x .0,
         record {
-          reached = accepted-kept s collect memory ws n (kept-was s m l) p;
+          reached = accepted-kept s collect memory ws n (kept-was s host m l) p;
           asked = collect-asked s (s .request) refl;
           contents = x .1;
         },
       )
 
-refuse-kept : (s : State) (m : Seen) (a : Ask) → Kept s m → Kept (Run.refuse s a) m
+refuse-kept : (s : State) (host : Host) (m : Expected) (a : Ask) → Kept s host m → Kept (Run.refuse s a) host m
 unfolding Run.refuse
-refuse-kept s m (opening h) l = over refl
-refuse-kept s m (request k b bs) l = l
-refuse-kept s m turn l = l
-refuse-kept s m (completion c bs) l = l
-refuse-kept s m collect l = l
+refuse-kept s host m (opening h) l = over refl
+refuse-kept s host m (request k b bs) l = l
+refuse-kept s host m turn l = l
+refuse-kept s host m (completion c bs) l = l
+refuse-kept s host m collect l = l
 
-watch-yes : (m : Seen) (a : Ask) (o : Outcome) → o .number ≡ 0 → watch m a o ≡ next m a o
-unfolding watch
-watch-yes m a o e = rw (eq-eqb (o .number) 0 e)
+expects-yes : (m : Expected) (a : Ask) (o : Outcome) → o .number ≡ 0 → expects m a o ≡ next m a
+unfolding expects
+expects-yes m a o e = rw (eq-eqb (o .number) 0 e)
 
-watch-no : (m : Seen) (a : Ask) (o : Outcome) → ¬ (o .number ≡ 0) → watch m a o ≡ m
-unfolding watch
-watch-no m a o e = rw (ne-eqb (o .number) 0 e)
+expects-no : (m : Expected) (a : Ask) (o : Outcome) → ¬ (o .number ≡ 0) → expects m a o ≡ m
+unfolding expects
+expects-no m a o e = rw (ne-eqb (o .number) 0 e)
 
 accepted-zero : (s : State) (a : Ask) (d : Option Drawn) → Run.accepted s a d .1 .number ≡ 0
 unfolding Run.accepted
 accepted-zero s a d = refl
 
+-- a refusal sends no write
+refused-sends : (last : Slots) (n : ℕ) → sends last (Run.refused n) ≡ last
+unfolding sends store Run.refused
+refused-sends last n = refl
+
+-- the host may move before the call
+moved-kept : (s : State) (host : Host) (m : Expected) (x : Slots) → Moves host x → Kept s host m → Kept s (record { last = host .last; has = x }) m
+moved-kept s host m x f (over e) = over e
+moved-kept s host m x f (tied t) = tied (record { reached = t .reached; asked = t .asked; contents = moved (t .contents) x f })
+
 -- Every call
-step-kept : (s : State) (m : Seen) (c : Call) → Kept s m → (step s c .1 .number ≡ 0 → Brings m (c .ask))
-    → (step s c .1 .number ≡ 0 → Hands m (c .ask) (step s c .1)) × Kept (step s c .0) (watch m (c .ask) (step s c .1))
-step-kept s m c l w = go (eqb (number s c) 0) refl
+step-kept : (s : State) (host : Host) (m : Expected) (c : Call) → Kept s host m → (step s c .1 .number ≡ 0 → Brings (host .last) (host .has) (c .ask))
+    → (step s c .1 .number ≡ 0 → Hands m (c .ask) (step s c .1)) × Kept (step s c .0) (record { last = sends (host .last) (step s c .1); has = host .has }) (expects m (c .ask) (step s c .1))
+step-kept s host m c l w = go (eqb (number s c) 0) refl
   where
-    go : (t : Bool) → eqb (number s c) 0 ≡ t → (step s c .1 .number ≡ 0 → Hands m (c .ask) (step s c .1)) × Kept (step s c .0) (watch m (c .ask) (step s c .1))
+    go : (t : Bool) → eqb (number s c) 0 ≡ t → (step s c .1 .number ≡ 0 → Hands m (c .ask) (step s c .1)) × Kept (step s c .0) (record { last = sends (host .last) (step s c .1); has = host .has }) (expects m (c .ask) (step s c .1))
     go true e =
         let z = eqb-true (number s c) 0 e in
-        let x = call-tied s m (c .memory) (c .words) (c .buffer) l (c .ask) (accepted-passed s c z) (w (step-number s c ∙ z)) in
-        rw (step-accepted s c z) ((λ y. x .0), rw (watch-yes m (c .ask) (Run.accepted s (c .ask) (draws (bounds s (c .ask)) (c .words)) .1) (accepted-zero s (c .ask) _)) (tied (x .1)))
+        let x = call-tied s host m (c .memory) (c .words) (c .buffer) l (c .ask) (accepted-passed s c z) (w (step-number s c ∙ z)) in
+        rw (step-accepted s c z) ((λ y. x .0), rw (expects-yes m (c .ask) (Run.accepted s (c .ask) (draws (bounds s (c .ask)) (c .words)) .1) (accepted-zero s (c .ask) _)) (tied (x .1)))
     go false e =
         let z = eqb-false (number s c) 0 e in (
           (λ y. absurd (z (sym (step-number s c) ∙ y))),
-          rw (watch-no m (c .ask) (step s c .1) (λ y. z (sym (step-number s c) ∙ y)), ap (λ (r : State × Outcome). r .0) (step-refused s c z)) (refuse-kept s m (c .ask) l),
+          rw (expects-no m (c .ask) (step s c .1) (λ y. z (sym (step-number s c) ∙ y)), step-refused s c z, refused-sends (host .last) (number s c)) (refuse-kept s host m (c .ask) l),
         )
 
-run-plain : (cs : List Call) (s : State) (m : Seen) → Kept s m → Honest m cs (run s cs) → Plain m cs (run s cs)
+-- a call, after the host has moved to x
+abbrev hostAt : Host → Slots → Host
+hostAt host x = record { last = host .last; has = x }
+
+run-plain : (cs : List Call) (s : State) (host : Host) (m : Expected) → Kept s host m → Honest host cs (run s cs) → Plain m cs (run s cs)
 unfolding run
-run-plain [] s m l w = tt
-run-plain (c ∷ cs) s m l w =
-    let x = step-kept s m c l (w .0) in
-    (x .0, run-plain cs (step s c .0) (watch m (c .ask) (step s c .1)) (x .1) (w .1))
-
--- the open does not look at what was before it
-open-same : (s : State) (h : Shape) (k : ℕ) (ws : List ℕ) (n : ℕ) → let c : Call = record { ask = opening h; memory = k; words = ws; buffer = n } in step s c ≡ step closed c
-unfolding step number questions bounds Run.accepted act Run.refuse Run.sentCommand Run.handed
-open-same s h k ws n = refl
-
-open-first : (s : State) (c : Call) (h : Shape) → c .ask ≡ opening h → step s c ≡ step closed c
-open-first s c h e = same (c .ask) h e
-  where
-    same : (a : Ask) (h : Shape) → a ≡ opening h → step s (record { ask = a; memory = c .memory; words = c .words; buffer = c .buffer }) ≡ step closed (record { ask = a; memory = c .memory; words = c .words; buffer = c .buffer })
-    same a h e = rw e (open-same s h (c .memory) (c .words) (c .buffer))
+run-plain [] s host m l w = tt
+run-plain (c ∷ cs) s host m l w =
+    let x = step-kept s (hostAt host (w .0)) m c (moved-kept s host m (w .0) (w .1 .0) l) (w .1 .1) in
+    (x .0, run-plain cs (step s c .0) (record { last = sends (host .last) (step s c .1); has = w .0 }) (expects m (c .ask) (step s c .1)) (x .1) (w .1 .2))
 
 -- THE THEOREM
 pub plain-array : Claim
 unfolding run
-plain-array s m h c cs e w = (first .0, run-plain cs (step s c .0) (watch m (c .ask) (step s c .1)) (first .1) (w .1))
+plain-array s host m h c cs e w = (first .0, run-plain cs (step s c .0) (record { last = sends (host .last) (step s c .1); has = w .0 }) (expects m (c .ask) (step s c .1)) (first .1) (w .1 .2))
   where
-    first : (step s c .1 .number ≡ 0 → Hands m (c .ask) (step s c .1)) × Kept (step s c .0) (watch m (c .ask) (step s c .1))
-    first = rw (open-first s c h e) (step-kept closed m c (over refl) (rw (open-first s c h e) at (w .0)))
+    first : (step s c .1 .number ≡ 0 → Hands m (c .ask) (step s c .1)) × Kept (step s c .0) (record { last = sends (host .last) (step s c .1); has = w .0 }) (expects m (c .ask) (step s c .1))
+    first = rw (open-first s c h e) (step-kept closed (hostAt host (w .0)) m c (over refl) (rw (open-first s c h e) at (w .1 .1)))

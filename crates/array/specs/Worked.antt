@@ -1,22 +1,28 @@
--- Document 01's worked session: its host is honest, so the claim's premise can be met.
+-- Document 01's worked session meets the claim's premise, with a host that takes a write's bytes at once and with one that takes them at the
+-- completion, whatever they had before; and what the claim says of the session, by computation.
 use mathlib.Core.Path.{_≡_, refl}
 use Prim.Native.Nat.{ℕ}
 use native.Mathlib.Omega.{arith}
-use Rattle.rules.specs.Unfold.{model}
 use Rattle.rules.specs.Checked.Worked.{worked-calls, worked-outcomes}
-use Rattle.array.specs.Claim.{Seen, store, change, next, watch, Honest, Plain}
+use Rattle.rules.specs.Unfold.{model}
+use Rattle.array.specs.Claim.{Slots, store, sends, Expected, Plain, change, next, expects}
+use Rattle.array.specs.Hosts.{AtOnce, AtCompletion, lands, landed}
 
 no-read : _≡_ {A = ℕ} 2 1 → ⊥
 no-read e = omega arith
 
--- whatever the host had before
-pub worked-honest : (m : Seen) → Honest m worked-calls worked-outcomes
-unfolding model store change next watch worked-calls worked-outcomes
-worked-honest m =
+pub worked-at-once : (x : Slots) → AtOnce x worked-calls worked-outcomes
+unfolding model store sends worked-calls worked-outcomes
+worked-at-once x =
     (λ e. tt, (λ e. tt, (λ e. tt, (λ e. tt, (λ e k. absurd (no-read k), (λ e. tt, (λ e k. absurd (no-read k), (λ e. tt, (λ e k. refl, (λ e. tt, (λ e k. refl, (λ e. tt, (λ e k. absurd (no-read k), (λ e. tt, (λ e k. absurd (no-read k), (λ e. tt, (λ e. tt, (λ e k. refl, (λ e. tt, tt)))))))))))))))))))
 
--- what the claim says of it, by computation: the 00 and the 07 that it collects are the array's
-pub worked-plain : (m : Seen) → Plain m worked-calls worked-outcomes
-unfolding model store change next watch worked-calls worked-outcomes
+pub worked-at-completion : (last x : Slots) → AtCompletion last x worked-calls worked-outcomes
+unfolding model store sends lands landed worked-calls worked-outcomes
+worked-at-completion last x =
+    (λ e. tt, (λ e. tt, (λ e. tt, (λ e. tt, (λ e k. absurd (no-read k), (λ e. tt, (λ e k. absurd (no-read k), (λ e. tt, (λ e k. refl, (λ e. tt, (λ e k. refl, (λ e. tt, (λ e k. absurd (no-read k), (λ e. tt, (λ e k. absurd (no-read k), (λ e. tt, (λ e. tt, (λ e k. refl, (λ e. tt, tt)))))))))))))))))))
+
+-- the 00 and the 07 that it collects are the array's
+pub worked-plain : (m : Expected) → Plain m worked-calls worked-outcomes
+unfolding model change next expects worked-calls worked-outcomes
 worked-plain m =
     (λ e. tt, (λ e. tt, (λ e. refl, (λ e. tt, (λ e. tt, (λ e. tt, (λ e. tt, (λ e. tt, (λ e. tt, (λ e. tt, (λ e. tt, (λ e. tt, (λ e. tt, (λ e. tt, (λ e. tt, (λ e. tt, (λ e. tt, (λ e. tt, (λ e. refl, tt)))))))))))))))))))

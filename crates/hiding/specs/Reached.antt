@@ -1,7 +1,6 @@
 -- Every state that calls left has what the stages need: the crate `reachable` gives it.
 use mathlib.Core.Path.{_≡_, ap, sym, _∙_, subst}
 use mathlib.Core.Bool.{true, _||_}
-use mathlib.Core.List.{[]}
 use mathlib.Core.Option.{some}
 use Prim.Native.Nat.{ℕ, suc, _<_}
 use native.Mathlib.Omega.{arith}
@@ -21,10 +20,10 @@ use Rattle.rules.specs.Rebuild
 use Rattle.rules.specs.Rebuild.{gathered}
 use Rattle.rules.specs.Shape.{Shape, slots, cell}
 use Rattle.reachable.specs.Decided.{RequestReads, Rebuilds, decided}
-use Rattle.reachable.specs.Uses.{finished-read}
-use Rattle.reachable.specs.SentMore.{fresh-sent, sources-read}
-use Rattle.reachable.specs.SentSteps.{request-unread, slot-own}
-use Rattle.reachable.specs.Reached.{Reached, fresh-reached, act-kept}
+use Rattle.reachable.specs.Invariant.{Reached}
+use Rattle.reachable.specs.Consequences.{finished-read, request-unread, slot-own, sources-read}
+use Rattle.reachable.specs.Kept.Open.{fresh-kept}
+use Rattle.reachable.specs.Reached.{act-kept}
 use Rattle.reachable.specs.Never.{always-possible, room-or-waits}
 use Rattle.reachable.specs.Slots.{gathered-stored, chosen-stored}
 use Rattle.hiding.specs.Unchanged.{act-shape, fresh-shape}
@@ -39,9 +38,7 @@ module _ (s : State) (f : Reached s) where
   reads q ℓ x d = rw d at (decided s)
 
   unread : (q ℓ x : ℕ) → decide s ≡ readForRequest q ℓ x → s .mark (cell (s .shape) q ℓ x) ≡ 1
-  unread q ℓ x d =
-      let b : (q < s .shape .P) × (ℓ < s .shape .L) × (x < slots ℓ) = rw d at (decide-in s (f .stored .range)) in
-      request-unread s (f .stored) (f .sent) q ℓ x (reads q ℓ x d) (b .1) (b .2) []
+  unread q ℓ x d = request-unread s f q ℓ x (reads q ℓ x d)
 
   own : (r : Request) (q ℓ x : ℕ) → decide s ≡ readForRequest q ℓ x → s .request ≡ some r → slotIn ℓ (s .place (r .block)) ≡ some x →
       (s .place (r .block) ≡ stored ℓ x) × (s .holds (cell (s .shape) q ℓ x) ≡ suc (r .block))
@@ -50,48 +47,48 @@ module _ (s : State) (f : Reached s) where
       let w = reads q ℓ x d in
       let v : w .asked ≡ r = cc (w .inHand, e) in
       let c : q ≡ s .partition (r .block) = sym (w .part) ∙ ap (λ (y : Request). s .partition (y .block)) v in
-      (p, ap (λ z. s .holds (cell (s .shape) z ℓ x)) c ∙ f .stored .agree .placed (r .block) ℓ x ((rw e at (f .stored .range .request)) .block) p .1)
+      (p, ap (λ z. s .holds (cell (s .shape) z ℓ x)) c ∙ f .agree .placed (r .block) ℓ x ((rw e at (f .range .request)) .block) p .1)
 
   owned : (r : Request) (q ℓ x i : ℕ) → decide s ≡ readForRequest q ℓ x → s .request ≡ some r → i < slots ℓ →
       s .mark (cell (s .shape) q ℓ i) ≡ 1 → s .holds (cell (s .shape) q ℓ i) ≡ suc (r .block) → s .place (r .block) ≡ stored ℓ i
   owned r q ℓ x i d e l m k =
-      let b : (q < s .shape .P) × (ℓ < s .shape .L) × (x < slots ℓ) = rw d at (decide-in s (f .stored .range)) in
-      f .stored .agree .held q ℓ i (r .block) (b .0) (b .1) l k .1
+      let b : (q < s .shape .P) × (ℓ < s .shape .L) × (x < slots ℓ) = rw d at (decide-in s (f .range)) in
+      f .agree .held q ℓ i (r .block) (b .0) (b .1) l k .1
 
   -- a rebuild gathers by slots what there is by places
   gathers : (q t : ℕ) → decide s ≡ rebuild q t → (gathered s q ≡ gatheredM s q) × (Rebuild.chosen s q ≡ chosenM s q)
   unfolding gatheredM chosenM
   gathers q t d =
-      let b : (q < s .shape .P) × (t < s .shape .L) = rw d at (decide-in s (f .stored .range)) in
-      let c = chosen-stored s (f .stored) q (b .0) in
-      (rw (← c) (gathered-stored s (f .stored) q (b .0)), c)
+      let b : (q < s .shape .P) × (t < s .shape .L) = rw d at (decide-in s (f .range)) in
+      let c = chosen-stored s f q (b .0) in
+      (rw (← c) (gathered-stored s f q (b .0)), c)
 
   -- its sources are read throughout
   spent : (q t ℓ i : ℕ) → decide s ≡ rebuild q t → ℓ < Levels.sources (s .shape) (s .counter q) → i < slots ℓ → ¬ (s .mark (cell (s .shape) q ℓ i) ≡ 1)
   spent q t ℓ i d l k m =
       let reb : Rebuilds s q t = rw d at (decided s) in
-      omega (arith, sym m ∙ sources-read s (f .stored) (f .sent) q t reb ℓ i l k)
+      omega (arith, sym m ∙ sources-read s f q t reb ℓ i l k)
 
   left : (r : Request) (ℓ i : ℕ) → s .request ≡ some r → finished s r ≡ true → s .place (r .block) ≡ stored ℓ i →
       ¬ (s .mark (cell (s .shape) (s .partition (r .block)) ℓ i) ≡ 1)
-  left r ℓ i e fin p m = omega (arith, sym m ∙ finished-read s (f .stored) (f .sent) r ℓ i e fin p)
+  left r ℓ i e fin p m = omega (arith, sym m ∙ finished-read s f r ℓ i e fin p)
 
 room-for : (h : Shape) (s : State) (b : ℕ) → Reached s → s .shape ≡ h → h .E ≡ h .N → b < h .N → (ltb (length (s .waiting)) (h .E) || member b (s .waiting)) ≡ true
 room-for h s b f e q l =
     subst (λ (h′ : Shape). (ltb (length (s .waiting)) (h′ .E) || member b (s .waiting)) ≡ true) e
-    (room-or-waits s (f .stored) (subst (λ (h′ : Shape). h′ .E ≡ h′ .N) (sym e) q) b (subst (λ (h′ : Shape). b < h′ .N) (sym e) l))
+    (room-or-waits s f (subst (λ (h′ : Shape). h′ .E ≡ h′ .N) (sym e) q) b (subst (λ (h′ : Shape). b < h′ .N) (sym e) l))
 
 pub reached : (h : Shape) → h .E ≡ h .N → Reachable h
 reached h q = record {
   Holds = λ s. Reached s × (s .shape ≡ h);
-  start = λ js w b. (record { stored = fresh-reached h js (fresh-in h js w b); sent = fresh-sent h js }, fresh-shape h js);
+  start = λ js w b. (fresh-kept h js (fresh-in h js w b), fresh-shape h js);
   kept = λ s l m w n js k e b. (
     act-kept s (k .0) (ask l) m (replicate w 0) n js (accepted-passed s (called l m w n) e) b,
     act-shape s l js ∙ k .1,
   );
   shape = λ s k. k .1;
-  range = λ s k. facts-range s (k .0 .stored .range);
-  able = λ s k. always-possible s (k .0 .stored);
+  range = λ s k. facts-range s (k .0 .range);
+  able = λ s k. always-possible s (k .0);
   room = λ s b k l. room-for h s b (k .0) (k .1) q l;
   gathers = λ s q t k. gathers s (k .0) q t;
   spent = λ s q t ℓ i k. spent s (k .0) q t ℓ i;

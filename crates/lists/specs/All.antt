@@ -1,6 +1,7 @@
 -- Properties of every element of a list, of what is found, and of the numbers below n.
 use mathlib.Core.Path.{_≡_, refl, sym, _∙_}
 use mathlib.Core.Bool.{Bool, true, false, _||_, true≢false}
+use mathlib.Core.Logic.{_⊎_, inl, inr, ⊎-elim}
 use mathlib.Core.List.{List, [], _∷_, _++_, map}
 use mathlib.Core.Option.{Option, none, some}
 use Prim.Native.Nat.{ℕ, zero, suc, _+_, _≤_, _<_}
@@ -8,7 +9,7 @@ use native.Mathlib.Omega.{arith}
 use lib.ListN.{length, getD, set, replicate}
 use lib.Dec.{eqb}
 use borrow.Author.Tests.{eqb-true, eqb-false}
-use Rattle.lists.specs.Tests.{and-l, and-r, and-true}
+use Rattle.lists.specs.Tests.{and-l, and-r, and-true, or-true, or-left, or-right}
 use Rattle.lists.specs.Search.{find, keep, any, all, without, below, count, keep-yes, keep-no, without-yes, without-no, find-yes, find-no}
 
 -- each element has a property
@@ -181,3 +182,59 @@ map-below P f n h = go (below n) (below-below n)
     go : (xs : List ℕ) → All (λ x. x < n) xs → All P (map f xs)
     go [] nil = nil
     go (x ∷ xs) (cons k t) = cons (h x k) (go xs t)
+
+-- An element that passes
+module _ {A : Type 0} (p : A → Bool) where
+  pub any-more : (xs ys : List A) → any p xs ≡ true → any p (xs ++ ys) ≡ true
+  unfolding any
+  any-more [] ys e = absurd (true≢false (sym e))
+  any-more (x ∷ xs) ys e = ⊎-elim (or-left (p x) (any p (xs ++ ys))) (λ k. or-right (p x) (any p (xs ++ ys)) (any-more xs ys k)) (or-true (p x) (any p xs) e)
+
+  pub any-last : (xs : List A) (y : A) → p y ≡ true → any p (xs ++ (y ∷ [])) ≡ true
+  unfolding any
+  any-last [] y e = or-left (p y) false e
+  any-last (x ∷ xs) y e = or-right (p x) (any p (xs ++ (y ∷ []))) (any-last xs y e)
+
+  pub any-snoc : (xs : List A) (y : A) → any p (xs ++ (y ∷ [])) ≡ true → (any p xs ≡ true) ⊎ (p y ≡ true)
+  unfolding any
+  any-snoc [] y e = ⊎-elim inr (λ k. absurd (true≢false (sym k))) (or-true (p y) false e)
+  any-snoc (x ∷ xs) y e = ⊎-elim (λ k. inl (or-left (p x) (any p xs) k)) (λ k. ⊎-elim (λ l. inl (or-right (p x) (any p xs) l)) inr (any-snoc xs y k)) (or-true (p x) (any p (xs ++ (y ∷ []))) e)
+
+  pub any-all : {P : A → Type 0} {xs : List A} → All P xs → any p xs ≡ true → (x : A) × ((p x ≡ true) × P x)
+  unfolding any
+  any-all nil e = absurd (true≢false (sym e))
+  any-all (cons {x = x} {xs = xs} h t) e = ⊎-elim (λ k. (x, (k, h))) (λ k. any-all t k) (or-true (p x) (any p xs) e)
+
+  module _ (q : A → Bool) where
+    pub any-without : (xs : List A) → any p (without q xs) ≡ true → any p xs ≡ true
+    unfolding any without
+    any-without [] e = e
+    any-without (x ∷ xs) e = go (q x) refl (any-without xs)
+      where
+        go : (t : Bool) → q x ≡ t → (any p (without q xs) ≡ true → any p xs ≡ true) → any p (x ∷ xs) ≡ true
+        go true k ih = or-right (p x) (any p xs) (rw (without-yes q x xs k) at e)
+        go false k ih =
+            let e′ : (p x || any p (without q xs)) ≡ true = rw (without-no q x xs k) at e in
+            ⊎-elim (or-left (p x) (any p xs)) (λ l. or-right (p x) (any p xs) (ih l)) (or-true (p x) (any p (without q xs)) e′)
+
+    -- what is not taken away stays
+    pub any-kept : (xs : List A) → any p xs ≡ true → ((x : A) → p x ≡ true → q x ≡ true → ⊥) → any p (without q xs) ≡ true
+    unfolding any without
+    any-kept [] e n = e
+    any-kept (x ∷ xs) e n = go (q x) refl (or-true (p x) (any p xs) e) (λ k. any-kept xs k n)
+      where
+        go : (t : Bool) → q x ≡ t → (p x ≡ true) ⊎ (any p xs ≡ true) → (any p xs ≡ true → any p (without q xs) ≡ true) → any p (without q (x ∷ xs)) ≡ true
+        go true k (inl l) ih = absurd (n x l k)
+        go true k (inr l) ih = rw (without-yes q x xs k) l
+        go false k (inl l) ih = rw (without-no q x xs k) (or-left (p x) (any p (without q xs)) l)
+        go false k (inr l) ih = rw (without-no q x xs k) (or-right (p x) (any p (without q xs)) (ih l))
+
+-- two tests that answer alike find the same
+pub find-same : {A : Type 0} (p q : A → Bool) {xs : List A} → All (λ x. p x ≡ q x) xs → find p xs ≡ find q xs
+unfolding find
+find-same p q nil = refl
+find-same p q (cons {x = x} {xs = xs} h t) = go (q x) refl (find-same p q t)
+  where
+    go : (b : Bool) → q x ≡ b → find p xs ≡ find q xs → find p (x ∷ xs) ≡ find q (x ∷ xs)
+    go true e k = find-yes p x xs (h ∙ e) ∙ sym (find-yes q x xs e)
+    go false e k = find-no p x xs (h ∙ e) ∙ k ∙ sym (find-no q x xs e)

@@ -219,7 +219,7 @@ unfolding below
 getD-map-below f n i d h = getD-map f (count 0 n) i d 0 (omega (arith, length-count 0 n)) ∙ ap f (getD-count 0 n i 0 h ∙ omega arith)
 
 -- a list without duplicates is no longer than one that has all its members
-mem-without : (x z : ℕ) (ys : List ℕ) → Mem z ys → ¬ (z ≡ x) → Mem z (without (eqb x) ys)
+pub mem-without : (x z : ℕ) (ys : List ℕ) → Mem z ys → ¬ (z ≡ x) → Mem z (without (eqb x) ys)
 unfolding without
 mem-without x z [] m n = m
 mem-without x z (y ∷ ys) m n = go (eqb x y) refl m (λ k. mem-without x z ys k n)
@@ -316,3 +316,24 @@ full-mem n o l u h i k = go (decMem i o)
     go : Dec (Mem i o) → Mem i o
     go (yes m) = m
     go (no m) = absurd (omega (arith, nodup-le n (i ∷ o) (m, u) (cons k h)))
+
+-- what is found in a list made from the numbers from a on comes from one of them, and those before it do not pass
+pub find-first : (g : ℕ → ℕ) (p : ℕ → Bool) (a n i : ℕ) → find p (map g (count a n)) ≡ some i
+    → (k : ℕ) × ((a ≤ k) × (k < a + n) × (g k ≡ i) × (p (g k) ≡ true) × ((j : ℕ) → a ≤ j → j < k → p (g j) ≡ false))
+unfolding count
+find-first g p a zero i e = absurd (let z : _≡_ {A = ℕ} 0 1 = unfold find in (cc) in omega arith)
+find-first g p a (suc n) i e = go (p (g a)) refl (find-first g p (suc a) n i)
+  where
+    go : (t : Bool) → p (g a) ≡ t
+        → (find p (map g (count (suc a) n)) ≡ some i → (k : ℕ) × ((suc a ≤ k) × (k < suc a + n) × (g k ≡ i) × (p (g k) ≡ true) × ((j : ℕ) → suc a ≤ j → j < k → p (g j) ≡ false)))
+        → (k : ℕ) × ((a ≤ k) × (k < a + suc n) × (g k ≡ i) × (p (g k) ≡ true) × ((j : ℕ) → a ≤ j → j < k → p (g j) ≡ false))
+    go true f ih =
+        let z : g a ≡ i = cc (sym (find-yes p (g a) (map g (count (suc a) n)) f) ∙ e) in
+        (a, (omega arith, omega arith, z, f, λ j l m. absurd (omega arith)))
+    go false f ih =
+        let r = ih (sym (find-no p (g a) (map g (count (suc a) n)) f) ∙ e) in
+        (r .0, (omega (arith, r .1 .0), omega (arith, r .1 .1), r .1 .2, r .1 .3, λ j l m. by (r .0) (r .1 .4) j l m (ℕ-discrete j a)))
+      where
+        by : (k : ℕ) → ((j : ℕ) → suc a ≤ j → j < k → p (g j) ≡ false) → (j : ℕ) → a ≤ j → j < k → Dec (j ≡ a) → p (g j) ≡ false
+        by k h j l m (yes w) = rw w f
+        by k h j l m (no w) = h j (omega arith) m

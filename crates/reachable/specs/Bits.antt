@@ -10,32 +10,32 @@ use lib.Dec.{eqb}
 use lib.Pow.{pow-pos, mod-pow-add}
 use borrow.Author.Tests.{eqb-true, eqb-false, eq-eqb, ne-eqb}
 use Rattle.lists.specs.Tests.{if_then_else_}
-use Rattle.rules.specs.Shape.{Shape}
 use Rattle.rules.specs.Laws.Levels.{trailing-le}
 use Rattle.rules.specs.Levels.{trailingOnes, filled, sources, target, grown}
+use Rattle.rules.specs.Shape.{Shape}
 
 pub filled-suc : (c ℓ : ℕ) → filled c (suc ℓ) ≡ filled (c / 2) ℓ
 unfolding filled
 filled-suc c ℓ = rw (pow-suc 2 ℓ, mul-comm (2 ^ ℓ) 2, ← div-div-eq-div-mul)
 
-pub mod-suc : (c ℓ : ℕ) → c % 2 ^ suc ℓ ≡ 2 * (c / 2 % 2 ^ ℓ) + c % 2
+mod-suc : (c ℓ : ℕ) → c % 2 ^ suc ℓ ≡ 2 * (c / 2 % 2 ^ ℓ) + c % 2
 mod-suc c ℓ = let e : c % 2 ^ suc ℓ ≡ (c / 2 % 2 ^ ℓ) * 2 + c % 2 = rw (← add-one ℓ) (mod-pow-add c ℓ 1) in omega arith
 
-pub filled-zero : (c : ℕ) → filled c 0 ≡ eqb (c % 2) 1
+filled-zero : (c : ℕ) → filled c 0 ≡ eqb (c % 2) 1
 unfolding filled
 filled-zero c = rw div-one
 
 -- How `trailingOnes` computes once the lowest bit is known
-pub ones-odd : (n c : ℕ) → eqb (c % 2) 1 ≡ true → trailingOnes (suc n) c ≡ suc (trailingOnes n (c / 2))
+ones-odd : (n c : ℕ) → eqb (c % 2) 1 ≡ true → trailingOnes (suc n) c ≡ suc (trailingOnes n (c / 2))
 unfolding trailingOnes
 ones-odd n c e = rw (e, trailingOnes)
 
-pub ones-even : (n c : ℕ) → eqb (c % 2) 1 ≡ false → trailingOnes (suc n) c ≡ 0
+ones-even : (n c : ℕ) → eqb (c % 2) 1 ≡ false → trailingOnes (suc n) c ≡ 0
 unfolding trailingOnes
 ones-even n c e = rw (e, trailingOnes)
 
 -- every level below the trailing ones' end is filled
-pub ones-filled : (n c ℓ : ℕ) → ℓ < trailingOnes n c → filled c ℓ ≡ true
+ones-filled : (n c ℓ : ℕ) → ℓ < trailingOnes n c → filled c ℓ ≡ true
 ones-filled zero c ℓ h = absurd (unfold trailingOnes in (omega (arith, h)))
 ones-filled (suc n) c ℓ h = go (eqb (c % 2) 1) refl ℓ h (ones-filled n (c / 2))
   where
@@ -45,7 +45,7 @@ ones-filled (suc n) c ℓ h = go (eqb (c % 2) 1) refl ℓ h (ones-filled n (c / 
     go true e (suc ℓ) h ih = filled-suc c ℓ ∙ ih ℓ (omega (arith, ones-odd n c e))
 
 -- and the level there is empty
-pub ones-empty : (n c : ℕ) → trailingOnes n c < n → filled c (trailingOnes n c) ≡ false
+ones-empty : (n c : ℕ) → trailingOnes n c < n → filled c (trailingOnes n c) ≡ false
 ones-empty zero c h = absurd (omega arith)
 ones-empty (suc n) c h = go (eqb (c % 2) 1) refl (ones-empty n (c / 2))
   where
@@ -54,7 +54,7 @@ ones-empty (suc n) c h = go (eqb (c % 2) 1) refl (ones-empty n (c / 2))
     go true e ih = rw (ones-odd n c e) (filled-suc c (trailingOnes n (c / 2)) ∙ ih (omega (arith, ones-odd n c e)))
 
 -- all n levels are filled exactly by 2 ^ n - 1
-pub ones-all : (n c : ℕ) → c < 2 ^ n → trailingOnes n c ≡ n → c ≡ 2 ^ n - 1
+ones-all : (n c : ℕ) → c < 2 ^ n → trailingOnes n c ≡ n → c ≡ 2 ^ n - 1
 ones-all zero c h e = omega arith
 ones-all (suc n) c h e = go (eqb (c % 2) 1) refl (ones-all n (c / 2))
   where
@@ -62,7 +62,7 @@ ones-all (suc n) c h e = go (eqb (c % 2) 1) refl (ones-all n (c / 2))
     go false k ih = absurd (omega (arith, ones-even n c k))
     go true k ih = omega (arith, ih (omega arith) (omega (arith, ones-odd n c k)), eqb-true (c % 2) 1 k, pow-pos n)
 
-pub all-ones : (n : ℕ) → trailingOnes n (2 ^ n - 1) ≡ n
+all-ones : (n : ℕ) → trailingOnes n (2 ^ n - 1) ≡ n
 all-ones zero = unfold trailingOnes in refl
 all-ones (suc n) =
     let half : (2 ^ suc n - 1) / 2 ≡ 2 ^ n - 1 = omega (arith, pow-pos n) in
@@ -71,7 +71,7 @@ all-ones (suc n) =
 
 -- One more: the trailing trailingOnes become 0, the bit above them 1, the others stay
 module _ where
-  pub more-below : (n c ℓ : ℕ) → ℓ < trailingOnes n c → filled (c + 1) ℓ ≡ false
+  more-below : (n c ℓ : ℕ) → ℓ < trailingOnes n c → filled (c + 1) ℓ ≡ false
   more-below zero c ℓ h = absurd (unfold trailingOnes in (omega (arith, h)))
   more-below (suc n) c ℓ h = go (eqb (c % 2) 1) refl ℓ h (more-below n (c / 2))
     where
@@ -82,7 +82,7 @@ module _ where
           let half : (c + 1) / 2 ≡ c / 2 + 1 = omega (arith, eqb-true (c % 2) 1 e) in
           filled-suc (c + 1) ℓ ∙ rw half (ih ℓ (omega (arith, ones-odd n c e)))
 
-  pub more-at : (n c : ℕ) → trailingOnes n c < n → filled (c + 1) (trailingOnes n c) ≡ true
+  more-at : (n c : ℕ) → trailingOnes n c < n → filled (c + 1) (trailingOnes n c) ≡ true
   more-at zero c h = absurd (omega arith)
   more-at (suc n) c h = go (eqb (c % 2) 1) refl (more-at n (c / 2))
     where
@@ -92,7 +92,7 @@ module _ where
           let half : (c + 1) / 2 ≡ c / 2 + 1 = omega (arith, eqb-true (c % 2) 1 e) in
           rw (ones-odd n c e) (filled-suc (c + 1) (trailingOnes n (c / 2)) ∙ rw half (ih (omega (arith, ones-odd n c e))))
 
-  pub more-above : (n c ℓ : ℕ) → trailingOnes n c < n → trailingOnes n c < ℓ → filled (c + 1) ℓ ≡ filled c ℓ
+  more-above : (n c ℓ : ℕ) → trailingOnes n c < n → trailingOnes n c < ℓ → filled (c + 1) ℓ ≡ filled c ℓ
   more-above zero c ℓ h k = absurd (omega arith)
   more-above (suc n) c zero h k = absurd (omega arith)
   more-above (suc n) c (suc ℓ) h k = go (eqb (c % 2) 1) refl (more-above n (c / 2) ℓ)
@@ -105,7 +105,7 @@ module _ where
           let half : (c + 1) / 2 ≡ c / 2 + 1 = omega (arith, eqb-true (c % 2) 1 e) in
           rw (filled-suc (c + 1) ℓ, filled-suc c ℓ, half) (ih (omega (arith, ones-odd n c e)) (omega (arith, ones-odd n c e)))
 
-  pub more-mod : (n c ℓ : ℕ) → trailingOnes n c < n → trailingOnes n c < ℓ → (c + 1) % 2 ^ ℓ ≡ c % 2 ^ ℓ + 1
+  more-mod : (n c ℓ : ℕ) → trailingOnes n c < n → trailingOnes n c < ℓ → (c + 1) % 2 ^ ℓ ≡ c % 2 ^ ℓ + 1
   more-mod zero c ℓ h k = absurd (omega arith)
   more-mod (suc n) c zero h k = absurd (omega arith)
   more-mod (suc n) c (suc ℓ) h k = go (eqb (c % 2) 1) refl (more-mod n (c / 2) ℓ)
@@ -119,11 +119,11 @@ module _ where
           rw (mod-suc (c + 1) ℓ, mod-suc c ℓ, half) (omega (arith, eqb-true (c % 2) 1 e, ih (omega (arith, ones-odd n c e)) (omega (arith, ones-odd n c e))))
 
 -- the bits of 2 ^ k
-pub pow-at : (k : ℕ) → filled (2 ^ k) k ≡ true
+pow-at : (k : ℕ) → filled (2 ^ k) k ≡ true
 pow-at zero = unfold filled in refl
 pow-at (suc k) = let half : 2 ^ suc k / 2 ≡ 2 ^ k = omega arith in filled-suc (2 ^ suc k) k ∙ rw half (pow-at k)
 
-pub pow-below : (k ℓ : ℕ) → ℓ < k → filled (2 ^ k) ℓ ≡ false
+pow-below : (k ℓ : ℕ) → ℓ < k → filled (2 ^ k) ℓ ≡ false
 pow-below zero ℓ h = absurd (omega arith)
 pow-below (suc k) zero h = filled-zero (2 ^ suc k) ∙ ne-eqb (2 ^ suc k % 2) 1 (omega arith)
 pow-below (suc k) (suc ℓ) h = let half : 2 ^ suc k / 2 ≡ 2 ^ k = omega arith in filled-suc (2 ^ suc k) ℓ ∙ rw half (pow-below k ℓ (omega arith))
@@ -142,10 +142,6 @@ module _ (h : Shape) (c : ℕ) (hL : 1 ≤ h .L) (hc : c < 2 ^ h .L) where
   pub source-filled : (ℓ : ℕ) → ℓ < sources h c → filled c ℓ ≡ true
   unfolding sources
   source-filled ℓ k = ones-filled (h .L) c ℓ k
-
-  pub target-le : target h c ≤ sources h c
-  unfolding target
-  target-le = omega arith
 
   -- the wrap, or one more
   grown-cases : (P : ℕ → ℕ → Type 0) → (c ≡ 2 ^ h .L - 1 → P (h .L - 1) (2 ^ (h .L - 1))) → (trailingOnes (h .L) c < h .L → P (trailingOnes (h .L) c) (c + 1)) → P (target h c) (grown h c)

@@ -7,20 +7,20 @@ use Prim.Native.Nat.{ℕ, zero, suc, _-_, _^_, _≤_, _<_, min}
 use native.Mathlib.Omega.{arith}
 use lib.Dec.{eqb, ltb}
 use borrow.Author.Tests.{eqb-true, eq-eqb, ltb-true, lt-ltb}
-use Rattle.lists.specs.Tests.{if_then_else_, and-l, and-r, and-true}
-use Rattle.lists.specs.Search.{find, below}
 use Rattle.lists.specs.All.{IfSome, keep-passes, find-both}
 use Rattle.lists.specs.Distinct.{Mem, NoDup}
 use Rattle.lists.specs.Members
 use Rattle.lists.specs.Members.{all-mem, keep-mem, mem-keep, nodup-keep, nodup-below, mem-below, below-mem}
+use Rattle.lists.specs.Search.{find, below}
+use Rattle.lists.specs.Tests.{if_then_else_, and-l, and-r, and-true}
 use Rattle.rules.specs.Blocks
-use Rattle.rules.specs.Shape.{Shape, slots}
-use Rattle.rules.specs.State.{State, Place, nowhere, stored}
+use Rattle.rules.specs.Laws.Range.{PlaceIn}
 use Rattle.rules.specs.Levels.{sources, target}
 use Rattle.rules.specs.Rebuild.{gathered, chosen}
-use Rattle.rules.specs.Laws.Range.{PlaceIn}
+use Rattle.rules.specs.Shape.{Shape, slots}
+use Rattle.rules.specs.State.{State, Place, nowhere, stored}
+use Rattle.reachable.specs.Invariant.{isIn, storedAt, taken}
 use Rattle.reachable.specs.Live
-use Rattle.reachable.specs.Invariant.{storedAt, isIn, taken}
 
 pub stored-inj : (ℓ m i j : ℕ) → stored ℓ i ≡ stored m j → (ℓ ≡ m) × (i ≡ j)
 stored-inj ℓ m i j e = (cc, cc)

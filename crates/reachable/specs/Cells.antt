@@ -7,9 +7,9 @@ use native.Mathlib.Decide.{decLt}
 use lib.ListN.{length, getD, replicate, length-replicate, getD-replicate}
 use lib.Pow.{pow-mono}
 use Rattle.lists.specs.Tables.{putAll, putAll-in, putAll-before, putAll-behind}
-use Rattle.rules.specs.Shape.{Shape, cell, offset, slots}
-use Rattle.rules.specs.Rebuild.{cleared}
 use Rattle.rules.specs.Laws.Layout.{cell-inj, offset-in}
+use Rattle.rules.specs.Rebuild.{cleared}
+use Rattle.rules.specs.Shape.{Shape, cell, offset, slots}
 
 module _ (h : Shape) (q t : ℕ) (xs : List ℕ) (f : ℕ → ℕ) (lx : length xs ≡ slots t) where
   pub level-here : (i : ℕ) → i < slots t → putAll (cell h q t 0) xs f (cell h q t i) ≡ getD xs i 0

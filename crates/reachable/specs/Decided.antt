@@ -8,22 +8,22 @@ use Prim.Native.Nat.{ℕ, _-_, _≤_, _<_}
 use native.Mathlib.Omega.{arith}
 use lib.Dec.{eqb, leb, ltb}
 use borrow.Author.Tests.{eqb-true, eqb-false, ltb-true}
-use Rattle.lists.specs.Tests.{if_then_else_, and-r}
-use Rattle.lists.specs.Search
-use Rattle.lists.specs.Search.{find, orElse}
 use Rattle.lists.specs.All.{All, nil, cons, IfSome, all-map, all-keep, count-below, keep-passes, all-both, find-both, find-none, any-none}
 use Rattle.lists.specs.Members.{count-from, keep-first}
+use Rattle.lists.specs.Search
+use Rattle.lists.specs.Search.{find, orElse}
+use Rattle.lists.specs.Tests.{if_then_else_, and-r}
 use Rattle.rules.specs.Blocks
-use Rattle.rules.specs.Request
+use Rattle.rules.specs.Laws.Decided.{places-in}
+use Rattle.rules.specs.Levels.{filled, sources, target}
 use Rattle.rules.specs.Rebuild
 use Rattle.rules.specs.Rebuild.{places}
-use Rattle.rules.specs.State.{State, Command, Request}
+use Rattle.rules.specs.Request
 use Rattle.rules.specs.Shape.{offset, slots}
+use Rattle.rules.specs.State.{State, Command, Request}
 use Rattle.rules.specs.Turn
 use Rattle.rules.specs.Turn.{Step, idle, noDummy, readForRequest, readForJob, rebuild, writeNext, decide}
-use Rattle.rules.specs.Levels.{filled, sources, target}
-use Rattle.rules.specs.Laws.Decided.{places-in}
-use Rattle.reachable.specs.Scan.{test, scan-least, scan-none}
+use Rattle.reachable.specs.Scan.{scan-none, scan-least, test}
 
 -- a request that finds no dummy
 pub record Lacks (s : State) : Type 0 where

@@ -1,20 +1,25 @@
--- What holds of every state that calls left.
+-- What holds of every state that calls left: one record, a named fact to each field.
 use mathlib.Core.Path.{_≡_}
 use mathlib.Core.Logic.{_⊎_}
-use mathlib.Core.Bool.{Bool, true, false, not, _&&_}
-use mathlib.Core.List.{List, _∷_}
+use mathlib.Core.Bool.{Bool, true, false, _&&_}
+use mathlib.Core.List.{List, [], _∷_}
+use mathlib.Core.Option.{Option, some}
 use Prim.Native.Nat.{ℕ, zero, suc, _+_, _-_, _%_, _^_, _≤_, _<_}
 use lib.ListN.{length}
 use lib.Dec.{eqb}
-use Rattle.lists.specs.Search.{keep, below}
+use Rattle.lists.specs.All.{All}
 use Rattle.lists.specs.Distinct.{Mem, NoDup}
+use Rattle.lists.specs.Search.{keep, below}
 use Rattle.lists.specs.Totals.{total}
-use Rattle.rules.specs.Shape.{Shape, cell, slots}
-use Rattle.rules.specs.State.{State, Place, nowhere, stored, read}
-use Rattle.rules.specs.Levels.{filled, target}
 use Rattle.rules.specs.Laws.Range.{InRange}
-use Rattle.reachable.specs.Live
-use Rattle.reachable.specs.Live.{counted, pending, readsOf, Gathers}
+use Rattle.rules.specs.Levels.{filled, sources, target}
+use Rattle.rules.specs.Request
+use Rattle.rules.specs.Shape.{Shape, cell, offset, slots}
+use Rattle.rules.specs.State.{State, Command, Place, nowhere, stored, Request, read, write}
+use Rattle.reachable.specs.Live.{storedIn, counted, Gathers, readsOf, pending, isFront, passedBy}
+use Rattle.reachable.specs.Terms.{Numbered, Apart}
+
+-- ---- Blocks and slots
 
 -- A block waits once, and then it is in no slot
 pub record Waiting (waiting : List ℕ) (place : ℕ → Place) : Type 0 where
@@ -25,6 +30,10 @@ pub record Waiting (waiting : List ℕ) (place : ℕ → Place) : Type 0 where
 pub record Orders (h : Shape) (count : ℕ → ℕ) (order : ℕ → ℕ) : Type 0 where
   pub one : (q ℓ j k : ℕ) → q < h .P → ℓ < h .L → filled (count q) ℓ ≡ true → j < slots ℓ → k < slots ℓ → order (cell h q ℓ j) ≡ order (cell h q ℓ k) → j ≡ k
   pub each : (q ℓ i : ℕ) → q < h .P → ℓ < h .L → filled (count q) ℓ ≡ true → i < slots ℓ → (k : ℕ) × ((k < slots ℓ) × (order (cell h q ℓ k) ≡ i))
+
+-- The items of a live level are so numbered
+abbrev pub Items : Shape → (ℕ → ℕ) → (ℕ → ℕ) → (ℕ → ℕ) → (ℕ → ℕ) → Type 0
+Items h count order mark holds = (q ℓ : ℕ) → q < h .P → ℓ < h .L → filled (count q) ℓ ≡ true → (n : ℕ) × Numbered h order mark holds q ℓ n
 
 -- A block's place is in a live level, whose slot holds it; and what a slot holds has its place there: no entry is stale
 pub record Agree (h : Shape) (count : ℕ → ℕ) (partition : ℕ → ℕ) (place : ℕ → Place) (holds : ℕ → ℕ) : Type 0 where
@@ -39,6 +48,13 @@ isIn ℓ (stored m i) = eqb m ℓ
 unfoldable pub storedAt : State → ℕ → ℕ → List ℕ
 storedAt s q ℓ = keep (λ b. eqb (s .partition b) q && isIn ℓ (s .place b)) (below (s .shape .N))
 
+-- A level stores at most 2^ℓ blocks, a partition 2^(L-1)
+abbrev pub Room : State → Type 0
+Room s = (q ℓ : ℕ) → length (storedAt s q ℓ) ≤ 2 ^ ℓ
+
+abbrev pub Full : State → Type 0
+Full s = (q : ℕ) → length (storedIn s q (s .shape .L)) ≤ 2 ^ (s .shape .L - 1)
+
 -- the slots of level ℓ of q that hold a block
 unfoldable pub taken : ℕ → ℕ
 taken zero = 0
@@ -47,13 +63,15 @@ taken (suc b) = 1
 unfoldable pub holdsOf : Shape → (ℕ → ℕ) → ℕ → ℕ → ℕ
 holdsOf h holds q ℓ = total (slots ℓ) (λ i. taken (holds (cell h q ℓ i)))
 
--- A level stores at most 2^ℓ blocks, a partition 2^(L-1)
-pub record Counts (s : State) : Type 0 where
-  pub room : (q ℓ : ℕ) → length (storedAt s q ℓ) ≤ 2 ^ ℓ
-  pub full : (q : ℕ) → length (Live.storedIn s q (s .shape .L)) ≤ 2 ^ (s .shape .L - 1)
-
+-- At most 2^ℓ slots of level ℓ hold a block
 abbrev pub Taken : Shape → (ℕ → ℕ) → Type 0
 Taken h holds = (q ℓ : ℕ) → q < h .P → ℓ < h .L → holdsOf h holds q ℓ ≤ 2 ^ ℓ
+
+-- ---- Reads and writes
+
+-- Writes are sent for the front job, at most one to each slot of its target
+abbrev pub Begun : State → Type 0
+Begun s = (s .sent ≡ 0 → ⊥) → (q : ℕ) × (rest : List ℕ) × ((s .queue ≡ q ∷ rest) × (s .sent ≤ slots (target (s .shape) (s .counter q))))
 
 -- A live level that is not gathered has been read at most once for each job since it was written, and once more while a request or
 -- a job that is not drawn is pending
@@ -61,16 +79,79 @@ abbrev pub Reads : State → Type 0
 Reads s = (q ℓ : ℕ) → q < s .shape .P → ℓ < s .shape .L → filled (counted s q) ℓ ≡ true
     → Gathers s q ℓ ⊎ (readsOf (s .shape) (s .mark) q ℓ ≤ counted s q % 2 ^ ℓ + pending s q ℓ)
 
--- Writes are sent for the front job
-abbrev pub Begun : State → Type 0
-Begun s = (s .sent ≡ 0 → ⊥) → (q : ℕ) × (rest : List ℕ) × ((s .queue ≡ q ∷ rest) × (s .sent ≤ slots (target (s .shape) (s .counter q))))
+-- A request that has sent a read is not held
+abbrev pub Unheld : State → Type 0
+Unheld s = (r : Request) → s .request ≡ some r → (r .level ≡ 0) ⊎ (Request.held s r ≡ false)
 
-pub record Stored (s : State) : Type 0 where
-  pub range : InRange s
-  pub begun : Begun s
+-- The request in hand is for b and has sent its read to level ℓ
+abbrev pub Own : State → ℕ → ℕ → Type 0
+Own s b ℓ = (r : Request) × ((s .request ≡ some r) × (r .block ≡ b) × (ℓ < r .level))
+
+-- A block's slot has not been read, but by the request for it or by the job that gathers it
+abbrev pub Unread : State → Type 0
+Unread s = (b ℓ i : ℕ) → b < s .shape .N → s .place b ≡ stored ℓ i → (s .mark (cell (s .shape) (s .partition b) ℓ i) ≡ 1) ⊎ (Own s b ℓ ⊎ Gathers s (s .partition b) ℓ)
+
+-- Where a request has passed its block's level, the block's slot has been read
+abbrev pub Fetched : State → Type 0
+Fetched s = (r : Request) (ℓ i : ℕ) → s .request ≡ some r → s .place (r .block) ≡ stored ℓ i → ℓ < r .level → s .mark (cell (s .shape) (s .partition (r .block)) ℓ i) ≡ 0
+
+-- The slots of its sources that the front job has gone over are read
+abbrev pub Scanned : State → Type 0
+Scanned s = (q ℓ i : ℕ) → isFront (s .queue) q ≡ true → s .sent ≡ 0 → ℓ < sources (s .shape) (s .counter q) → i < slots ℓ → offset ℓ i < s .cursor → s .mark (cell (s .shape) q ℓ i) ≡ 0
+
+-- With no job queued, none has gone over anything
+abbrev pub Jobless : State → Type 0
+Jobless s = s .queue ≡ [] → s .cursor ≡ 0
+
+-- While a job is drawn, the levels below its target are read throughout
+abbrev pub Spent : State → Type 0
+Spent s = (q ℓ i : ℕ) → isFront (s .queue) q ≡ true → (s .sent ≡ 0 → ⊥) → ℓ < target (s .shape) (s .counter q) → i < slots ℓ → s .mark (cell (s .shape) q ℓ i) ≡ 0
+
+-- ---- Outstanding commands
+
+-- An outstanding read: its slot counts as read, its level is filled, and the request for its partition has passed it, or the front job gathers it
+pub record ReadOf (h : Shape) (counter mark partition : ℕ → ℕ) (request : Option Request) (queue : List ℕ) (sent : ℕ) (c : Command) : Type 0 where
+  pub kind : c .kind ≡ read
+  pub isRead : mark (cell h (c .partition) (c .level) (c .slot)) ≡ 0
+  pub full : filled (counter (c .partition)) (c .level) ≡ true
+  pub whose : (passedBy partition request (c .partition) (c .level) ≡ true)
+      ⊎ ((isFront queue (c .partition) ≡ true) × (sent ≡ 0) × (c .level < sources h (counter (c .partition))))
+
+-- An outstanding write: of the front job's target, below its count of writes sent
+pub record WriteOf (h : Shape) (counter : ℕ → ℕ) (queue : List ℕ) (sent : ℕ) (c : Command) : Type 0 where
+  pub kind : c .kind ≡ write
+  pub front : isFront queue (c .partition) ≡ true
+  pub busy : sent ≡ 0 → ⊥
+  pub goal : c .level ≡ target h (counter (c .partition))
+  pub slot : c .slot < sent
+
+abbrev pub Reading : State → Command → Type 0
+Reading s c = ReadOf (s .shape) (s .counter) (s .mark) (s .partition) (s .request) (s .queue) (s .sent) c
+
+abbrev pub Writing : State → Command → Type 0
+Writing s c = WriteOf (s .shape) (s .counter) (s .queue) (s .sent) c
+
+abbrev pub Commands : State → Type 0
+Commands s = All (λ c. Reading s c ⊎ Writing s c) (s .outstanding)
+
+-- ---- All of it
+
+pub record Reached (s : State) : Type 0 where
+  pub range : InRange s  -- each number is in its range
   pub waiting : Waiting (s .waiting) (s .place)
   pub orders : Orders (s .shape) (counted s) (s .order)
+  pub items : Items (s .shape) (counted s) (s .order) (s .mark) (s .holds)
   pub agree : Agree (s .shape) (counted s) (s .partition) (s .place) (s .holds)
-  pub counts : Counts s
+  pub room : Room s
+  pub full : Full s
   pub taken : Taken (s .shape) (s .holds)
+  pub begun : Begun s
   pub reads : Reads s
+  pub unheld : Unheld s
+  pub unread : Unread s
+  pub fetched : Fetched s
+  pub scanned : Scanned s
+  pub jobless : Jobless s
+  pub spent : Spent s
+  pub apart : Apart (s .outstanding)  -- a slot never has two commands outstanding
+  pub commands : Commands s

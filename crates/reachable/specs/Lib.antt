@@ -1,18 +1,29 @@
+-- What holds of every state that calls left. Read first
+--   Theorems, with the words it uses in Terms: what holds, over the runs of the rules, with nothing of the invariant;
+--   Invariant, with Live: the record of facts from which all of it follows;
+--   Reached: every call keeps that record.
+pub mod Terms
+pub mod Theorems
+pub mod Live
+pub mod Invariant
+pub mod Reached
+-- The steps, one file each, a lemma for each field of the record
+pub mod Kept
+-- What the steps and the crates above use: what a turn's step says of its state, what follows from the invariant, and why no state that calls
+-- left lacks a dummy or gathers too much
+pub mod Decided
+pub mod Consequences
+pub mod Never
+-- For the theorems: each block has one place; which slot a turn reads; the commands sent to one slot over a run
+pub mod Counts
+pub mod Found
+pub mod Sends
+-- Underneath: bits of counters, cells of levels, a search from a cursor, pending jobs and requests, stored and gathered blocks by places
+-- and by slots, lists of commands
 pub mod Bits
 pub mod Cells
 pub mod Scan
-pub mod Live
 pub mod Pending
-pub mod Decided
-pub mod Invariant
-pub mod Sent
 pub mod Blocks
 pub mod Slots
-pub mod Rebuild
-pub mod Steps
-pub mod Collect
-pub mod Never
-pub mod SentSteps
-pub mod SentMore
-pub mod Reached
-pub mod Uses
+pub mod Outstanding

@@ -7,13 +7,13 @@ use mathlib.Core.Option.{Option, none, some}
 use Prim.Native.Nat.{ℕ, zero, suc, _-_, _<_}
 use lib.Dec.{eqb, ltb}
 use borrow.Author.Tests.{eqb-true, eq-eqb, ne-eqb}
-use Rattle.lists.specs.Tests.{if_then_else_}
-use Rattle.lists.specs.Search.{member, keep, below}
-use Rattle.lists.specs.Totals.{total}
 use Rattle.lists.specs.Distinct.{Mem}
+use Rattle.lists.specs.Search.{member, keep, below}
+use Rattle.lists.specs.Tests.{if_then_else_}
+use Rattle.lists.specs.Totals.{total}
+use Rattle.rules.specs.Levels.{sources, target, grown}
 use Rattle.rules.specs.Shape.{Shape, cell, slots}
 use Rattle.rules.specs.State.{nowhere, stored, State, Request, Place}
-use Rattle.rules.specs.Levels.{sources, grown}
 
 -- the front job is for q
 unfoldable pub isFront : List ℕ → ℕ → Bool
@@ -51,6 +51,10 @@ readsOf h mark q ℓ = total (slots ℓ) (λ i. 1 - mark (cell h q ℓ i))
 abbrev pub Gathers : State → ℕ → ℕ → Type 0
 Gathers s q ℓ = (isFront (s .queue) q ≡ true) × (s .sent ≡ 0) × (ℓ < sources (s .shape) (s .counter q))
 
+-- level ℓ of q is the target of the front job, whose order is drawn
+abbrev pub Target : State → ℕ → ℕ → Type 0
+Target s q ℓ = (isFront (s .queue) q ≡ true) × (s .sent ≡ 0 → ⊥) × (ℓ ≡ target (s .shape) (s .counter q))
+
 -- How `counted` computes
 module _ (s : State) (q : ℕ) where
   pub counted-calm : s .sent ≡ 0 → counted s q ≡ s .counter q
@@ -77,6 +81,13 @@ pub front-mem : (qs : List ℕ) (q : ℕ) → isFront qs q ≡ true → Mem q qs
 unfolding isFront
 front-mem [] q e = absurd (true≢false (sym e))
 front-mem (p ∷ qs) q e = inl (sym (eqb-true p q e))
+
+pub not-front : (qs : List ℕ) (q : ℕ) → ¬ Mem q qs → isFront qs q ≡ false
+not-front qs q n = go (isFront qs q) refl
+  where
+    go : (t : Bool) → isFront qs q ≡ t → isFront qs q ≡ false
+    go true e = absurd (n (front-mem qs q e))
+    go false e = e
 
 pub front-eq : (p q : ℕ) (qs rest : List ℕ) → qs ≡ q ∷ rest → isFront qs p ≡ true → p ≡ q
 unfolding isFront

@@ -12,52 +12,44 @@ use lib.ListN.{length, length-append}
 use lib.Dec.{ltb}
 use lib.Pow.{pow-pos, pow-mono}
 use borrow.Author.Tests.{eq-eqb, lt-ltb, le-leb, ltb-true}
+use Rattle.lists.specs.All.{All, cons, find-none}
+use Rattle.lists.specs.Distinct.{Mem}
+use Rattle.lists.specs.Members.{not-member, all-mem, below-mem, decMem, nodup-le, nodup-sub, mem-member, map-mem, append-right, member-append}
 use Rattle.lists.specs.Search
 use Rattle.lists.specs.Search.{below, member}
 use Rattle.lists.specs.Tests.{and-l, and-true, or-left, or-right}
-use Rattle.lists.specs.All.{All, cons, IfSome, find-none}
-use Rattle.lists.specs.Distinct.{Mem}
-use Rattle.lists.specs.Members.{not-member, all-mem, below-mem, decMem, nodup-le, nodup-sub, mem-member, map-mem, append-right, member-append}
 use Rattle.lists.specs.Totals.{total-gap}
 use Rattle.rules.specs.Blocks
-use Rattle.rules.specs.Request
-use Rattle.rules.specs.State.{State, stored, Request}
-use Rattle.rules.specs.Shape.{cell, slots}
-use Rattle.rules.specs.Ranges.{isKind}
+use Rattle.rules.specs.Laws.Levels.{sources-le}
+use Rattle.rules.specs.Levels.{filled, sources, target}
 use Rattle.rules.specs.Questions
 use Rattle.rules.specs.Questions.{request, turn, possible, questions, firstNo}
-use Rattle.rules.specs.Levels.{filled, sources, target}
+use Rattle.rules.specs.Ranges.{isKind}
 use Rattle.rules.specs.Rebuild.{gathered, chosen}
+use Rattle.rules.specs.Request
+use Rattle.rules.specs.Shape.{cell, slots}
+use Rattle.rules.specs.State.{State, stored, Request}
 use Rattle.rules.specs.Turn.{decide, Step, idle, noDummy, readForRequest, readForJob, rebuild, writeNext}
-use Rattle.rules.specs.Laws.Levels.{sources-le}
-use Rattle.rules.specs.Laws.Range.{RequestIn}
+use Rattle.reachable.specs.Blocks.{in-why, is-below, why-in, lt-below, why-at, in-is, nodup-in, nodup-gathered, gathered-lt, target-min}
+use Rattle.reachable.specs.Consequences.{block-lt}
+use Rattle.reachable.specs.Decided.{Lacks, Decided, decided}
+use Rattle.reachable.specs.Invariant.{taken, Reached, holdsOf, storedAt}
 use Rattle.reachable.specs.Live
-use Rattle.reachable.specs.Live.{counted, pending, readsOf, Gathers, isFront, counted-other, front-mem}
-use Rattle.reachable.specs.Pending.{pending-cases, undrawn-mem}
-use Rattle.reachable.specs.Decided.{Decided, decided, Lacks}
-use Rattle.reachable.specs.Invariant.{Stored, taken, holdsOf, storedAt}
-use Rattle.reachable.specs.Steps.{passed-why}
-use Rattle.reachable.specs.Blocks.{gathered-lt, nodup-gathered, in-why, why-in, why-at, nodup-in, is-below, in-is, lt-below, target-min}
-use Rattle.reachable.specs.Slots.{front-in, gathered-why, chosen-room}
-
-pub not-front : (qs : List ℕ) (q : ℕ) → ¬ Mem q qs → isFront qs q ≡ false
-not-front qs q n = go (isFront qs q) refl
-  where
-    go : (t : Bool) → isFront qs q ≡ t → isFront qs q ≡ false
-    go true e = absurd (n (front-mem qs q e))
-    go false e = e
+use Rattle.reachable.specs.Live.{readsOf, counted, counted-other, not-front, pending, Gathers, front-mem}
+use Rattle.reachable.specs.Pending.{undrawn-mem, passed-why, pending-cases}
+use Rattle.reachable.specs.Slots.{gathered-why, chosen-room, front-in}
 
 taken-none : (n : ℕ) → taken n ≡ 0 → n ≡ 0
 unfolding taken
 taken-none zero e = refl
 taken-none (suc n) e = absurd (omega arith)
 
-named-none : (n : ℕ) → n ≡ 0 → Search.isNone (Blocks.named n) ≡ true
+pub named-none : (n : ℕ) → n ≡ 0 → Search.isNone (Blocks.named n) ≡ true
 unfolding Blocks.named Search.isNone
 named-none n e = rw e
 
 -- A request always finds an unread dummy
-pub never-lacks : (s : State) → Stored s → Lacks s → ⊥
+never-lacks : (s : State) → Reached s → Lacks s → ⊥
 unfolding readsOf holdsOf
 never-lacks s f k = go (f .reads q ℓ hq (k .top) (ap (λ c. filled c ℓ) count ∙ k .full))
   where
@@ -70,14 +62,8 @@ never-lacks s f k = go (f .reads q ℓ hq (k .top) (ap (λ c. filled c ℓ) coun
     ℓ : ℕ
     ℓ = k .level
 
-    hb : r .block < s .shape .N
-    hb = in-range (s .request) (k .inHand) (f .range .request)
-      where
-        in-range : (o : Option Request) → o ≡ some r → IfSome (RequestIn (s .shape)) o → r .block < s .shape .N
-        in-range o e h = let h′ : RequestIn (s .shape) r = rw e at h in h′ .block
-
     hq : q < s .shape .P
-    hq = f .range .partitions (r .block) hb
+    hq = f .range .partitions (r .block) (block-lt s f r (k .inHand))
 
     unqueued : ¬ Mem q (s .queue)
     unqueued = not-member q (s .queue) (unfold Request.held in (k .unheld))
@@ -106,7 +92,7 @@ never-lacks s f k = go (f .reads q ℓ hq (k .top) (ap (λ c. filled c ℓ) coun
         found (gap .0) (gap .1 .0) (omega (arith, gap .1 .1, f .range .marks q ℓ (gap .0) hq (k .top) (gap .1 .0))) (gap .1 .2)
 
 -- The levels below n store fewer than 2^n blocks
-module _ (s : State) (f : Stored s) (q : ℕ) (hq : q < s .shape .P) where
+module _ (s : State) (f : Reached s) (q : ℕ) (hq : q < s .shape .P) where
   split-in : (n b : ℕ) → Mem b (Live.storedIn s q (suc n)) → Mem b (Live.storedIn s q n ++ storedAt s q n)
   split-in n b m =
       let y = in-why s q (suc n) b m in
@@ -124,7 +110,7 @@ module _ (s : State) (f : Stored s) (q : ℕ) (hq : q < s .shape .P) where
   below-few (suc n) = omega (
     arith,
     below-few n,
-    f .counts .room q n,
+    f .room q n,
     length-append (Live.storedIn s q n) (storedAt s q n),
     nodup-sub (Live.storedIn s q (suc n)) (Live.storedIn s q n ++ storedAt s q n) (nodup-in s q (suc n)) (split-in n),
   )
@@ -159,11 +145,11 @@ module _ (s : State) (f : Stored s) (q : ℕ) (hq : q < s .shape .P) where
       go : (o : Option ℕ) → chosen s q ≡ o → Dec (from < s .shape .L) → length (gathered s q) ≤ 2 ^ target (s .shape) (s .counter q)
       go none e (yes l) = rw (some-goal l) (omega (arith, gathered-none e, below-few from))
       go (some a) e (yes l) = rw (some-goal l) (omega (arith, gathered-one a e, below-few from))
-      go none e (no l) = rw (last l) (omega (arith, gathered-none e, f .counts .full q, ap (λ n. length (Live.storedIn s q n)) (all-from l)))
+      go none e (no l) = rw (last l) (omega (arith, gathered-none e, f .full q, ap (λ n. length (Live.storedIn s q n)) (all-from l)))
       go (some a) e (no l) = rw (last l) (omega (arith, gathered-one a e, chosen-room s f q hq a e, ap (λ n. length (Live.storedIn s q n)) (all-from l)))
 
 -- A step that a turn decides is possible
-pub possible-step : (s : State) → Stored s → (x : Step) → Decided s x → possible s x ≡ true
+possible-step : (s : State) → Reached s → (x : Step) → Decided s x → possible s x ≡ true
 unfolding possible
 possible-step s f idle d = refl
 possible-step s f noDummy d = absurd (never-lacks s f d)
@@ -172,7 +158,7 @@ possible-step s f (readForJob q ℓ i) d = refl
 possible-step s f (rebuild q t) d = rw (d .goal) (le-leb (length (gathered s q)) (2 ^ target (s .shape) (s .counter q)) (never-many s f q (front-in s f q (d .rest) (d .front))))
 possible-step s f (writeNext q t i) d = refl
 
-pub always-possible : (s : State) → Stored s → possible s (decide s) ≡ true
+pub always-possible : (s : State) → Reached s → possible s (decide s) ≡ true
 always-possible s f = possible-step s f (decide s) (decided s)
 
 -- Document 01: after all its questions a turn answers no 2. A 2 means that the memory is too short
@@ -185,12 +171,12 @@ last-two true true true false e h = absurd (omega arith)
 last-two true true true true false h = absurd (omega arith)
 last-two true true true true true h = absurd (omega arith)
 
-pub never-late : (s : State) → Stored s → (m : ℕ) (ws : List ℕ) (k : ℕ) → firstNo (questions s turn m ws k) ≡ 2 → Questions.ready s m ≡ false
+pub late-two : (s : State) → Reached s → (m : ℕ) (ws : List ℕ) (k : ℕ) → firstNo (questions s turn m ws k) ≡ 2 → Questions.ready s m ≡ false
 unfolding questions
-never-late s f m ws k e = last-two _ _ _ _ _ (rw (always-possible s f) at e)
+late-two s f m ws k e = last-two _ _ _ _ _ (rw (always-possible s f) at e)
 
 -- Document 01: with E equal to N a request is never answered 8
-pub room-or-waits : (s : State) → Stored s → s .shape .E ≡ s .shape .N → (b : ℕ) → b < s .shape .N → (ltb (length (s .waiting)) (s .shape .E) || member b (s .waiting)) ≡ true
+pub room-or-waits : (s : State) → Reached s → s .shape .E ≡ s .shape .N → (b : ℕ) → b < s .shape .N → (ltb (length (s .waiting)) (s .shape .E) || member b (s .waiting)) ≡ true
 room-or-waits s f e b hb = go (decMem b (s .waiting))
   where
     go : Dec (Mem b (s .waiting)) → (ltb (length (s .waiting)) (s .shape .E) || member b (s .waiting)) ≡ true
@@ -214,7 +200,7 @@ pub full-ready : (s : State) (j b : ℕ) (bs : List ℕ) (m : ℕ) (ws : List �
 unfolding questions
 full-ready s j b bs m ws k h = and-l (Questions.ready s m) (isKind j) (eight _ _ _ _ _ _ _ h .0)
 
-pub never-full : (s : State) → Stored s → s .shape .E ≡ s .shape .N → (j b : ℕ) (bs : List ℕ) (m : ℕ) (ws : List ℕ) (k : ℕ) → firstNo (questions s (request j b bs) m ws k) ≡ 8 → ⊥
+pub never-full : (s : State) → Reached s → s .shape .E ≡ s .shape .N → (j b : ℕ) (bs : List ℕ) (m : ℕ) (ws : List ℕ) (k : ℕ) → firstNo (questions s (request j b bs) m ws k) ≡ 8 → ⊥
 unfolding questions
 never-full s f e j b bs m ws k h =
     let x = eight _ _ _ _ _ _ _ h in

@@ -1,21 +1,25 @@
 -- Jobs that are not drawn, requests that have passed a level, and the reads of a level.
 use mathlib.Core.Path.{_≡_, refl, ap, sym, _∙_}
 use mathlib.Core.Logic.{_⊎_, inl, inr, ⊎-elim}
-use mathlib.Core.Bool.{Bool, true, false, _||_, true≢false}
+use mathlib.Core.Bool.{Bool, true, false, _||_, true≢false, _&&_}
 use mathlib.Core.List.{List, [], _∷_, _++_}
+use mathlib.Core.Option.{Option, none, some}
 use Prim.Native.Nat.{ℕ, zero, suc, _+_, _-_, _≤_, _<_}
 use native.Mathlib.Omega.{arith}
 use native.Mathlib.Decide.{ℕ-discrete}
-use Rattle.lists.specs.Tests.{if_then_else_, or-true, or-right}
-use Rattle.lists.specs.Search.{member}
-use Rattle.lists.specs.Tables.{put, put-same, put-other}
+use lib.Dec.{eqb, ltb}
+use borrow.Author.Tests.{eqb-true, eq-eqb, lt-ltb, ltb-true}
 use Rattle.lists.specs.Distinct.{Mem}
 use Rattle.lists.specs.Members.{mem-member, member-mem}
+use Rattle.lists.specs.Search.{member}
+use Rattle.lists.specs.Tables.{put, put-same, put-other}
+use Rattle.lists.specs.Tests.{if_then_else_, or-true, or-right, and-l, and-r, and-true}
 use Rattle.lists.specs.Totals.{total-one, total-same}
-use Rattle.rules.specs.Shape.{Shape, cell, slots}
-use Rattle.rules.specs.State.{State}
 use Rattle.rules.specs.Laws.Layout.{cell-inj}
-use Rattle.reachable.specs.Live.{isFront, undrawn, passedBy, pending, readsOf}
+use Rattle.rules.specs.Request
+use Rattle.rules.specs.Shape.{Shape, cell, slots}
+use Rattle.rules.specs.State.{State, Request}
+use Rattle.reachable.specs.Live.{undrawn, isFront, pending, passedBy, readsOf}
 
 pub undrawn-mem : (x : ℕ) (qs : List ℕ) (n : ℕ) → Mem x (undrawn qs n) → Mem x qs
 unfolding undrawn
@@ -58,7 +62,7 @@ unfolding isFront
 front-more qs xs q p rest e = rw e
 
 module _ (s : State) (p ℓ : ℕ) where
-  pub pending-job : Mem p (undrawn (s .queue) (s .sent)) → pending s p ℓ ≡ 1
+  pending-job : Mem p (undrawn (s .queue) (s .sent)) → pending s p ℓ ≡ 1
   unfolding pending
   pending-job m = rw (mem-member p (undrawn (s .queue) (s .sent)) m)
 
@@ -109,3 +113,18 @@ module _ (h : Shape) (q ℓ i : ℕ) (hℓ : ℓ < h .L) (hi : i < slots ℓ) (m
   unfolding readsOf
   mark-same n = total-same (slots m) (λ j. 1 - put (cell h q ℓ i) 0 mark (cell h p m j)) (λ j. 1 - mark (cell h p m j))
       (λ j hj. ap (λ v. 1 - v) (put-other (cell h q ℓ i) 0 mark (cell h p m j) (λ e. let r = cell-inj h p q m ℓ j i hm hℓ hj hi e in n (r .0, r .1))))
+
+-- A request that has passed a level
+pub passed-why : (partition : ℕ → ℕ) (o : Option Request) (r : Request) (p m : ℕ) → o ≡ some r → passedBy partition o p m ≡ true → (partition (r .block) ≡ p) × (m < r .level)
+unfolding passedBy
+passed-why partition o r p m e k =
+    let k′ : (eqb (partition (r .block)) p && ltb m (r .level)) ≡ true = rw e at k in
+    (eqb-true (partition (r .block)) p (and-l (eqb (partition (r .block)) p) (ltb m (r .level)) k′), ltb-true m (r .level) (and-r (eqb (partition (r .block)) p) (ltb m (r .level)) k′))
+
+pub passed-none : (partition : ℕ → ℕ) (o : Option Request) (p m : ℕ) → o ≡ none → passedBy partition o p m ≡ false
+unfolding passedBy
+passed-none partition o p m e = rw e
+
+pub passed-level : (partition : ℕ → ℕ) (o : Option Request) (r : Request) (ℓ p m : ℕ) → o ≡ some r → partition (r .block) ≡ p → m < suc ℓ → passedBy partition (Request.passLevel ℓ o) p m ≡ true
+unfolding passedBy Request.passLevel
+passed-level partition o r ℓ p m e k l = rw e (and-true (eq-eqb (partition (r .block)) p k) (lt-ltb m (suc ℓ) l))

@@ -8,14 +8,14 @@ use native.Mathlib.Omega.{arith}
 use native.Mathlib.Decide.{ℕ-discrete}
 use lib.Dec.{leb}
 use borrow.Author.Tests.{le-leb}
-use Rattle.lists.specs.Search.{find, below, count}
 use Rattle.lists.specs.All.{All, nil, cons, all-map, all-right, all-left}
+use Rattle.lists.specs.Ascending.{find-least, Ascends, none-ascends, ascends-append, one-ascends}
 use Rattle.lists.specs.Members.{all-mem, below-mem}
-use Rattle.rules.specs.Rebuild.{places}
-use Rattle.rules.specs.Shape.{offset, slots}
+use Rattle.lists.specs.Search.{find, below, count}
 use Rattle.rules.specs.Laws.Decided.{places-in}
 use Rattle.rules.specs.Laws.Layout.{offset-in}
-use Rattle.lists.specs.Ascending.{find-least, Ascends, none-ascends, ascends-append, one-ascends}
+use Rattle.rules.specs.Rebuild.{places}
+use Rattle.rules.specs.Shape.{offset, slots}
 
 -- The slots of the levels below n ascend
 abbrev pub offsetOf : ℕ × ℕ → ℕ
@@ -41,7 +41,7 @@ all-from : (P : ℕ × ℕ → Type 0) (n : ℕ) (xs : List ℕ) → All P (map 
 all-from P n [] h = nil
 all-from P n (x ∷ xs) (cons h t) = cons h (all-from P n xs t)
 
-pub places-all : (P : ℕ × ℕ → Type 0) (n : ℕ) → All P (places n) → (ℓ i : ℕ) → ℓ < n → i < slots ℓ → P (ℓ, i)
+places-all : (P : ℕ × ℕ → Type 0) (n : ℕ) → All P (places n) → (ℓ i : ℕ) → ℓ < n → i < slots ℓ → P (ℓ, i)
 unfolding places
 places-all P zero h ℓ i k l = absurd (omega arith)
 places-all P (suc n) h ℓ i k l = go (ℕ-discrete ℓ n) (places-all P n (all-left (places n) (map (λ i. (n, i)) (below (2 ^ (n + 1)))) h) ℓ i)

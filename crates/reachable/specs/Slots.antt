@@ -9,26 +9,26 @@ use native.Mathlib.Omega.{arith}
 use lib.ListN.{length, length-map}
 use lib.Dec.{eqb, ltb}
 use borrow.Author.Tests.{eqb-true, eq-eqb, ltb-true, lt-ltb}
-use Rattle.lists.specs.Tests.{if_then_else_, and-l, and-r, and-true, or-true, or-left, or-right, both-true}
-use Rattle.lists.specs.Search.{find, keep, below}
+use Rattle.lists.specs.All.{keep-passes}
 use Rattle.lists.specs.Distinct.{Mem, NoDup}
 use Rattle.lists.specs.Members.{all-mem, keep-mem, mem-keep, nodup-below, mem-below, below-mem, mem-member, member-mem, map-mem, mem-map, nodup-sub, nodup-keep-map, nodup-map-suc, keep-same}
-use Rattle.lists.specs.All.{keep-passes}
-use Rattle.rules.specs.Shape.{cell, offset, slots}
-use Rattle.rules.specs.State.{State, stored}
+use Rattle.lists.specs.Search.{find, keep, below}
+use Rattle.lists.specs.Tests.{if_then_else_, and-l, and-r, and-true, or-true, or-left, or-right, both-true}
+use Rattle.rules.specs.Blocks.{entries, blocksIn}
+use Rattle.rules.specs.Laws.Layout.{offset-in}
+use Rattle.rules.specs.Laws.Levels.{sources-le}
 use Rattle.rules.specs.Levels.{sources}
 use Rattle.rules.specs.Rebuild
 use Rattle.rules.specs.Rebuild.{gathered, chosen}
-use Rattle.rules.specs.Blocks.{entries, blocksIn}
-use Rattle.rules.specs.Laws.Levels.{sources-le}
-use Rattle.rules.specs.Laws.Layout.{offset-in}
-use Rattle.reachable.specs.Live.{storedIn, isBelow}
+use Rattle.rules.specs.Shape.{cell, offset, slots}
+use Rattle.rules.specs.State.{State, stored}
+use Rattle.reachable.specs.Blocks.{lt-below, is-below, place-lt, stored-inj, nodup-in, in-why, why-in, Gathered}
 use Rattle.reachable.specs.Cells.{offset-of, offset-cell}
-use Rattle.reachable.specs.Invariant.{Stored}
-use Rattle.reachable.specs.Blocks.{Gathered, stored-inj, is-below, lt-below, place-lt, in-why, why-in, nodup-in}
+use Rattle.reachable.specs.Invariant.{Reached}
+use Rattle.reachable.specs.Live.{isBelow, storedIn}
 
 -- the front job's partition is one of the shape's
-pub front-in : (s : State) → Stored s → (q : ℕ) (rest : List ℕ) → s .queue ≡ q ∷ rest → q < s .shape .P
+pub front-in : (s : State) → Reached s → (q : ℕ) (rest : List ℕ) → s .queue ≡ q ∷ rest → q < s .shape .P
 front-in s f q rest e = all-mem (f .range .queue) q (rw e (inl refl))
 
 is-chosen : (o : Option ℕ) (b : ℕ) → Rebuild.isChosen o b ≡ true → o ≡ some b
@@ -40,7 +40,7 @@ chosen-is : (o : Option ℕ) (b : ℕ) → o ≡ some b → Rebuild.isChosen o b
 unfolding Rebuild.isChosen
 chosen-is o b e = rw e (eq-eqb b b refl)
 
-module _ (s : State) (f : Stored s) (q : ℕ) (hq : q < s .shape .P) where
+module _ (s : State) (f : Reached s) (q : ℕ) (hq : q < s .shape .P) where
   -- the slot of an entry that names a block is the block's place
   entry-at : (top j b : ℕ) → top ≤ s .shape .L → j < slots top - 2 → s .holds (cell (s .shape) q 0 j) ≡ suc b
       → (ℓ : ℕ) × (i : ℕ) × ((ℓ < top) × (offset ℓ i ≡ j) × (b < s .shape .N) × (s .partition b ≡ q) × (s .place b ≡ stored ℓ i))
@@ -52,14 +52,14 @@ module _ (s : State) (f : Stored s) (q : ℕ) (hq : q < s .shape .P) where
       let a = f .agree .held q (r .0) (r .1) b hq hℓ (r .2 .1) e′ in
       (r .0, r .1, (r .2 .0, r .2 .2, omega (arith, f .range .holds q (r .0) (r .1) hq hℓ (r .2 .1), e′), a .0, a .1))
 
-  pub entry-why : (top b : ℕ) → top ≤ s .shape .L → Mem (suc b) (entries s q top) → (b < s .shape .N) × (s .partition b ≡ q) × (isBelow top (s .place b) ≡ true)
+  entry-why : (top b : ℕ) → top ≤ s .shape .L → Mem (suc b) (entries s q top) → (b < s .shape .N) × (s .partition b ≡ q) × (isBelow top (s .place b) ≡ true)
   unfolding entries
   entry-why top b ht m =
       let r = mem-map (λ j. s .holds (cell (s .shape) q 0 j)) (suc b) (below (slots top - 2)) m in
       let x = entry-at top (r .0) b ht (mem-below (slots top - 2) (r .0) (r .1 .0)) (sym (r .1 .1)) in
       (x .2 .2, x .2 .3, lt-below top (x .0) (x .1) (s .place b) (x .2 .4) (x .2 .0))
 
-  pub why-entry : (top b : ℕ) → b < s .shape .N → s .partition b ≡ q → isBelow top (s .place b) ≡ true → Mem (suc b) (entries s q top)
+  why-entry : (top b : ℕ) → b < s .shape .N → s .partition b ≡ q → isBelow top (s .place b) ≡ true → Mem (suc b) (entries s q top)
   unfolding entries
   why-entry top b hb e k =
       let x = is-below top (s .place b) (k) in
@@ -84,7 +84,7 @@ module _ (s : State) (f : Stored s) (q : ℕ) (hq : q < s .shape .P) where
       omega (arith, u .2 .1, v .2 .1, w .1, ap slots (w .0))
 
   -- Document 01: q stores so many blocks. The slots that hold a block are as many as the blocks that have their place there
-  pub held-stored : (top : ℕ) → top ≤ s .shape .L → blocksIn s q top ≡ length (storedIn s q top)
+  held-stored : (top : ℕ) → top ≤ s .shape .L → blocksIn s q top ≡ length (storedIn s q top)
   unfolding blocksIn
   held-stored top ht = omega (
     arith,

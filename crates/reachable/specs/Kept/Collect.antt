@@ -1,33 +1,34 @@
 -- A collect keeps the invariant.
 use mathlib.Core.Path.{_≡_, refl, ap, sym, _∙_, fun-ext}
 use mathlib.Core.Logic.{_⊎_, inl, inr, ⊎-elim}
-use mathlib.Core.Bool.{true, not, true≢false}
+use mathlib.Core.Bool.{true, false, not, true≢false}
 use mathlib.Core.List.{List, [], _∷_, _++_}
-use mathlib.Core.Option.{Option, some}
-use Prim.Native.Nat.{ℕ, zero, suc, _%_, _^_, _≤_, _<_}
+use mathlib.Core.Option.{some}
+use Prim.Native.Nat.{ℕ, suc, _+_, _%_, _^_, _≤_, _<_, zero, _-_}
 use native.Mathlib.Omega.{arith}
 use native.Mathlib.Decide.{ℕ-discrete}
 use lib.Dec.{eqb}
-use borrow.Author.Tests.{eq-eqb}
-use Rattle.lists.specs.Tables.{put, put-same, put-other}
-use Rattle.lists.specs.All.{IfSome, keep-passes}
+use borrow.Author.Tests.{eq-eqb, eqb-false}
+use Rattle.lists.specs.All.{all-map, all-both, keep-passes}
 use Rattle.lists.specs.Distinct.{Mem}
 use Rattle.lists.specs.Members.{all-mem, keep-mem, nodup-keep, nodup-snoc, nodup-sub, append-mem, member-append, append-right}
+use Rattle.lists.specs.Tables.{put, put-same, put-other}
 use Rattle.lists.specs.Totals.{total-le}
-use Rattle.rules.specs.Shape.{Shape, cell, slots}
-use Rattle.rules.specs.State.{State, Place, nowhere, stored, Request}
-use Rattle.rules.specs.Ranges.{others}
-use Rattle.rules.specs.Levels.{filled}
+use Rattle.rules.specs.Collect
 use Rattle.rules.specs.Collect.{finish, emptied}
-use Rattle.rules.specs.Laws.Range.{InRange, RequestIn}
+use Rattle.rules.specs.Laws.Range.{InRange}
+use Rattle.rules.specs.Levels.{filled, sources}
+use Rattle.rules.specs.Ranges.{others}
+use Rattle.rules.specs.Shape.{slots, Shape, cell, offset}
+use Rattle.rules.specs.State.{State, Request, Place, nowhere, stored}
+use Rattle.reachable.specs.Blocks.{not-nowhere, stored-inj, at-why, why-at, in-why, why-in, nodup-at, nodup-in}
+use Rattle.reachable.specs.Consequences.{block-lt, finished-read, finished-quiet}
+use Rattle.reachable.specs.Invariant.{Reached, Waiting, Items, Agree, storedAt, isIn, Room, Full, taken, Taken, holdsOf, Reads, Unread, Commands}
 use Rattle.reachable.specs.Live
-use Rattle.reachable.specs.Live.{counted, pending, drawn, undrawn, counted-calm}
-use Rattle.reachable.specs.Pending.{pending-more, undrawn-append, front-append, front-more, Filled}
-use Rattle.reachable.specs.Invariant.{Waiting, Agree, Counts, Taken, Reads, Stored, storedAt, isIn, taken, holdsOf}
-use Rattle.reachable.specs.Blocks.{at-why, why-at, in-why, why-in, nodup-at, nodup-in, stored-inj, not-nowhere}
-use Rattle.reachable.specs.Steps.{passed-why}
+use Rattle.reachable.specs.Live.{counted, counted-calm, drawn, pending, undrawn, Gathers, isFront}
+use Rattle.reachable.specs.Pending.{Filled, front-more, front-append, pending-more, undrawn-append, passed-why}
 
-module _ (s : State) (f : Stored s) (r : Request) (inHand : s .request ≡ some r) where
+module _ (s : State) (f : Reached s) (r : Request) (inHand : s .request ≡ some r) (done : Collect.finished s r ≡ true) where
   abbrev h : Shape
   h = s .shape
 
@@ -41,16 +42,13 @@ module _ (s : State) (f : Stored s) (r : Request) (inHand : s .request ≡ some 
   more = s .partition b ∷ r .evict ∷ []
 
   hb : b < h .N
-  hb = in-range (s .request) inHand (f .range .request)
-    where
-      in-range : (o : Option Request) → o ≡ some r → IfSome (RequestIn h) o → r .block < h .N
-      in-range o e k = let k′ : RequestIn h r = rw e at k in k′ .block
+  hb = block-lt s f r inHand
 
-  pub filled-queue : Filled (s .queue) (s .sent)
+  filled-queue : Filled (s .queue) (s .sent)
   filled-queue n = let x = f .begun n in (x .0, x .1, x .2 .0)
 
-  pub collect-counted : counted s′ ≡ counted s
-  collect-counted = fun-ext (λ p. go p (ℕ-discrete (s .sent) 0))
+  counted-kept : counted s′ ≡ counted s
+  counted-kept = fun-ext (λ p. go p (ℕ-discrete (s .sent) 0))
     where
       go : (p : ℕ) → Dec (s .sent ≡ 0) → counted s′ p ≡ counted s p
       go p (yes e) = unfold finish in (counted-calm s′ p e ∙ sym (counted-calm s p e))
@@ -72,9 +70,9 @@ module _ (s : State) (f : Stored s) (r : Request) (inHand : s .request ≡ some 
   pub other-block : (x ℓ i : ℕ) → s′ .place x ≡ stored ℓ i → ¬ (x ≡ b)
   other-block x ℓ i e w = not-nowhere ℓ i (sym place-same ∙ sym (ap (s′ .place) w) ∙ e)
 
-  collect-waiting : Waiting (s′ .waiting) (s′ .place)
+  waiting-kept : Waiting (s′ .waiting) (s′ .place)
   unfolding finish others
-  collect-waiting = record {
+  waiting-kept = record {
     once = nodup-snoc (others (s .waiting) b) b (nodup-keep _ (s .waiting) (f .waiting .once))
         (λ m. true≢false (sym (all-mem (keep-passes (λ a. not (eqb a b)) (s .waiting)) b m) ∙ ap not (eq-eqb b b refl)));
     absent = λ x m. go x (ℕ-discrete x b) (append-mem x (others (s .waiting) b) (b ∷ []) m);
@@ -111,14 +109,45 @@ module _ (s : State) (f : Stored s) (r : Request) (inHand : s .request ≡ some 
           by (yes w) = absurd (let z : 0 ≡ suc x = sym (ap (put (cell h (s .partition b) m j) 0 (s .holds)) w ∙ put-same (cell h (s .partition b) m j) 0 (s .holds)) ∙ e in omega arith)
           by (no w) = (sym (put-other (cell h (s .partition b) m j) 0 (s .holds) c w) ∙ e, λ m′ j′ z v. let u = stored-inj m m′ j j′ (sym k ∙ z) in w (v ∙ rw (u .0, u .1)))
 
-  collect-agree : Agree h (counted s′) (s′ .partition) (s′ .place) (s′ .holds)
-  collect-agree = record { placed = placed; held = held }
+  -- a slot that holds nothing held nothing before, or has been read: the block's own slot
+  holds-gone : (c : ℕ) → s′ .holds c ≡ 0 → (s .holds c ≡ 0) ⊎ (s .mark c ≡ 0)
+  unfolding finish emptied
+  holds-gone c e = go (s .place b) refl e
+    where
+      go : (y : Place) → s .place b ≡ y → emptied (cell h (s .partition b)) y (s .holds) c ≡ 0 → (s .holds c ≡ 0) ⊎ (s .mark c ≡ 0)
+      go nowhere k e = inl e
+      go (stored m j) k e = by (ℕ-discrete c (cell h (s .partition b) m j))
+        where
+          by : Dec (c ≡ cell h (s .partition b) m j) → (s .holds c ≡ 0) ⊎ (s .mark c ≡ 0)
+          by (yes w) = inr (ap (s .mark) w ∙ finished-read s f r m j inHand done k)
+          by (no w) = inl (sym (put-other (cell h (s .partition b) m j) 0 (s .holds) c w) ∙ e)
+
+  items-kept : Items h (counted s′) (s .order) (s .mark) (s′ .holds)
+  items-kept q ℓ hq hℓ e =
+      let x = f .items q ℓ hq hℓ (rw counted-kept at e) in (
+        x .0,
+        record {
+          few = x .1 .few;
+          blocks = λ k l hk z. ⊎-elim (x .1 .blocks k l hk) (λ w. w) (holds-gone _ z);
+          dummies = λ k l hk. none-more _ (x .1 .dummies k l hk);
+        },
+      )
+    where
+      none-more : (c : ℕ) → s .holds c ≡ 0 → s′ .holds c ≡ 0
+      none-more c z = go (s′ .holds c) refl
+        where
+          go : (v : ℕ) → s′ .holds c ≡ v → s′ .holds c ≡ 0
+          go zero w = w
+          go (suc x) w = absurd (omega (arith, holds-before c x w .0))
+
+  agree-kept : Agree h (counted s′) (s′ .partition) (s′ .place) (s′ .holds)
+  agree-kept = record { placed = placed; held = held }
     where
       placed : (x ℓ i : ℕ) → x < h .N → s′ .place x ≡ stored ℓ i → (filled (counted s′ (s′ .partition x)) ℓ ≡ true) × (s′ .holds (cell h (s′ .partition x) ℓ i) ≡ suc x)
       placed x ℓ i hx e =
           let n = other-block x ℓ i e in
           let a = f .agree .placed x ℓ i hx (sym (place-other x n) ∙ e) in
-          rw (partition-other x n, collect-counted) (a .0, holds-other (cell h (s .partition x) ℓ i) x (a .1) n)
+          rw (partition-other x n, counted-kept) (a .0, holds-other (cell h (s .partition x) ℓ i) x (a .1) n)
 
       held : (q ℓ i x : ℕ) → q < h .P → ℓ < h .L → i < slots ℓ → s′ .holds (cell h q ℓ i) ≡ suc x → (s′ .partition x ≡ q) × (s′ .place x ≡ stored ℓ i)
       held q ℓ i x hq hℓ hi k =
@@ -141,11 +170,11 @@ module _ (s : State) (f : Stored s) (r : Request) (inHand : s .request ≡ some 
       go (yes w) y = absurd (true≢false (sym (y .2) ∙ ap (Live.isBelow top) (ap (s′ .place) w ∙ place-same) ∙ unfold Live.isBelow in refl))
       go (no w) y = why-in s p top x (y .0) (sym (partition-other x w) ∙ y .1) (ap (Live.isBelow top) (sym (place-other x w)) ∙ y .2)
 
-  collect-counts : Counts s′
-  collect-counts = record {
-    room = λ p ℓ. omega (arith, f .counts .room p ℓ, nodup-sub (storedAt s′ p ℓ) (storedAt s p ℓ) (nodup-at s′ p ℓ) (stays-at p ℓ));
-    full = λ p. unfold finish in (omega (arith, f .counts .full p, nodup-sub (Live.storedIn s′ p (h .L)) (Live.storedIn s p (h .L)) (nodup-in s′ p (h .L)) (stays-in p (h .L))));
-  }
+  room-kept : Room s′
+  room-kept = λ p ℓ. omega (arith, f .room p ℓ, nodup-sub (storedAt s′ p ℓ) (storedAt s p ℓ) (nodup-at s′ p ℓ) (stays-at p ℓ))
+
+  full-kept : Full s′
+  full-kept = λ p. unfold finish in (omega (arith, f .full p, nodup-sub (Live.storedIn s′ p (h .L)) (Live.storedIn s p (h .L)) (nodup-in s′ p (h .L)) (stays-in p (h .L))))
 
   taken-less : (c : ℕ) → taken (s′ .holds c) ≤ taken (s .holds c)
   unfolding taken
@@ -155,13 +184,13 @@ module _ (s : State) (f : Stored s) (r : Request) (inHand : s .request ≡ some 
       go zero e = omega arith
       go (suc x) e = rw (holds-before c x e .0) (omega arith)
 
-  collect-taken : Taken h (s′ .holds)
+  taken-kept : Taken h (s′ .holds)
   unfolding holdsOf
-  collect-taken p ℓ hp hℓ = omega (arith, f .taken p ℓ hp hℓ, total-le (slots ℓ) (λ i. taken (s′ .holds (cell h p ℓ i))) (λ i. taken (s .holds (cell h p ℓ i))) (λ i hi. taken-less (cell h p ℓ i)))
+  taken-kept p ℓ hp hℓ = omega (arith, f .taken p ℓ hp hℓ, total-le (slots ℓ) (λ i. taken (s′ .holds (cell h p ℓ i))) (λ i. taken (s .holds (cell h p ℓ i))) (λ i hi. taken-less (cell h p ℓ i)))
 
-  collect-reads : Reads s′
+  reads-kept : Reads s′
   unfolding finish
-  collect-reads p m hp hm e = ⊎-elim (λ g. inl (front-append (s .queue) more p (g .0), g .1, g .2)) (λ k. inr (omega (arith, less, ap (λ c. c p % 2 ^ m) collect-counted))) (f .reads p m hp hm (rw collect-counted at e))
+  reads-kept p m hp hm e = ⊎-elim (λ g. inl (front-append (s .queue) more p (g .0), g .1, g .2)) (λ k. inr (omega (arith, less, ap (λ c. c p % 2 ^ m) counted-kept))) (f .reads p m hp hm (rw counted-kept at e))
     where
       less : pending s p m ≤ pending s′ p m
       less = pending-more s s′ p m
@@ -169,15 +198,63 @@ module _ (s : State) (f : Stored s) (r : Request) (inHand : s .request ≡ some 
           (λ k. let w = passed-why (s .partition) (s .request) r p m inHand k in
           inl (rw (undrawn-append (s .queue) more (s .sent) filled-queue) (append-right p (undrawn (s .queue) (s .sent)) more (inl (sym (w .0))))))
 
-  pub collect-kept : InRange s′ → Stored s′
+  gathers-still : (p ℓ : ℕ) → Gathers s p ℓ → Gathers s′ p ℓ
+  unfolding finish
+  gathers-still p ℓ k = (front-append (s .queue) more p (k .0), k .1, k .2)
+
+  unread-kept : Unread s′
+  unfolding finish
+  unread-kept x m j hx e =
+      let n = other-block x m j e in
+      let v = partition-other x n in
+      ⊎-elim (λ k. inl (ap (λ p. s .mark (cell (s .shape) p m j)) v ∙ k))
+      (λ k. ⊎-elim
+      (λ a. let w : a .0 ≡ r = cc (a .1 .0, inHand) in absurd (n (sym (a .1 .1) ∙ ap (λ (y : Request). y .block) w)))
+      (λ a. inr (inr (rw v (gathers-still (s .partition x) m a)))) k)
+      (f .unread x m j hx (sym (place-other x n) ∙ e))
+
+  still-scanned : (l : List ℕ) → s .queue ≡ l → (q ℓ i : ℕ) → isFront (s .queue ++ more) q ≡ true → s .sent ≡ 0 → ℓ < sources (s .shape) (s .counter q) → i < slots ℓ → offset ℓ i < s .cursor
+      → s .mark (cell (s .shape) q ℓ i) ≡ 0
+  still-scanned [] e q ℓ i a z l hi c = absurd (omega (arith, f .jobless e))
+  still-scanned (x ∷ xs) e q ℓ i a z l hi c = f .scanned q ℓ i (sym (front-more (s .queue) more q x xs e) ∙ a) z l hi c
+
+  longer : (l : List ℕ) → l ++ more ≡ [] → _≡_ {A = ℕ} 0 1
+  longer [] e = cc
+  longer (x ∷ xs) e = cc
+
+  commands-kept : Commands s′
+  unfolding finish
+  commands-kept = all-map (λ c k. ⊎-elim
+      (λ a. inl (record {
+        kind = a .kind;
+        isRead = a .isRead;
+        full = a .full;
+        whose = ⊎-elim
+            (λ p. let w = passed-why (s .partition) (s .request) r (c .partition) (c .level) inHand p in absurd (eqb-false (c .partition) (s .partition (r .block)) (k .1) (sym (w .0))))
+            (λ n. inr (gathers-still (c .partition) (c .level) n)) (a .whose);
+      }))
+      (λ a. inr (record { kind = a .kind; front = front-append (s .queue) more (c .partition) (a .front); busy = a .busy; goal = a .goal; slot = a .slot })) (k .0))
+      (all-both (f .commands) (finished-quiet s f r done))
+
+  pub collect-kept : InRange s′ → Reached s′
   unfolding finish
   collect-kept range = record {
     range = range;
+    waiting = waiting-kept;
+    orders = unfold finish in (rw counted-kept (f .orders));
+    items = items-kept;
+    agree = agree-kept;
+    room = room-kept;
+    full = full-kept;
+    taken = taken-kept;
     begun = λ n. let x = f .begun n in (x .0, x .1 ++ more, (ap (λ l. l ++ more) (x .2 .0), x .2 .1));
-    waiting = collect-waiting;
-    orders = unfold finish in (rw collect-counted (f .orders));
-    agree = collect-agree;
-    counts = collect-counts;
-    taken = collect-taken;
-    reads = collect-reads;
+    reads = reads-kept;
+    unheld = λ x e. let z : _≡_ {A = ℕ} 0 1 = cc in absurd (omega arith);
+    unread = unread-kept;
+    fetched = λ x m j e. let z : _≡_ {A = ℕ} 0 1 = cc in absurd (omega arith);
+    scanned = still-scanned (s .queue) refl;
+    jobless = λ e. let z : _≡_ {A = ℕ} 0 1 = longer (s .queue) e in absurd (omega arith);
+    spent = λ p ℓ i a n l hi. let x = f .begun n in f .spent p ℓ i (sym (front-more (s .queue) more p (x .0) (x .1) (x .2 .0)) ∙ a) n l hi;
+    apart = f .apart;
+    commands = commands-kept;
   }

@@ -1,0 +1,194 @@
+-- What follows from the invariant, for the steps that keep it and for the crates above.
+use mathlib.Core.Path.{_≡_, refl, ap, sym, _∙_}
+use mathlib.Core.Logic.{⊎-elim, _⊎_, inl, inr}
+use mathlib.Core.Bool.{true, false, not, _&&_, true≢false, Bool}
+use mathlib.Core.List.{List, map}
+use mathlib.Core.Option.{Option, none, some}
+use Prim.Native.Nat.{ℕ, zero, suc, _-_, _<_}
+use native.Mathlib.Omega.{arith}
+use native.Mathlib.Decide.{decLt}
+use lib.Dec.{eqb}
+use lib.ListN.{length}
+use borrow.Author.Tests.{eqb-true, not-true, eqb-false, eq-eqb}
+use Rattle.lists.specs.All
+use Rattle.lists.specs.All.{All, IfSome, all-map, any-none}
+use Rattle.lists.specs.Distinct.{Mem}
+use Rattle.lists.specs.Members.{kept-none, not-member, all-mem}
+use Rattle.lists.specs.Search
+use Rattle.lists.specs.Search.{below, find, any}
+use Rattle.lists.specs.Tables.{put, put-has}
+use Rattle.lists.specs.Tests.{and-l, and-r, if_then_else_}
+use Rattle.rules.specs.Blocks
+use Rattle.rules.specs.Collect
+use Rattle.rules.specs.Laws.Levels.{levels-pos, sources-le}
+use Rattle.rules.specs.Laws.Range.{RequestIn}
+use Rattle.rules.specs.Levels.{filled, sources}
+use Rattle.rules.specs.Request
+use Rattle.rules.specs.Shape.{cell, slots, offset}
+use Rattle.rules.specs.State.{State, Command, stored, Request, cmd, read, Place, nowhere}
+use Rattle.reachable.specs.Bits.{source-filled}
+use Rattle.reachable.specs.Blocks.{place-lt}
+use Rattle.reachable.specs.Decided.{Rebuilds, RequestReads, JobReads}
+use Rattle.reachable.specs.Invariant.{Reached, Reading, Own, Items, Writing}
+use Rattle.reachable.specs.Live.{passedBy, isFront, front-mem, counted, counted-other, not-front, front-is, Gathers}
+use Rattle.reachable.specs.Pending.{passed-none, passed-why}
+use Rattle.reachable.specs.Terms.{Elsewhere}
+
+pub slot-own : (ℓ i : ℕ) (x : Place) → Request.slotIn ℓ x ≡ some i → x ≡ stored ℓ i
+unfolding Request.slotIn
+slot-own ℓ i nowhere e = let z : _≡_ {A = ℕ} 0 1 = cc in absurd (omega arith)
+slot-own ℓ i (stored m j) e = go (eqb m ℓ) refl e
+  where
+    go : (t : Bool) → eqb m ℓ ≡ t → (if t then some j else none) ≡ some i → stored m j ≡ stored ℓ i
+    go true k e = let w : j ≡ i = cc in let v : m ≡ ℓ = eqb-true m ℓ k in rw (w, v)
+    go false k e = let z : _≡_ {A = ℕ} 0 1 = cc in absurd (omega arith)
+
+pub own-slot : (ℓ i : ℕ) → Request.slotIn ℓ (stored ℓ i) ≡ none → ⊥
+unfolding Request.slotIn
+own-slot ℓ i e = let e′ : some i ≡ none = rw (eq-eqb ℓ ℓ refl) at e in let z : _≡_ {A = ℕ} 0 1 = cc in omega arith
+
+pub named-zero : (n : ℕ) → Search.isNone (Blocks.named n) ≡ true → n ≡ 0
+unfolding Blocks.named Search.isNone
+named-zero zero e = refl
+named-zero (suc n) e = absurd (true≢false (sym e))
+
+pub dummy-free : (s : State) (q ℓ i : ℕ) → Request.dummy s q ℓ ≡ some i → (s .mark (cell (s .shape) q ℓ i) ≡ 1) × (s .holds (cell (s .shape) q ℓ i) ≡ 0)
+unfolding Request.dummy Blocks.isUnread Blocks.holder
+dummy-free s q ℓ i e = go (find test slotsOf) e (All.find-passes test slotsOf)
+  where
+    test : ℕ → Bool
+    test j = eqb (s .mark (cell (s .shape) q ℓ j)) 1 && Search.isNone (Blocks.named (s .holds (cell (s .shape) q ℓ j)))
+
+    slotsOf : List ℕ
+    slotsOf = map (λ k. s .order (cell (s .shape) q ℓ k)) (below (slots ℓ))
+
+    go : (o : Option ℕ) → o ≡ some i → IfSome (λ x. test x ≡ true) o → (s .mark (cell (s .shape) q ℓ i) ≡ 1) × (s .holds (cell (s .shape) q ℓ i) ≡ 0)
+    go o k h =
+        let h′ : test i ≡ true = rw k at h in (
+          eqb-true (s .mark (cell (s .shape) q ℓ i)) 1 (and-l (eqb (s .mark (cell (s .shape) q ℓ i)) 1) (Search.isNone (Blocks.named (s .holds (cell (s .shape) q ℓ i)))) h′),
+          named-zero (s .holds (cell (s .shape) q ℓ i)) (and-r (eqb (s .mark (cell (s .shape) q ℓ i)) 1) (Search.isNone (Blocks.named (s .holds (cell (s .shape) q ℓ i)))) h′),
+        )
+
+pub block-lt : (s : State) → Reached s → (r : Request) → s .request ≡ some r → r .block < s .shape .N
+block-lt s f r e = go (s .request) e (f .range .request)
+  where
+    go : (o : Option Request) → o ≡ some r → IfSome (RequestIn (s .shape)) o → r .block < s .shape .N
+    go o e k = let k′ : RequestIn (s .shape) r = rw e at k in k′ .block
+
+named-is : (n b : ℕ) → Blocks.named n ≡ some b → n ≡ suc b
+unfolding Blocks.named
+named-is zero b e = let z : _≡_ {A = ℕ} 0 1 = cc in absurd (omega arith)
+named-is (suc n) b e = let w : n ≡ b = cc in ap suc w
+
+module _ (s : State) (f : Reached s) where
+  -- A block has its place where a slot holds it
+  pub holder-place : (q ℓ i b : ℕ) → q < s .shape .P → ℓ < s .shape .L → i < slots ℓ → Blocks.holder s q ℓ i ≡ some b → (s .partition b ≡ q) × (s .place b ≡ stored ℓ i)
+  unfolding Blocks.holder
+  holder-place q ℓ i b hq hℓ hi k = f .agree .held q ℓ i b hq hℓ hi (named-is (s .holds (cell (s .shape) q ℓ i)) b k)
+
+  pub place-holder : (b ℓ i : ℕ) → b < s .shape .N → s .place b ≡ stored ℓ i → Blocks.holder s (s .partition b) ℓ i ≡ some b
+  unfolding Blocks.holder Blocks.named
+  place-holder b ℓ i hb e = ap Blocks.named (f .agree .placed b ℓ i hb e .1)
+
+  -- The partition of a request that has sent a read has no job
+  passed-away : (p ℓ : ℕ) → passedBy (s .partition) (s .request) p ℓ ≡ true → ¬ Mem p (s .queue)
+  unfolding Request.held
+  passed-away p ℓ k m = go (s .request) refl k
+    where
+      go : (o : Option Request) → s .request ≡ o → passedBy (s .partition) o p ℓ ≡ true → ⊥
+      go none e k = true≢false (sym k ∙ passed-none (s .partition) none p ℓ refl)
+      go (some r) e k =
+          let y = passed-why (s .partition) (some r) r p ℓ refl k in
+          ⊎-elim (λ z. omega (arith, y .1, z)) (λ z. not-member (s .partition (r .block)) (s .queue) z (rw (y .0) m)) (f .unheld r e)
+
+  -- beside a drawn job, an outstanding read is of another partition
+  pub reading-away : (c : Command) → Reading s c → (s .sent ≡ 0 → ⊥) → ¬ (isFront (s .queue) (c .partition) ≡ true)
+  reading-away c a busy e = ⊎-elim (λ k. passed-away (c .partition) (c .level) k (front-mem (s .queue) (c .partition) e)) (λ k. busy (k .1)) (a .whose)
+
+  -- A finished request has read its block's slot
+  pub finished-read : (r : Request) (ℓ i : ℕ) → s .request ≡ some r → Collect.finished s r ≡ true → s .place (r .block) ≡ stored ℓ i → s .mark (cell (s .shape) (s .partition (r .block)) ℓ i) ≡ 0
+  unfolding Collect.finished Request.levelsLeft Request.held
+  finished-read r ℓ i e done p = go (decLt ℓ (r .level))
+    where
+      q : ℕ
+      q = s .partition (r .block)
+
+      tests : (not (Request.held s r) && eqb (length (Request.levelsLeft s r)) 0) ≡ true
+      tests = and-l (not (Request.held s r) && eqb (length (Request.levelsLeft s r)) 0) _ done
+
+      unheld : Request.held s r ≡ false
+      unheld = not-true (Request.held s r) (and-l (not (Request.held s r)) (eqb (length (Request.levelsLeft s r)) 0) tests)
+
+      hb : r .block < s .shape .N
+      hb = block-lt s f r e
+
+      top : ℓ < s .shape .L
+      top = place-lt (s .shape .L) ℓ i (s .place (r .block)) (f .range .places (r .block) hb) p .0
+
+      full : filled (s .counter q) ℓ ≡ true
+      full = ap (λ n. filled n ℓ) (sym (counted-other s q (not-front (s .queue) q (not-member q (s .queue) unheld)))) ∙ f .agree .placed (r .block) ℓ i hb p .0
+
+      go : Dec (ℓ < r .level) → s .mark (cell (s .shape) q ℓ i) ≡ 0
+      go (yes l) = f .fetched r ℓ i e p l
+      go (no l) = absurd (true≢false (sym full ∙ kept-none (filled (s .counter q)) (r .level) (s .shape .L - r .level) ℓ
+          (eqb-true (length (Request.levelsLeft s r)) 0 (and-r (not (Request.held s r)) (eqb (length (Request.levelsLeft s r)) 0) tests)) (omega arith) (omega (arith, top))))
+
+  -- ..and no command of its partition is outstanding
+  pub finished-quiet : (r : Request) → Collect.finished s r ≡ true → All (λ (c : Command). eqb (c .partition) (s .partition (r .block)) ≡ false) (s .outstanding)
+  unfolding Collect.finished
+  finished-quiet r done = any-none _ (s .outstanding) (not-true (any (λ (c : Command). eqb (c .partition) (s .partition (r .block))) (s .outstanding))
+      (and-r (not (Request.held s r) && eqb (length (Request.levelsLeft s r)) 0) (not (any (λ (c : Command). eqb (c .partition) (s .partition (r .block))) (s .outstanding))) done))
+
+  -- When an order is drawn, every slot of the sources is read
+  pub sources-read : (q t : ℕ) → Rebuilds s q t → (ℓ i : ℕ) → ℓ < sources (s .shape) (s .counter q) → i < slots ℓ → s .mark (cell (s .shape) q ℓ i) ≡ 0
+  unfolding Blocks.isUnread
+  sources-read q t d ℓ i l hi = go (decLt (offset ℓ i) (s .cursor))
+    where
+      front : isFront (s .queue) q ≡ true
+      front = rw (d .front) (front-is q (d .rest))
+
+      go : Dec (offset ℓ i < s .cursor) → s .mark (cell (s .shape) q ℓ i) ≡ 0
+      go (yes c) = f .scanned q ℓ i front (d .calm) l hi c
+      go (no c) =
+          let u : s .mark (cell (s .shape) q ℓ i) ≡ 1 → ⊥ = eqb-false (s .mark (cell (s .shape) q ℓ i)) 1 (d .read ℓ i l hi (omega arith)) in
+          omega (arith, f .range .marks q ℓ i (all-mem (f .range .queue) q (front-mem (s .queue) q front)) (omega (arith, sources-le (s .shape) (s .counter q))) hi)
+
+  -- A request's read: its partition has no job, and its slot is unread
+  module _ (q ℓ i : ℕ) (d : RequestReads s q ℓ i) where
+    pub unqueued : ¬ Mem q (s .queue)
+    unqueued m = not-member (s .partition (d .asked .block)) (s .queue) (unfold Request.held in (d .unheld)) (rw (d .part) m)
+
+    pub request-unread : s .mark (cell (s .shape) q ℓ i) ≡ 1
+    request-unread = ⊎-elim (λ e. own (f .unread (d .asked .block) ℓ i (block-lt s f (d .asked) (d .inHand)) (slot-own ℓ i (s .place (d .asked .block)) e))) (λ e. dummy-free s q ℓ i (e .1) .0) (d .slot)
+      where
+        own : (s .mark (cell (s .shape) (s .partition (d .asked .block)) ℓ i) ≡ 1) ⊎ (Own s (d .asked .block) ℓ ⊎ Gathers s (s .partition (d .asked .block)) ℓ) → s .mark (cell (s .shape) q ℓ i) ≡ 1
+        own (inl m) = ap (λ p. s .mark (cell (s .shape) p ℓ i)) (sym (d .part)) ∙ m
+        own (inr (inl o)) = let w : o .0 ≡ d .asked = cc (o .1 .0, d .inHand) in absurd (omega (arith, o .1 .2, d .left, ap (λ (x : Request). x .level) w))
+        own (inr (inr k)) = absurd (unqueued (rw (← d .part) (front-mem (s .queue) (s .partition (d .asked .block)) (k .0))))
+
+  -- A job's read: its level is filled, and its slot is unread
+  module _ (q ℓ i : ℕ) (d : JobReads s q ℓ i) where
+    pub job-gathers : Gathers s q ℓ
+    job-gathers = (rw (d .front) (front-is q (d .rest)), d .calm, d .source)
+
+    pub job-full : filled (s .counter q) ℓ ≡ true
+    job-full = source-filled (s .shape) (s .counter q) (levels-pos (s .shape) (f .range .shape)) (f .range .counters q (all-mem (f .range .queue) q (front-mem (s .queue) q (job-gathers .0)))) ℓ (d .source)
+
+    pub job-unread : s .mark (cell (s .shape) q ℓ i) ≡ 1
+    job-unread = eqb-true _ 1 (unfold Blocks.isUnread in (d .unread))
+
+-- A slot that counts as read still does when another read is sent
+pub still-read : (x c : ℕ) (mark : ℕ → ℕ) → mark c ≡ 0 → put x 0 mark c ≡ 0
+still-read x c mark e = put-has (λ v. v ≡ 0) x 0 mark c refl e
+
+pub read-items : (s : State) → Reached s → (x : ℕ) → Items (s .shape) (counted s) (s .order) (put x 0 (s .mark)) (s .holds)
+read-items s f x q ℓ hq hℓ e =
+    let r = f .items q ℓ hq hℓ e in
+    (r .0, record { few = r .1 .few; blocks = λ k l hk z. still-read x _ (s .mark) (r .1 .blocks k l hk z); dummies = r .1 .dummies })
+
+-- A read of an unread slot is in another slot than each outstanding command, if the writes are of other partitions
+pub read-apart : (s : State) → Reached s → (q ℓ i : ℕ) → s .mark (cell (s .shape) q ℓ i) ≡ 1 → ((c : Command) → Writing s c → ¬ (c .partition ≡ q)) → All (λ c. Elsewhere c (cmd read q ℓ i)) (s .outstanding)
+read-apart s f q ℓ i u n = all-map (λ c k w. ⊎-elim (λ a. omega (arith, sym (a .isRead) ∙ ap (s .mark) (same c w) ∙ u)) (λ a. n c a (w .0)) k) (f .commands)
+  where
+    same : (c : Command) → (c .partition ≡ q) × (c .level ≡ ℓ) × (c .slot ≡ i) → cell (s .shape) (c .partition) (c .level) (c .slot) ≡ cell (s .shape) q ℓ i
+    same c w = rw (w .0, w .1, w .2)

@@ -1,0 +1,122 @@
+-- A rebuild keeps the invariant: the commands outstanding, and all of it together.
+use mathlib.Core.Path.{_≡_, refl, ap, sym, _∙_}
+use mathlib.Core.Logic.{_⊎_, inl, inr, ⊎-elim}
+use mathlib.Core.Bool.{false}
+use mathlib.Core.List.{List}
+use Prim.Native.Nat.{ℕ, _<_, _-_}
+use native.Mathlib.Omega.{arith}
+use lib.Dec.{eqb}
+use lib.ListN.{getD}
+use borrow.Author.Tests.{eqb-false}
+use Rattle.lists.specs.All.{nil, cons, all-append, all-map, all-both}
+use Rattle.lists.specs.Distinct.{Mem, index}
+use Rattle.lists.specs.Members.{not-member, all-mem, decMem}
+use Rattle.rules.specs.Laws.Range.{InRange, CommandIn}
+use Rattle.rules.specs.Levels.{sources}
+use Rattle.rules.specs.Rebuild.{gathered, doRebuild}
+use Rattle.rules.specs.Request
+use Rattle.rules.specs.Shape.{slots, Shape, cell}
+use Rattle.rules.specs.State.{State, Command, write, Request, cmd, stored}
+use Rattle.rules.specs.Turn
+use Rattle.reachable.specs.Blocks.{place-lt, stored-inj, target-min, chosen-waits}
+use Rattle.reachable.specs.Consequences.{sources-read, block-lt}
+use Rattle.reachable.specs.Invariant.{Reached, Unread, Own, Spent, Fetched, Reading, Commands, storedAt}
+use Rattle.reachable.specs.Kept.Rebuild.Counts.{room-kept, full-kept}
+use Rattle.reachable.specs.Kept.Rebuild.Drawing.{Drawing, place-in, partition-in, place-out, above-target, top-lt, waiting-kept, orders-kept}
+use Rattle.reachable.specs.Kept.Rebuild.Holds.{agree-kept, taken-kept}
+use Rattle.reachable.specs.Kept.Rebuild.Marks.{mark-here, mark-else, items-kept, begun-kept, reads-kept}
+use Rattle.reachable.specs.Live
+use Rattle.reachable.specs.Live.{Gathers, front-eq, front-is, counted, drawn, pending}
+use Rattle.reachable.specs.Outstanding.{apart-snoc}
+use Rattle.reachable.specs.Slots.{gathered-why}
+use Rattle.reachable.specs.Terms.{Apart}
+
+module _ (s : State) (f : Reached s) (q t : ℕ) (o : List ℕ) (d : Drawing s q t o) (range : InRange (Turn.send (cmd write q t 0) (doRebuild q t o s))) where
+  abbrev h : Shape
+  h = s .shape
+
+  abbrev s′ : State
+  s′ = Turn.send (cmd write q t 0) (doRebuild q t o s)
+
+  unread-kept : Unread s′
+  unfolding Turn.send doRebuild
+  unread-kept b m j hx e = go (decMem b (gathered s q))
+    where
+      y : (m < h .L) × (j < slots m)
+      y = (place-lt (h .L) m j (s′ .place b) (range .places b hx) e)
+
+      go : Dec (Mem b (gathered s q)) → (s′ .mark (cell h (s .partition b) m j) ≡ 1) ⊎ (Own s b m ⊎ Gathers s′ (s .partition b) m)
+      go (yes k) =
+          let w = stored-inj t m (getD o (index b (gathered s q)) 0) j (sym (place-in s f q t o d b k) ∙ e) in
+          inl (mark-here s f q t o d (s .partition b) m j (sym (partition-in s f q t o d b k), w .0) (y .1))
+      go (no k) =
+          let e″ = sym (place-out s f q t o d b k) ∙ e in
+          let above = above-target s f q t o d b m j hx k e″ in
+          ⊎-elim (λ z. inl (mark-else s f q t o d (s .partition b) m j (y .0) (y .1) (λ w. let l = above (sym (w .0)) in omega (arith, w .1)) ∙ z))
+          (λ z. ⊎-elim (λ a. inr (inl a))
+          (λ a. let v = front-eq (s .partition b) q (s .queue) (d .step .rest) (d .step .front) (a .0) in
+          absurd (omega (arith, above v, a .2, d .step .goal, target-min h (s .counter q), ap (λ x. sources h (s .counter x)) v, y .0))) z)
+          (f .unread b m j hx e″)
+
+  spent-kept : Spent s′
+  unfolding Turn.send doRebuild
+  spent-kept p ℓ i a n l hi =
+      let v = front-eq p q (s .queue) (d .step .rest) (d .step .front) a in
+      let l′ : ℓ < t = rw (d .step .goal, ← v) l in
+      let u = sources-read s f q t (d .step) ℓ i (omega (arith, d .step .goal, target-min h (s .counter q))) hi in
+      mark-else s f q t o d p ℓ i (omega (arith, top-lt s f q t o d)) hi (λ w. omega (arith, w .1)) ∙ ap (λ x. s .mark (cell h x ℓ i)) v ∙ u
+
+  -- the request that has passed a level is for another partition
+  fetched-kept : Fetched s′
+  unfolding Turn.send doRebuild Request.held
+  fetched-kept r m j e p l =
+      let hx = block-lt s f r e in
+      let hq = all-mem (f .range .queue) q (rw (d .step .front) (inl refl)) in
+      let unheld : Request.held s r ≡ false = ⊎-elim (λ z. absurd (omega arith)) (λ u. u) (f .unheld r e) in
+      let away : ¬ (s .partition (r .block) ≡ q) = λ z. not-member (s .partition (r .block)) (s .queue) unheld (rw (d .step .front) (inl z)) in
+      let out : ¬ Mem (r .block) (gathered s q) = λ k. ⊎-elim (λ c. away (chosen-waits s q (r .block) c .0)) (λ c. away (c .0)) (gathered-why s f q hq (r .block) k) in
+      let old : s .place (r .block) ≡ stored m j = sym (place-out s f q t o d (r .block) out) ∙ p in
+      let y = place-lt (h .L) m j (s .place (r .block)) (f .range .places (r .block) hx) old in
+      mark-else s f q t o d (s .partition (r .block)) m j (y .0) (y .1) (λ w. away (sym (w .0))) ∙ f .fetched r m j e old l
+
+  reading-still : (c : Command) → Reading s c → eqb (c .partition) q ≡ false → CommandIn h c → Reading s′ c
+  unfolding Turn.send doRebuild
+  reading-still c a k z = record {
+    kind = a .kind;
+    isRead = mark-else s f q t o d (c .partition) (c .level) (c .slot) (z .level) (z .slot) (λ w. eqb-false (c .partition) q k (sym (w .0))) ∙ a .isRead;
+    full = a .full;
+    whose = ⊎-elim inl (λ n. absurd (eqb-false (c .partition) q k (front-eq (c .partition) q (s .queue) (d .step .rest) (d .step .front) (n .0)))) (a .whose);
+  }
+
+  apart-kept : Apart (s′ .outstanding)
+  unfolding Turn.send doRebuild
+  apart-kept = apart-snoc (cmd write q t 0) (f .apart) (all-map (λ c k w. eqb-false (c .partition) q k (w .0)) (d .step .quiet))
+
+  commands-kept : Commands s′
+  unfolding Turn.send doRebuild
+  commands-kept = all-append
+      (all-map (λ c k. ⊎-elim (λ a. inl (reading-still c a (k .1 .0) (k .1 .1))) (λ a. absurd (a .busy (d .step .calm))) (k .0)) (all-both (f .commands) (all-both (d .step .quiet) (f .range .outstanding))))
+      (cons (inr (record { kind = refl; front = rw (d .step .front) (front-is q (d .step .rest)); busy = λ e. omega arith; goal = d .step .goal; slot = omega arith })) nil)
+
+  pub rebuild-kept : Reached s′
+  unfolding Turn.send doRebuild counted drawn storedAt Live.storedIn pending Request.held
+  rebuild-kept = record {
+    range = range;
+    waiting = waiting-kept s f q t o d;
+    orders = orders-kept s f q t o d;
+    items = items-kept s f q t o d;
+    agree = agree-kept s f q t o d;
+    room = room-kept s f q t o d;
+    full = full-kept s f q t o d;
+    taken = taken-kept s f q t o d;
+    begun = begun-kept s f q t o d;
+    reads = reads-kept s f q t o d;
+    unheld = f .unheld;
+    unread = unread-kept;
+    fetched = fetched-kept;
+    scanned = λ p ℓ i a z. absurd (omega arith);
+    jobless = f .jobless;
+    spent = spent-kept;
+    apart = apart-kept;
+    commands = commands-kept;
+  }

@@ -1,0 +1,73 @@
+-- A job's further write keeps the invariant.
+use mathlib.Core.Path.{_≡_, refl, ap, fun-ext}
+use mathlib.Core.Logic.{_⊎_, inl, inr, ⊎-elim}
+use mathlib.Core.List.{List}
+use Prim.Native.Nat.{ℕ, suc, _%_, _^_, _≤_, _-_}
+use native.Mathlib.Omega.{arith}
+use borrow.Author.Tests.{ne-eqb}
+use Rattle.lists.specs.All.{nil, cons, all-append, all-map}
+use Rattle.rules.specs.Laws.Range.{InRange}
+use Rattle.rules.specs.Request
+use Rattle.rules.specs.State.{State, write, Request, cmd}
+use Rattle.rules.specs.Turn
+use Rattle.rules.specs.Turn.{writeNext, doStep}
+use Rattle.reachable.specs.Consequences.{reading-away}
+use Rattle.reachable.specs.Decided.{Writes}
+use Rattle.reachable.specs.Invariant.{Reached, Reads, Commands, storedAt}
+use Rattle.reachable.specs.Live
+use Rattle.reachable.specs.Live.{counted, drawn, pending, front-is}
+use Rattle.reachable.specs.Outstanding.{apart-snoc}
+use Rattle.reachable.specs.Pending.{pending-more, undrawn-busy}
+use Rattle.reachable.specs.Terms.{Apart}
+
+module _ (s : State) (f : Reached s) (q t i : ℕ) (d : Writes s q t i) (js : List ℕ) where
+  abbrev s′ : State
+  s′ = doStep (writeNext q t i) js s
+
+  counted-kept : counted s′ ≡ counted s
+  unfolding doStep Turn.send counted drawn
+  counted-kept = fun-ext (λ p. rw (ne-eqb (s .sent) 0 (d .busy), ne-eqb (suc i) 0 (omega arith)))
+
+  reads-kept : Reads s′
+  unfolding doStep Turn.send
+  reads-kept p m hp hm e = ⊎-elim (λ g. absurd (d .busy (g .1))) (λ k. inr (omega (arith, more, ap (λ c. c p % 2 ^ m) counted-kept))) (f .reads p m hp hm (rw counted-kept at e))
+    where
+      more : pending s p m ≤ pending s′ p m
+      more = pending-more s s′ p m (λ k. inl (rw (undrawn-busy (s .queue) (suc i) (s .sent) (λ z. omega arith) (d .busy)) k)) inr
+
+  apart-kept : Apart (s′ .outstanding)
+  unfolding doStep Turn.send
+  apart-kept = apart-snoc (cmd write q t i) (f .apart) (all-map (λ c k w. ⊎-elim
+      (λ a. reading-away s f c a (d .busy) (rw (w .0, d .front) (front-is q (d .rest))))
+      (λ a. omega (arith, a .slot, d .now, w .2)) k) (f .commands))
+
+  commands-kept : Commands s′
+  unfolding doStep Turn.send
+  commands-kept = all-append
+      (all-map (λ c k. ⊎-elim
+      (λ a. inl (record { kind = a .kind; isRead = a .isRead; full = a .full; whose = ⊎-elim inl (λ n. absurd (d .busy (n .1))) (a .whose) }))
+      (λ a. inr (record { kind = a .kind; front = a .front; busy = λ e. omega arith; goal = a .goal; slot = omega (arith, a .slot, d .now) })) k) (f .commands))
+      (cons (inr (record { kind = refl; front = rw (d .front) (front-is q (d .rest)); busy = λ e. omega arith; goal = d .goal; slot = omega arith })) nil)
+
+  pub write-kept : InRange s′ → Reached s′
+  unfolding doStep Turn.send storedAt Live.storedIn Request.held
+  write-kept range = record {
+    range = range;
+    waiting = f .waiting;
+    orders = rw counted-kept (f .orders);
+    items = rw counted-kept (f .items);
+    agree = rw counted-kept (f .agree);
+    room = f .room;
+    full = f .full;
+    taken = f .taken;
+    begun = λ n. (q, d .rest, (d .front, rw (← d .goal) (d .slot)));
+    reads = reads-kept;
+    unheld = f .unheld;
+    unread = λ b m j hx e. ⊎-elim inl (λ k. ⊎-elim (λ o. inr (inl o)) (λ n. absurd (d .busy (n .1))) k) (f .unread b m j hx e);
+    fetched = f .fetched;
+    scanned = λ p m j a z. absurd (omega arith);
+    jobless = f .jobless;
+    spent = λ p m j a n l hj. f .spent p m j a (d .busy) l hj;
+    apart = apart-kept;
+    commands = commands-kept;
+  }

@@ -1,0 +1,282 @@
+-- The commands sent to one slot over a run: each read of it follows a write of it.
+use mathlib.Core.Path.{_≡_, refl, ap, sym, _∙_}
+use mathlib.Core.Bool.{Bool, true, false, not, _&&_, true≢false, _||_}
+use mathlib.Core.List.{List, [], _∷_, _++_}
+use mathlib.Core.Option.{Option, none, some}
+use Prim.Native.Nat.{ℕ, suc, _<_}
+use native.Mathlib.Omega.{arith}
+use native.Mathlib.Decide.{ℕ-discrete}
+use lib.Dec.{eqb, ltb}
+use borrow.Author.Tests.{ltb-true, eqb-true, eqb-false, eq-eqb, ne-eqb, lt-ltb}
+use Rattle.lists.specs.All.{All, nil, cons}
+use Rattle.lists.specs.Search
+use Rattle.lists.specs.Search.{any}
+use Rattle.lists.specs.Tables.{put, put-same, put-other}
+use Rattle.lists.specs.Tests.{or-left, or-right, if_then_else_, and-l}
+use Rattle.rules.specs.Blocks
+use Rattle.rules.specs.Collect
+use Rattle.rules.specs.Completion
+use Rattle.rules.specs.Completion.{isCommand}
+use Rattle.rules.specs.Draws.{draws, newOrder}
+use Rattle.rules.specs.Laws.Answers.{Passed, opens, refuse-keeps, accepted-passed, step-accepted, step-refused}
+use Rattle.rules.specs.Laws.Decided.{StepIn, decide-in, stepBounds-pos}
+use Rattle.rules.specs.Laws.Kept.{drew-of, completed-in}
+use Rattle.rules.specs.Laws.Layout.{cell-inj}
+use Rattle.rules.specs.Laws.Orders.{Drew}
+use Rattle.rules.specs.Levels.{target}
+use Rattle.rules.specs.Open.{fresh}
+use Rattle.rules.specs.Questions
+use Rattle.rules.specs.Questions.{Ask, opening, request, turn, completion, collect, Call, bounds, number, questions}
+use Rattle.rules.specs.Ranges.{isKind}
+use Rattle.rules.specs.Rebuild.{doRebuild}
+use Rattle.rules.specs.Request
+use Rattle.rules.specs.Run
+use Rattle.rules.specs.Run.{Outcome, act, step, run}
+use Rattle.rules.specs.Shape.{Shape, cell, slots}
+use Rattle.rules.specs.State.{State, Command, cmd, read, write, Request, closed}
+use Rattle.rules.specs.Turn
+use Rattle.rules.specs.Turn.{Step, idle, noDummy, readForRequest, readForJob, rebuild, writeNext, decide, command, doStep}
+use Rattle.reachable.specs.Consequences.{request-unread, unqueued, job-unread}
+use Rattle.reachable.specs.Decided.{Decided, Rebuilds, decided}
+use Rattle.reachable.specs.Invariant.{Reached}
+use Rattle.reachable.specs.Kept.Completion.{completed-kept}
+use Rattle.reachable.specs.Kept.Rebuild.Drawing.{drawing}
+use Rattle.reachable.specs.Kept.Rebuild.Marks.{mark-else}
+use Rattle.reachable.specs.Live.{Target, front-mem, isFront, front-is, front-eq}
+use Rattle.reachable.specs.Outstanding.{decOne, is-command}
+use Rattle.reachable.specs.Pending.{front-more}
+use Rattle.reachable.specs.Reached.{Was, was-reached, step-was, shut, open-first}
+use Rattle.reachable.specs.Terms.{One, lastKind, EachAfterWrite}
+
+module _ (q ℓ i : ℕ) where
+  kind-here : (k : ℕ) (c : Command) → 0 < c .kind → One (c .partition) (c .level) (c .slot) q ℓ i → lastKind q ℓ i k c ≡ c .kind
+  unfolding lastKind
+  kind-here k c p w = rw (lt-ltb 0 (c .kind) p, eq-eqb (c .partition) q (w .0), eq-eqb (c .level) ℓ (w .1), eq-eqb (c .slot) i (w .2))
+
+  kind-else : (k : ℕ) (c : Command) → ¬ One (c .partition) (c .level) (c .slot) q ℓ i → lastKind q ℓ i k c ≡ k
+  unfolding lastKind
+  kind-else k c n = go (ltb 0 (c .kind)) (ℕ-discrete (c .partition) q) (ℕ-discrete (c .level) ℓ) (ℕ-discrete (c .slot) i)
+    where
+      go : (t : Bool) → Dec (c .partition ≡ q) → Dec (c .level ≡ ℓ) → Dec (c .slot ≡ i) → (if t && (eqb (c .partition) q && (eqb (c .level) ℓ && eqb (c .slot) i)) then c .kind else k) ≡ k
+      go false x y z = refl
+      go true (yes x) (yes y) (yes z) = absurd (n (x, y, z))
+      go true (no x) y z = rw (ne-eqb (c .partition) q x)
+      go true (yes x) (no y) z = rw (eq-eqb (c .partition) q x, ne-eqb (c .level) ℓ y)
+      go true (yes x) (yes y) (no z) = rw (eq-eqb (c .partition) q x, eq-eqb (c .level) ℓ y, ne-eqb (c .slot) i z)
+
+  kind-zero : (k : ℕ) (c : Command) → ltb 0 (c .kind) ≡ false → lastKind q ℓ i k c ≡ k
+  unfolding lastKind
+  kind-zero k c e = rw e
+
+  kind-none : (k : ℕ) → lastKind q ℓ i k (cmd 0 0 0 0) ≡ k
+  unfolding lastKind
+  kind-none k = refl
+
+  -- In a state, where k is the kind of the last command to the slot: an unread slot, but one of a drawn target to which no write was sent yet, was written last
+  abbrev Last : State → ℕ → Type 0
+  Last s k = ℓ < s .shape .L → i < slots ℓ → s .mark (cell (s .shape) q ℓ i) ≡ 1 → (Target s q ℓ → i < s .sent) → k ≡ write
+
+  -- A read of an unread slot outside a drawn target
+  module _ (s : State) (p m j : ℕ) (hm : m < s .shape .L) (hj : j < slots m) (un : s .mark (cell (s .shape) p m j) ≡ 1) (out : ¬ Target s p m) (k : ℕ) (fresh : Last s k) where
+    read-after : cmd read p m j ≡ cmd read q ℓ i → k ≡ write
+    read-after e =
+        let a : p ≡ q = ap (λ (c : Command). c .partition) e in
+        let b : m ≡ ℓ = ap (λ (c : Command). c .level) e in
+        let c : j ≡ i = ap (λ (c : Command). c .slot) e in
+        fresh (rw (← b) hm) (rw (← b, ← c) hj) (rw (← a, ← b, ← c) un) (λ t. absurd (out (rw (a, b) t)))
+
+    read-last : ℓ < s .shape .L → i < slots ℓ → put (cell (s .shape) p m j) 0 (s .mark) (cell (s .shape) q ℓ i) ≡ 1 → (Target s q ℓ → i < s .sent) → lastKind q ℓ i k (cmd read p m j) ≡ write
+    read-last hℓ hi u t = go (decOne p m j q ℓ i)
+      where
+        go : Dec (One p m j q ℓ i) → lastKind q ℓ i k (cmd read p m j) ≡ write
+        go (yes w) =
+            let same : cell (s .shape) q ℓ i ≡ cell (s .shape) p m j = rw (w .0, w .1, w .2) in
+            absurd (omega (arith, sym (put-same (cell (s .shape) p m j) 0 (s .mark)) ∙ ap (put (cell (s .shape) p m j) 0 (s .mark)) (sym same) ∙ u))
+        go (no w) = kind-else k (cmd read p m j) w ∙ fresh hℓ hi (sym (put-other (cell (s .shape) p m j) 0 (s .mark) (cell (s .shape) q ℓ i) (λ e. let x = cell-inj (s .shape) q p ℓ m i j hℓ hm hi hj e in w (sym (x .0), sym (x .1), sym (x .2)))) ∙ u) t
+
+  -- A turn
+  module _ (s : State) (f : Reached s) (k : ℕ) (fresh : Last s k) where
+    turn-last : (x : Step) (js : List ℕ) → Decided s x → StepIn (s .shape) x → Drew (Turn.stepBounds x) js → (command x ≡ cmd read q ℓ i → k ≡ write) × Last (doStep x js s) (lastKind q ℓ i k (command x))
+    unfolding command doStep Turn.stepBounds Turn.send Turn.markRead doRebuild
+    turn-last idle js d h w = ((λ e. absurd (omega (arith, ap (λ (c : Command). c .kind) e))), rw (kind-none k) fresh)
+    turn-last noDummy js d h w = ((λ e. absurd (omega (arith, ap (λ (c : Command). c .kind) e))), rw (kind-none k) fresh)
+    turn-last (readForRequest p m j) js d h w =
+        let un = request-unread s f p m j d in
+        let out : ¬ Target s p m = λ t. unqueued s f p m j d (front-mem (s .queue) p (t .0)) in
+        (read-after s p m j (h .1) (h .2) un out k fresh, read-last s p m j (h .1) (h .2) un out k fresh)
+    turn-last (readForJob p m j) js d h w =
+        let un = job-unread s f p m j d in
+        let out : ¬ Target s p m = λ t. t .1 (d .calm) in
+        (read-after s p m j (h .1) (h .2) un out k fresh, read-last s p m j (h .1) (h .2) un out k fresh)
+    turn-last (rebuild p t) js d h w = ((λ e. absurd (let z : _≡_ {A = ℕ} 2 1 = ap (λ (c : Command). c .kind) e in omega arith)), drawn-last p t js d w)
+      where
+        drawn-last : (p t : ℕ) (js : List ℕ) → Rebuilds s p t → Drew (Turn.stepBounds (rebuild p t)) js → Last (doStep (rebuild p t) js s) (lastKind q ℓ i k (cmd write p t 0))
+        drawn-last p t js d w hℓ hi u v = go (ℕ-discrete p q) (ℕ-discrete t ℓ)
+          where
+            other : ((p ≡ q) × (t ≡ ℓ) → ⊥) → lastKind q ℓ i k (cmd write p t 0) ≡ write
+            other n = kind-else k (cmd write p t 0) (λ z. n (z .0, z .1)) ∙ fresh hℓ hi (sym (mark-else s f p t (newOrder (slots t) js) (drawing s f p t js d w) q ℓ i hℓ hi n) ∙ u) (λ z. absurd (z .1 (d .calm)))
+
+            go : Dec (p ≡ q) → Dec (t ≡ ℓ) → lastKind q ℓ i k (cmd write p t 0) ≡ write
+            go (no a) b = other (λ z. a (z .0))
+            go (yes a) (no b) = other (λ z. b (z .1))
+            go (yes a) (yes b) =
+                let l : i < 1 = v (ap (isFront (s .queue)) (sym a) ∙ rw (d .front) (front-is p (d .rest)), (λ z. omega arith), sym b ∙ d .goal ∙ ap (λ x. target (s .shape) (s .counter x)) a) in
+                let z : 0 ≡ i = omega arith in
+                kind-here k (cmd write p t 0) (omega arith) (a, b, z)
+    turn-last (writeNext p t j) js d h w = ((λ e. absurd (let z : _≡_ {A = ℕ} 2 1 = ap (λ (c : Command). c .kind) e in omega arith)), λ hℓ hi u v. go hℓ hi u v (decOne p t j q ℓ i))
+      where
+        go : ℓ < s .shape .L → i < slots ℓ → s .mark (cell (s .shape) q ℓ i) ≡ 1 → (Target (doStep (writeNext p t j) js s) q ℓ → i < suc j) → Dec (One p t j q ℓ i) → lastKind q ℓ i k (cmd write p t j) ≡ write
+        go hℓ hi u v (yes z) = kind-here k (cmd write p t j) (omega arith) z
+        go hℓ hi u v (no z) = kind-else k (cmd write p t j) z ∙ fresh hℓ hi u (λ x. early x (v (x .0, (λ y. omega arith), x .2)))
+          where
+            early : Target s q ℓ → i < suc j → i < s .sent
+            early x l =
+                let a = front-eq q p (s .queue) (d .rest) (d .front) (x .0) in
+                let b : ℓ ≡ t = x .2 ∙ ap (λ y. target (s .shape) (s .counter y)) a ∙ sym (d .goal) in
+                let c : i ≡ j → ⊥ = λ y. z (sym a, sym b, sym y) in
+                omega (arith, d .now)
+
+    end-last : (p : ℕ) (rest : List ℕ) → s .queue ≡ p ∷ rest → s .sent ≡ slots (target (s .shape) (s .counter p)) → Last (Completion.endJob p rest s) k
+    unfolding Completion.endJob
+    end-last p rest e all hℓ hi u v = fresh hℓ hi u (λ z.
+        let a = front-eq q p (s .queue) rest e (z .0) in
+        let w : s .sent ≡ slots ℓ = all ∙ ap (λ x. slots (target (s .shape) (s .counter x))) (sym a) ∙ ap slots (sym (z .2)) in
+        omega (arith, w))
+
+    collect-last : (r : Option Request) → Last (Collect.collected r s) k
+    unfolding Collect.collected Collect.finish
+    collect-last none = fresh
+    collect-last (some r) = λ hℓ hi u v. fresh hℓ hi u (λ z. let x = f .begun (z .1) in
+        v (front-more (s .queue) (s .partition (r .block) ∷ r .evict ∷ []) q (x .0) (x .1) (x .2 .0) ∙ z .0, z .1, z .2))
+
+  complete-last : (s : State) → Reached s → (k : ℕ) → Last s k → (c : Command) (bs : List ℕ) → Last (Completion.complete c bs s) k
+  unfolding Completion.complete Completion.completeRead Completion.completeWrite Completion.completed Completion.gatherBytes Completion.finishJob Completion.jobDone
+  complete-last s f k fresh c bs = go (eqb (c .kind) 1) (Blocks.holder s (c .partition) (c .level) (c .slot)) (s .queue) refl
+    where
+      s′ : State
+      s′ = Completion.completed c s
+
+      f′ : Reached s′
+      f′ = completed-kept s f c (completed-in s (f .range) c)
+
+      ended : (p : ℕ) (qs : List ℕ) → s .queue ≡ p ∷ qs → (t : Bool) → Completion.jobDone s′ p ≡ t → Last (if t then Completion.endJob p qs s′ else s′) k
+      ended p qs e true z = end-last s′ f′ k fresh p qs e (eqb-true (s .sent) (slots (target (s .shape) (s .counter p))) (and-l (eqb (s .sent) (slots (target (s .shape) (s .counter p)))) (not (Search.any (λ (c : Command). eqb (c .kind) write) (s′ .outstanding))) z))
+      ended p qs e false z = fresh
+
+      go : (t : Bool) (b : Option ℕ) (qs : List ℕ) → s .queue ≡ qs → Last (if t then Completion.gatherBytes b bs s′ else Completion.finishJob qs s′) k
+      go true none qs e = fresh
+      go true (some b) qs e = fresh
+      go false b [] e = fresh
+      go false b (p ∷ qs) e = ended p qs e (Completion.jobDone s′ p) refl
+
+  -- An accepted call that is no open
+  module _ (s : State) (k memory : ℕ) (ws : List ℕ) (n : ℕ) (l : Was s) (last : Last s k) where
+    abbrev drawn : Ask → List ℕ
+    drawn a = Run.numbersOf (draws (bounds s a) ws)
+
+    call-last : (a : Ask) → opens a ≡ false → Passed (questions s a memory ws n) → (Run.sentCommand s a ≡ cmd read q ℓ i → k ≡ write) × Last (act s a (drawn a)) (lastKind q ℓ i k (Run.sentCommand s a))
+    unfolding act Run.sentCommand questions bounds opens
+    call-last (opening h) e p = absurd (true≢false e)
+    call-last (request j b bs) e p = ((λ e. absurd (omega (arith, ap (λ (c : Command). c .kind) e))), rw (kind-none k) (unfold Request.accept in last))
+    call-last turn e p =
+        let f = was-reached s memory l (p .0) in
+        turn-last s f k last (decide s) (drawn turn) (decided s) (decide-in s (f .range)) (drew-of (Turn.stepBounds (decide s)) ws (stepBounds-pos (decide s)) (p .1 .1 .1 .1 .0))
+    call-last (completion c bs) e p =
+        let f = was-reached s memory l (and-l (Questions.ready s memory) (isKind (c .kind)) (p .0)) in
+        ((λ e. absurd (omega (arith, ap (λ (c : Command). c .kind) e))), rw (kind-none k) (complete-last s f k last c bs))
+    call-last collect e p =
+        let f = was-reached s memory l (p .0) in
+        ((λ e. absurd (omega (arith, ap (λ (c : Command). c .kind) e))), rw (kind-none k) (collect-last s f k last (s .request)))
+
+  refuse-last : (s : State) (k : ℕ) (a : Ask) → opens a ≡ false → Last s k → Last (Run.refuse s a) k
+  refuse-last s k a e last = rw (refuse-keeps s a e) last
+
+  step-last : (s : State) (k : ℕ) (c : Call) → opens (c .ask) ≡ false → Was s → Last s k → (step s c .1 .command ≡ cmd read q ℓ i → k ≡ write) × Last (step s c .0) (lastKind q ℓ i k (step s c .1 .command))
+  step-last s k c o l last = go (eqb (number s c) 0) refl
+    where
+      go : (t : Bool) → eqb (number s c) 0 ≡ t → (step s c .1 .command ≡ cmd read q ℓ i → k ≡ write) × Last (step s c .0) (lastKind q ℓ i k (step s c .1 .command))
+      go true e =
+          let z = eqb-true (number s c) 0 e in
+          rw (step-accepted s c z) (unfold Run.accepted in (call-last s k (c .memory) (c .words) (c .buffer) l last (c .ask) o (accepted-passed s c z)))
+      go false e = rw (step-refused s c (eqb-false (number s c) 0 e)) (unfold Run.refused in (
+        (λ e. absurd (omega (arith, ap (λ (c : Command). c .kind) e))),
+        rw (kind-none k) (refuse-last s k (c .ask) o last),
+      ))
+
+  run-last : (cs : List Call) → All (λ (c : Call). opens (c .ask) ≡ false) cs → (s : State) (k : ℕ) → Was s → Last s k → EachAfterWrite q ℓ i k (run s cs)
+  unfolding run
+  run-last [] nil s k l last = tt
+  run-last (c ∷ cs) (cons o t) s k l last =
+      let x = step-last s k c o l last in
+      (x .0, run-last cs t (step s c .0) (lastKind q ℓ i k (step s c .1 .command)) (step-was s c l) (x .1))
+
+  -- what an open leaves: nothing is unread
+  open-last : (h : Shape) (c : Call) → c .ask ≡ opening h → (step closed c .1 .command ≡ cmd 0 0 0 0) × ((k : ℕ) → Last (step closed c .0) k)
+  open-last h c e = go (eqb (number closed c) 0) refl
+    where
+      none-marked : (a : Ask) → a ≡ opening h → (js : List ℕ) (k : ℕ) → Last (act closed a js) k
+      none-marked a e js k = rw e (unfold act fresh in (λ hℓ hi u v. absurd (omega arith)))
+
+      none-sent : (a : Ask) → a ≡ opening h → Run.sentCommand closed a ≡ cmd 0 0 0 0
+      none-sent a e = rw e (unfold Run.sentCommand in refl)
+
+      shuts : (a : Ask) → a ≡ opening h → (k : ℕ) → Last (Run.refuse closed a) k
+      shuts a e k = rw e (unfold Run.refuse closed in (λ hℓ hi u v. absurd (omega arith)))
+
+      go : (t : Bool) → eqb (number closed c) 0 ≡ t → (step closed c .1 .command ≡ cmd 0 0 0 0) × ((k : ℕ) → Last (step closed c .0) k)
+      go true z = rw (step-accepted closed c (eqb-true (number closed c) 0 z)) (unfold Run.accepted in (none-sent (c .ask) e, none-marked (c .ask) e _))
+      go false z = rw (step-refused closed c (eqb-false (number closed c) 0 z)) (unfold Run.refused in (refl, shuts (c .ask) e))
+
+  -- Over a run from an open up to the next, each read of the slot comes when the last command to it was a write
+  pub reads-after-writes : (s : State) (c : Call) (h : Shape) → c .ask ≡ opening h → (cs : List Call) → All (λ (c : Call). opens (c .ask) ≡ false) cs → EachAfterWrite q ℓ i 0 (run s (c ∷ cs))
+  unfolding run
+  reads-after-writes s c h e cs o = rw (open-first s c h e) (
+    (λ w. absurd (omega (arith, ap (λ (x : Command). x .kind) (sym (first .0) ∙ w)))),
+    run-last cs o (step closed c .0) (lastKind q ℓ i 0 (step closed c .1 .command)) (step-was closed c (shut refl)) (first .1 (lastKind q ℓ i 0 (step closed c .1 .command))),
+  )
+    where
+      first : (step closed c .1 .command ≡ cmd 0 0 0 0) × ((k : ℕ) → Last (step closed c .0) k)
+      first = open-last h c e
+
+-- ---- What this says of a part of the list
+module _ (q ℓ i : ℕ) where
+  -- behind the first part, the list goes on from some last kind
+  pub behind : (k : ℕ) (xs ys : List Outcome) → EachAfterWrite q ℓ i k (xs ++ ys) → (m : ℕ) × EachAfterWrite q ℓ i m ys
+  behind k [] ys h = (k, h)
+  behind k (o ∷ xs) ys h = behind (lastKind q ℓ i k (o .command)) xs ys (h .1)
+
+  -- the last kind after the first part
+  unfoldable lastOf : ℕ → List Outcome → ℕ
+  lastOf k [] = k
+  lastOf k (o ∷ os) = lastOf (lastKind q ℓ i k (o .command)) os
+
+  pub read-is : (k : ℕ) (c : Command) → c ≡ cmd read q ℓ i → lastKind q ℓ i k c ≡ read
+  read-is k c e = rw e (kind-here q ℓ i k (cmd read q ℓ i) (omega arith) (refl, refl, refl))
+
+  at-last : (k : ℕ) (xs : List Outcome) (b : Outcome) (zs : List Outcome) → EachAfterWrite q ℓ i k (xs ++ (b ∷ zs)) → b .command ≡ cmd read q ℓ i → lastOf k xs ≡ write
+  unfolding lastOf
+  at-last k [] b zs h r = h .0 r
+  at-last k (o ∷ xs) b zs h r = at-last (lastKind q ℓ i k (o .command)) xs b zs (h .1) r
+
+  -- a kind that has become a write was written
+  some-write : (k : ℕ) (xs : List Outcome) → ¬ (k ≡ write) → lastOf k xs ≡ write → any (λ (o : Outcome). isCommand (cmd write q ℓ i) (o .command)) xs ≡ true
+  unfolding lastOf any
+  some-write k [] n e = absurd (n e)
+  some-write k (o ∷ xs) n e = go (ℕ-discrete (lastKind q ℓ i k (o .command)) write) (λ m. some-write (lastKind q ℓ i k (o .command)) xs m e)
+    where
+      go : Dec (lastKind q ℓ i k (o .command) ≡ write) → (¬ (lastKind q ℓ i k (o .command) ≡ write) → any (λ (o : Outcome). isCommand (cmd write q ℓ i) (o .command)) xs ≡ true)
+          → (isCommand (cmd write q ℓ i) (o .command) || any (λ (o : Outcome). isCommand (cmd write q ℓ i) (o .command)) xs) ≡ true
+      go (yes w) ih = or-left (isCommand (cmd write q ℓ i) (o .command)) (any (λ (o : Outcome). isCommand (cmd write q ℓ i) (o .command)) xs) (here (decOne (o .command .partition) (o .command .level) (o .command .slot) q ℓ i) w)
+        where
+          here : Dec (One (o .command .partition) (o .command .level) (o .command .slot) q ℓ i) → lastKind q ℓ i k (o .command) ≡ write → isCommand (cmd write q ℓ i) (o .command) ≡ true
+          here (no z) w = absurd (n (sym (kind-else q ℓ i k (o .command) z) ∙ w))
+          here (yes z) w = is-command (cmd write q ℓ i) (o .command) (sym (by (ltb 0 (o .command .kind)) refl)) (sym (z .0), sym (z .1), sym (z .2))
+            where
+              by : (t : Bool) → ltb 0 (o .command .kind) ≡ t → o .command .kind ≡ write
+              by true l = sym (kind-here q ℓ i k (o .command) (ltb-true 0 (o .command .kind) l) z) ∙ w
+              by false l = absurd (n (sym (kind-zero q ℓ i k (o .command) l) ∙ w))
+      go (no w) ih = or-right (isCommand (cmd write q ℓ i) (o .command)) (any (λ (o : Outcome). isCommand (cmd write q ℓ i) (o .command)) xs) (ih w)
+
+  pub write-within : (k : ℕ) (xs : List Outcome) (b : Outcome) (zs : List Outcome) → ¬ (k ≡ write) → EachAfterWrite q ℓ i k (xs ++ (b ∷ zs)) → b .command ≡ cmd read q ℓ i
+      → any (λ (o : Outcome). isCommand (cmd write q ℓ i) (o .command)) xs ≡ true
+  write-within k xs b zs n h r = some-write k xs n (at-last k xs b zs h r)

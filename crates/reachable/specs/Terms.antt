@@ -1,0 +1,68 @@
+-- Words that the theorems use: nothing of the invariant.
+use mathlib.Core.Path.{_≡_}
+use mathlib.Core.Bool.{not, _&&_}
+use mathlib.Core.List.{List, [], _∷_}
+use Prim.Native.Nat.{ℕ, _^_, _≤_, _<_}
+use lib.Dec.{eqb, ltb}
+use Rattle.lists.specs.All.{All}
+use Rattle.lists.specs.Search.{keep, below, member}
+use Rattle.lists.specs.Tests.{if_then_else_}
+use Rattle.rules.specs.Blocks.{isNowhere}
+use Rattle.rules.specs.Run.{Outcome}
+use Rattle.rules.specs.Shape.{Shape, cell, slots}
+use Rattle.rules.specs.State.{State, Command, cmd, read, write}
+
+-- ---- Blocks by their place
+
+-- "Per block: its place: nowhere, waiting in the cache, or in a level as an item": the blocks that are nowhere, those that are stored in a
+-- level, and those that wait
+unfoldable pub nowhereBlocks : State → List ℕ
+nowhereBlocks s = keep (λ b. isNowhere (s .place b) && not (member b (s .waiting))) (below (s .shape .N))
+
+unfoldable pub storedBlocks : State → List ℕ
+storedBlocks s = keep (λ b. not (isNowhere (s .place b))) (below (s .shape .N))
+
+unfoldable pub waitingBlocks : State → List ℕ
+waitingBlocks s = keep (λ b. member b (s .waiting)) (below (s .shape .N))
+
+-- ---- Slots and commands
+
+-- Two slots are one
+abbrev pub One : ℕ → ℕ → ℕ → ℕ → ℕ → ℕ → Type 0
+One p m j q ℓ i = (p ≡ q) × (m ≡ ℓ) × (j ≡ i)
+
+-- Two commands are in different slots
+abbrev pub Elsewhere : Command → Command → Type 0
+Elsewhere c d = One (c .partition) (c .level) (c .slot) (d .partition) (d .level) (d .slot) → ⊥
+
+-- No two commands of a list are in one slot
+pub data Apart : List Command → Type 0 where
+  none-apart : Apart []
+  one-apart : {c : Command} {cs : List Command} → All (Elsewhere c) cs → Apart cs → Apart (c ∷ cs)
+
+-- the kind of the last command to slot (q, ℓ, i): k before command c, and c's if it is to that slot. A command of zeros is none
+unfoldable pub lastKind : ℕ → ℕ → ℕ → ℕ → Command → ℕ
+lastKind q ℓ i k c = if ltb 0 (c .kind) && (eqb (c .partition) q && (eqb (c .level) ℓ && eqb (c .slot) i)) then c .kind else k
+
+-- each read of the slot comes when the last command to it was a write; k is the kind of the last one before the list
+abbrev pub EachAfterWrite : ℕ → ℕ → ℕ → ℕ → List Outcome → Type 0
+EachAfterWrite q ℓ i k [] = Unit {0}
+EachAfterWrite q ℓ i k (o ∷ os) = (o .command ≡ cmd read q ℓ i → k ≡ write) × EachAfterWrite q ℓ i (lastKind q ℓ i k (o .command)) os
+
+-- ---- Items
+
+-- The items of level ℓ of q, as they were numbered when it was written, are n blocks and then dummies: the slot of an item below n holds
+-- a block or has been read, and that of an item from n on holds none
+pub record Numbered (h : Shape) (order mark holds : ℕ → ℕ) (q ℓ n : ℕ) : Type 0 where
+  pub few : n ≤ 2 ^ ℓ
+  pub blocks : (k : ℕ) → k < n → k < slots ℓ → holds (cell h q ℓ (order (cell h q ℓ k))) ≡ 0 → mark (cell h q ℓ (order (cell h q ℓ k))) ≡ 0
+  pub dummies : (k : ℕ) → n ≤ k → k < slots ℓ → holds (cell h q ℓ (order (cell h q ℓ k))) ≡ 0
+
+-- Slot i is that of an unread item from n on, and the items between n and it have been read
+pub record LowestDummy (h : Shape) (order mark : ℕ → ℕ) (q ℓ n i : ℕ) : Type 0 where
+  pub item : ℕ
+  pub isDummy : n ≤ item
+  pub inLevel : item < slots ℓ
+  pub slot : order (cell h q ℓ item) ≡ i
+  pub unread : mark (cell h q ℓ i) ≡ 1
+  pub lower : (j : ℕ) → n ≤ j → j < item → mark (cell h q ℓ (order (cell h q ℓ j))) ≡ 0

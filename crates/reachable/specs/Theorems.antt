@@ -1,0 +1,190 @@
+-- What holds of every state that calls left, for whoever needs it: stated over `run` and `after` of the rules, from an open, with nothing of
+-- the invariant. Whatever state was before the open, and also if the open is refused; refused calls among the others. The list may have
+-- further opens, but where it is said that it has none.
+use mathlib.Core.Path.{_≡_, refl, ap, sym, _∙_}
+use mathlib.Core.Logic.{_⊎_, inl, inr}
+use mathlib.Core.Bool.{true, false, true≢false}
+use mathlib.Core.List.{List, [], _∷_, _++_}
+use mathlib.Core.Option.{Option, none, some}
+use Prim.Native.Nat.{ℕ, _+_, _-_, _^_, _≤_, _<_}
+use native.Mathlib.Omega.{arith}
+use lib.ListN.{length}
+use borrow.Author.Tests.{leb-false}
+use Rattle.lists.specs.All.{All}
+use Rattle.lists.specs.Search.{find, any, orElse}
+use Rattle.rules.specs.Blocks.{isUnread}
+use Rattle.rules.specs.Completion.{isCommand}
+use Rattle.rules.specs.Laws.Answers.{opens}
+use Rattle.rules.specs.Levels.{filled, sources}
+use Rattle.rules.specs.Memory.{needed}
+use Rattle.rules.specs.Questions
+use Rattle.rules.specs.Questions.{opening, request, turn, Call, possible, questions, firstNo, number}
+use Rattle.rules.specs.Rebuild.{places, unread, gathered}
+use Rattle.rules.specs.Request.{held, levelsLeft, dummy, slotIn}
+use Rattle.rules.specs.Run.{Outcome, step, run, after}
+use Rattle.rules.specs.Shape.{Shape, slots}
+use Rattle.rules.specs.State.{State, Command, cmd, read, write, Request, closed}
+use Rattle.rules.specs.Turn
+use Rattle.rules.specs.Turn.{idle, Step, noDummy, readForRequest, readForJob, rebuild, decide, command}
+use Rattle.rules.specs.Unfold.{model}
+use Rattle.reachable.specs.Counts.{places-add, waiting-all}
+use Rattle.reachable.specs.Decided.{Rebuilds, decided, JobReads}
+use Rattle.reachable.specs.Found.{request-decides, scan-all, lower-read, lowest-dummy, decided-filled, sent-turn}
+use Rattle.reachable.specs.Never.{always-possible, never-many, late-two, never-full, full-ready}
+use Rattle.reachable.specs.Reached.{Was, reachable, live, shut, ready-memory, was-reached}
+use Rattle.reachable.specs.Sends.{write-within, reads-after-writes, behind, read-is}
+use Rattle.reachable.specs.Slots.{front-in}
+use Rattle.reachable.specs.Terms.{nowhereBlocks, storedBlocks, waitingBlocks, Apart, none-apart, Numbered, LowestDummy, EachAfterWrite}
+
+-- a closed state sends nothing
+closed-idle : decide closed ≡ idle
+unfolding model
+closed-idle = refl
+
+closed-decides : (s : State) → s ≡ closed → (x : Step) → decide s ≡ x → Questions.sends x ≡ true → ⊥
+closed-decides s w x e y =
+    let z : Questions.sends idle ≡ false = unfold Questions.sends in refl in
+    true≢false (sym y ∙ ap Questions.sends (sym e ∙ ap decide w ∙ closed-idle) ∙ z)
+
+closed-reads : (s : State) → s ≡ closed → (q ℓ i : ℕ) → command (decide s) ≡ cmd read q ℓ i → ⊥
+unfolding command
+closed-reads s w q ℓ i e = omega (arith, ap (λ (c : Command). c .kind) (sym (ap command (ap decide w ∙ closed-idle)) ∙ e))
+
+no-queue : (q : ℕ) (rest : List ℕ) → [] ≡ q ∷ rest → ⊥
+no-queue q rest e = let z : _≡_ {A = ℕ} 0 1 = cc in omega arith
+
+module _ (s : State) (c : Call) (h : Shape) (first : c .ask ≡ opening h) (cs : List Call) where
+  -- the state that these calls left
+  abbrev left : State
+  left = after s (c ∷ cs)
+
+  was : Was left
+  was = reachable s c h first cs
+
+  -- ---- "States that calls left never do either"
+
+  -- A turn never lacks an unread dummy
+  pub never-lacks-dummy : ¬ (decide left ≡ noDummy)
+  never-lacks-dummy e = go was
+    where
+      go : Was left → ⊥
+      go (live f) = true≢false (sym (always-possible left f) ∙ ap (possible left) e ∙ unfold possible in refl)
+      go (shut w) = closed-decides left w noDummy e (unfold Questions.sends in refl)
+
+  -- ---- "Then it sends one read to each filled level of p": while a request that isn't held has a filled level left, a turn reads the first of
+  -- these levels; no turn is idle then
+  pub read-due : (r : Request) → left .request ≡ some r → held left r ≡ false → (ℓ : ℕ) (ls : List ℕ) → levelsLeft left r ≡ ℓ ∷ ls
+      → (i : ℕ) × (decide left ≡ readForRequest (left .partition (r .block)) ℓ i)
+  read-due r e u ℓ ls v = go (orElse (slotIn ℓ (left .place (r .block))) (dummy left q ℓ)) refl
+    where
+      q : ℕ
+      q = left .partition (r .block)
+
+      decides : decide left ≡ Turn.readStep q ℓ (orElse (slotIn ℓ (left .place (r .block))) (dummy left q ℓ))
+      decides = request-decides left r e u ℓ ls v
+
+      go : (o : Option ℕ) → orElse (slotIn ℓ (left .place (r .block))) (dummy left q ℓ) ≡ o → (i : ℕ) × (decide left ≡ readForRequest q ℓ i)
+      go none k = absurd (never-lacks-dummy (decides ∙ ap (Turn.readStep q ℓ) k ∙ unfold Turn.readStep in refl))
+      go (some i) k = (i, decides ∙ ap (Turn.readStep q ℓ) k ∙ unfold Turn.readStep in refl)
+
+  -- A turn never gathers more blocks than the target holds
+  pub never-gathers-more : (q t : ℕ) → decide left ≡ rebuild q t → length (gathered left q) ≤ 2 ^ t
+  never-gathers-more q t e = go was
+    where
+      go : Was left → length (gathered left q) ≤ 2 ^ t
+      go (live f) = let d : Rebuilds left q t = rw e at (decided left) in rw (d .goal) (never-many left f q (front-in left f q (d .rest) (d .front)))
+      go (shut w) = absurd (closed-decides left w (rebuild q t) e (unfold Questions.sends in refl))
+
+  -- ..so a turn's 2 says that the open was refused, or that the memory is too short
+  pub never-late : (k : Call) → k .ask ≡ turn → number left k ≡ 2 → (left ≡ closed) ⊎ (k .memory < needed (left .shape))
+  unfolding number
+  never-late k e n = go was
+    where
+      go : Was left → (left ≡ closed) ⊎ (k .memory < needed (left .shape))
+      go (shut w) = inl w
+      go (live f) =
+          let z : firstNo (questions left turn (k .memory) (k .words) (k .buffer)) ≡ 2 = rw e at n in
+          inr (leb-false (needed (left .shape)) (k .memory) (sym (ready-memory left (k .memory) f) ∙ late-two left f (k .memory) (k .words) (k .buffer) z))
+
+  -- ---- "Among well-formed requests only 8 may depend on names": with E equal to N no request is answered 8
+  pub never-eight : left .shape .E ≡ left .shape .N → (k : Call) (j b : ℕ) (bs : List ℕ) → k .ask ≡ request j b bs → ¬ (number left k ≡ 8)
+  unfolding number
+  never-eight n k j b bs e z =
+      let z′ : firstNo (questions left (request j b bs) (k .memory) (k .words) (k .buffer)) ≡ 8 = rw e at z in
+      never-full left (was-reached left (k .memory) was (full-ready left j b bs (k .memory) (k .words) (k .buffer) z′)) n j b bs (k .memory) (k .words) (k .buffer) z′
+
+  -- ---- "Per block: its place: nowhere, waiting in the cache, or in a level": all blocks are counted, once
+  pub three-counts : length (nowhereBlocks left) + length (storedBlocks left) + length (waitingBlocks left) ≡ left .shape .N
+  three-counts = go was
+    where
+      go : Was left → length (nowhereBlocks left) + length (storedBlocks left) + length (waitingBlocks left) ≡ left .shape .N
+      go (live f) = places-add left f
+      go (shut w) = rw w (unfold nowhereBlocks storedBlocks waitingBlocks model in refl)
+
+  -- those that wait are the list of the waiting blocks, each once
+  pub waiting-count : length (waitingBlocks left) ≡ length (left .waiting)
+  waiting-count = go was
+    where
+      go : Was left → length (waitingBlocks left) ≡ length (left .waiting)
+      go (live f) = waiting-all left f
+      go (shut w) = rw w (unfold waitingBlocks model in refl)
+
+  -- ---- "A slot never has two commands outstanding"
+  pub one-command : Apart (left .outstanding)
+  one-command = go was
+    where
+      go : Was left → Apart (left .outstanding)
+      go (live f) = f .apart
+      go (shut w) = rw w (unfold closed in none-apart)
+
+  -- ---- "It reads every unread slot of the sources, levels ascending, and slots ascending within a level": the front job's next read is of
+  -- the first unread slot of its sources, wherever its cursor is
+  pub first-unread : (q : ℕ) (rest : List ℕ) → left .queue ≡ q ∷ rest → left .sent ≡ 0
+      → unread left q ≡ find (λ p. isUnread left q (p .0) (p .1)) (places (sources (left .shape) (left .counter q)))
+  first-unread q rest e z = go was
+    where
+      go : Was left → unread left q ≡ find (λ p. isUnread left q (p .0) (p .1)) (places (sources (left .shape) (left .counter q)))
+      go (live f) = scan-all left f q rest e z
+      go (shut w) = let z : left .queue ≡ [] = unfold closed in (ap (λ (x : State). x .queue) w) in absurd (no-queue q rest (sym z ∙ e))
+
+  pub job-reads-first : (q ℓ i : ℕ) → decide left ≡ readForJob q ℓ i
+      → (isUnread left q ℓ i ≡ true) × ((m j : ℕ) → j < slots m → (m < ℓ) ⊎ ((m ≡ ℓ) × (j < i)) → isUnread left q m j ≡ false)
+  job-reads-first q ℓ i e = go was
+    where
+      go : Was left → (isUnread left q ℓ i ≡ true) × ((m j : ℕ) → j < slots m → (m < ℓ) ⊎ ((m ≡ ℓ) × (j < i)) → isUnread left q m j ≡ false)
+      go (live f) = let d : JobReads left q ℓ i = rw e at (decided left) in (d .unread, lower-read left f q ℓ i d)
+      go (shut w) = absurd (closed-decides left w (readForJob q ℓ i) e (unfold Questions.sends in refl))
+
+  -- ---- "The block's slot if its place is there, else the slot of the lowest-numbered unread dummy item." The items of a level, as they were
+  -- numbered when it was written, are n blocks and then dummies: a slot read for a dummy is that of an unread dummy item k, and the dummy
+  -- items below k have been read
+  pub dummy-is-lowest : (q ℓ i : ℕ) → decide left ≡ readForRequest q ℓ i → (r : Request) → left .request ≡ some r → slotIn ℓ (left .place (r .block)) ≡ none
+      → (n : ℕ) × (Numbered (left .shape) (left .order) (left .mark) (left .holds) q ℓ n × LowestDummy (left .shape) (left .order) (left .mark) q ℓ n i)
+  dummy-is-lowest q ℓ i e r p u = go was
+    where
+      go : Was left → (n : ℕ) × (Numbered (left .shape) (left .order) (left .mark) (left .holds) q ℓ n × LowestDummy (left .shape) (left .order) (left .mark) q ℓ n i)
+      go (live f) = lowest-dummy left f q ℓ i (rw e at (decided left)) r p u
+      go (shut w) = absurd (closed-decides left w (readForRequest q ℓ i) e (unfold Questions.sends in refl))
+
+  -- ---- Reads are of slots that were written: a call that sends a read is given a state in which the slot's level is filled
+  pub read-filled : (k : Call) (q ℓ i : ℕ) → step left k .1 .command ≡ cmd read q ℓ i → filled (left .counter q) ℓ ≡ true
+  read-filled k q ℓ i e = go was
+    where
+      go : Was left → filled (left .counter q) ℓ ≡ true
+      go (live f) = decided-filled left f q ℓ i (sent-turn left k q ℓ i e)
+      go (shut w) = absurd (closed-reads left w q ℓ i (sent-turn left k q ℓ i e))
+
+-- ---- Over the commands of a run from an open up to the next
+module _ (s : State) (c : Call) (h : Shape) (first : c .ask ≡ opening h) (cs : List Call) (last : All (λ (x : Call). opens (x .ask) ≡ false) cs) where
+  -- a read of a slot is preceded by a write of it
+  pub written-before : (q ℓ i : ℕ) (xs zs : List Outcome) (b : Outcome) → run s (c ∷ cs) ≡ xs ++ (b ∷ zs) → b .command ≡ cmd read q ℓ i
+      → any (λ (o : Outcome). isCommand (cmd write q ℓ i) (o .command)) xs ≡ true
+  written-before q ℓ i xs zs b e r = write-within q ℓ i 0 xs b zs (λ z. omega arith) (rw e at (reads-after-writes q ℓ i s c h first cs last)) r
+
+  -- no written slot is read twice before it is written again: between two reads of a slot there is a write of it
+  pub written-between : (q ℓ i : ℕ) (xs ys zs : List Outcome) (a b : Outcome) → run s (c ∷ cs) ≡ xs ++ (a ∷ (ys ++ (b ∷ zs))) → a .command ≡ cmd read q ℓ i → b .command ≡ cmd read q ℓ i
+      → any (λ (o : Outcome). isCommand (cmd write q ℓ i) (o .command)) ys ≡ true
+  written-between q ℓ i xs ys zs a b e ra rb =
+      let x = behind q ℓ i 0 xs (a ∷ (ys ++ (b ∷ zs))) (rw e at (reads-after-writes q ℓ i s c h first cs last)) in
+      let y : EachAfterWrite q ℓ i read (ys ++ (b ∷ zs)) = rw (read-is q ℓ i (x .0) (a .command) ra) at (x .1 .1) in
+      write-within q ℓ i read ys b zs (λ z. let v : _≡_ {A = ℕ} 1 2 = z in omega arith) y rb
