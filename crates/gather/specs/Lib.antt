@@ -1,0 +1,4 @@
+pub mod Gathered
+pub mod Inserted
+pub mod Kept
+pub mod Slots

@@ -1,0 +1,124 @@
+use mathlib.Core.Path.{_≡_, refl, ap, sym, _∙_}
+use mathlib.Core.Logic.{⊎-elim}
+use Prim.Native.Nat.{_+_, _-_, _≤_}
+use native.Mathlib.Omega.{arith}
+use Rattle.rules.specs.Rebuild.{unread}
+use Rattle.memory.specs.Fits.{shapeOf}
+use Rattle.client.specs.View.{stateOf}
+use Rattle.levels.specs.declared.Spot.the-variants.{Nothing}
+use Rattle.levels.specs.Next.{spotOf}
+use Rattle.levels.specs.Slots.{two-le, cell-lt}
+use Rattle.levels.specs.Unread.{fromLevel, fromSlot, levels-all, levels-done, level-enter, level-done, slot-hit, slot-miss}
+use Rattle.levels.proofs.unread.Statement.{statement}
+use Rattle.levels.proofs.unread.Tie as tie
+
+abbrev Inv-loop : tie.InvT-loop
+Inv-loop c m q sources cursor found₀ l n base first i₀ found i = (found ≡ Nothing) × (cursor ≤ n - 2 + i) × (fromSlot (stateOf c m) q sources l n i ≡ unread (stateOf c m) q)
+
+abbrev μ-loop : tie.MeasureT-loop
+μ-loop c m q sources cursor found₀ l n base first i₀ found i = n - i
+
+abbrev Inv-levels : tie.InvT-levels
+Inv-levels c m q sources cursor found₀ l₀ found l = (l ≤ sources) × (found ≡ Nothing) × (fromLevel (stateOf c m) q sources l ≡ unread (stateOf c m) q)
+
+abbrev μ-levels : tie.MeasureT-levels
+μ-levels c m q sources cursor found₀ l₀ found l = sources - l
+
+levels-holds : tie.Need-levels-holds Inv-loop μ-loop Inv-levels μ-levels
+levels-holds c = (omega arith, refl, levels-all _ _ _ _ (c .before .pre .2))
+
+add-pow2 : tie.Need-add-pow2 Inv-loop μ-loop Inv-levels μ-levels
+add-pow2 c = omega arith
+
+pow2-requires : tie.Need-pow2-requires Inv-loop μ-loop Inv-levels μ-levels
+pow2-requires c κs = omega arith
+
+cell-requires : tie.Need-cell-requires Inv-loop μ-loop Inv-levels μ-levels
+cell-requires c κs = omega arith
+
+sub-if1 : tie.Need-sub-if1 Inv-loop μ-loop Inv-levels μ-levels
+sub-if1 c = omega (arith, two-le (c .before .before .before .levels .l))
+
+sub-first : tie.Need-sub-first Inv-loop μ-loop Inv-levels μ-levels
+sub-first c = omega (arith, two-le (c .before .before .before .before .levels .l))
+
+sub-first-2 : tie.Need-sub-first-2 Inv-loop μ-loop Inv-levels μ-levels
+sub-first-2 c = omega arith
+
+loop-holds : tie.Need-loop-holds Inv-loop μ-loop Inv-levels μ-levels
+loop-holds c =
+    let l = c .before .before .before .before .levels in
+    let a = c .before .before .before .before .before .before .args in
+    let p = c .before .before .pow2 in
+    let e : c .if1 .first ≡ a .c .cursor - (p .result - 2) = ⊎-elim (λ w. omega arith) (λ w. omega arith) (c .if1 .came) in
+    (l .inv .1, omega arith, sym (level-enter _ _ _ _ _ (p .result) (c .if1 .first) (c .before .before .before .levels-test .taken) (p .ensures .0) e) ∙ l .inv .2)
+
+add-mark : tie.Need-add-mark Inv-loop μ-loop Inv-levels μ-levels
+add-mark c = omega arith
+
+mark-requires : tie.Need-mark-requires Inv-loop μ-loop Inv-levels μ-levels
+mark-requires c κs =
+    let b = c .before .before .before .before in
+    let a = b .before .before .before .before .before in
+    (a .pre .0, cell-lt (shapeOf (a .args .c .shape)) _ _ _ _ (b .cell .ensures .0) (a .pre .1) (omega arith) (omega arith))
+
+add-i : tie.Need-add-i Inv-loop μ-loop Inv-levels μ-levels
+add-i c = omega arith
+
+loop-less : tie.Need-loop-less Inv-loop μ-loop Inv-levels μ-levels
+loop-less c = omega arith
+
+loop-again : tie.Need-loop-again Inv-loop μ-loop Inv-levels μ-levels
+loop-again c =
+    let l = c .before .before .before .before .loop in
+    let b = c .before .before .before .before .before .before in
+    (l .inv .0, omega arith, sym (slot-miss _ _ _ _ _ _ _ (l .i) _ (b .before .pow2 .ensures .0) (b .cell .ensures .0) (c .before .before .before .loop-test .taken) (l .inv .1) (c .before .mark .ensures) (c .if2 .left)) ∙ l .inv .2)
+
+add-l : tie.Need-add-l Inv-loop μ-loop Inv-levels μ-levels
+add-l c = omega arith
+
+levels-less : tie.Need-levels-less Inv-loop μ-loop Inv-levels μ-levels
+levels-less c = omega arith
+
+levels-again : tie.Need-levels-again Inv-loop μ-loop Inv-levels μ-levels
+levels-again c =
+    let l = c .before .loop in
+    (omega arith, l .inv .0, sym (level-done _ _ _ _ _ (l .i) (c .loop-test .left)) ∙ l .inv .2)
+
+returns : tie.Need-returns Inv-loop μ-loop Inv-levels μ-levels
+returns c =
+    let l = c .before .levels in
+    ap spotOf (l .inv .1) ∙ sym (levels-done _ _ _ (l .l) (c .levels-test .left)) ∙ l .inv .2
+
+returns-2 : tie.Need-returns-2 Inv-loop μ-loop Inv-levels μ-levels
+returns-2 c =
+    let l = c .before .before .before .before .loop in
+    let b = c .before .before .before .before .before .before in
+    sym (slot-hit _ _ _ _ _ _ _ (l .i) _ (b .before .pow2 .ensures .0) (b .cell .ensures .0) (c .before .before .before .loop-test .taken) (l .inv .1) (c .before .mark .ensures) (c .if2 .taken)) ∙ l .inv .2
+
+pub unread-spec : {M : Type 1} → statement M
+unread-spec =
+    tie.close
+    (tie.spec
+    Inv-loop
+    μ-loop
+    Inv-levels
+    μ-levels
+    levels-holds
+    add-pow2
+    pow2-requires
+    cell-requires
+    sub-if1
+    sub-first
+    sub-first-2
+    loop-holds
+    add-mark
+    mark-requires
+    add-i
+    loop-less
+    loop-again
+    add-l
+    levels-less
+    levels-again
+    returns
+    returns-2)
