@@ -1,5 +1,5 @@
 -- What a change of a table or of the client changes of the state that they stand for.
-use mathlib.Core.Path.{_≡_, refl, ap, sym, _∙_, fun-ext}
+use mathlib.Core.Path.{_≡_, refl, ap, sym, _∙_, subst, fun-ext}
 use mathlib.Core.Bool.{Bool, true, false}
 use mathlib.Core.List.{List, [], _∷_, _++_}
 use mathlib.Core.Option.{none, some}
@@ -17,10 +17,10 @@ use Rattle.rules.specs.Shape.{Shape, slots, cell}
 use Rattle.rules.specs.State.{State, Command, cmd, read, write, Place, nowhere, stored}
 use Rattle.rules.specs.Setters.{setPartition, setPlace, setBytes, setCounter, setOrder, setMark, setHolds, setRequest}
 use Rattle.memory.specs.Tables.{Tables, withPartition, withPlace, withCounter, withOrder, withMark, withHolds, withBlocks}
-use Rattle.memory.specs.Fits.{shapeOf, fit, fit-in}
+use Rattle.memory.specs.Fits.{shapeOf, fit, fit-in, fit-lt}
 use Rattle.client.specs.declared.Client.{Client}
 use Rattle.client.specs.View.{levelOf, placeOf, levelAt, requestOf, bytesIn, rows, view}
-use Rattle.client.specs.Rows.{put-map}
+use Rattle.client.specs.Rows.{put-map, rows-push, Shifted, shifted-more, Kept, kept-yes}
 
 -- ---- Slots as numbers
 
@@ -120,3 +120,20 @@ module _ (c : Client) (t : Tables) where
           go : (x : ℕ) → Dec (x < h .N) → bytesIn h (put (h .N) v (t .blocks)) x ≡ bytesIn h (t .blocks) x
           go x (yes l) = rw (lt-ltb x (h .N) l) (put-other (h .N) v (t .blocks) x (λ e. omega arith))
           go x (no l) = rw (le-ltb x (h .N) (omega arith))
+
+-- ---- Lists of numbers that are in range as they are read
+abbrev pub fitted : ℕ → (ℕ → ℕ) → ℕ → ℕ
+fitted bound f i = fit bound (f i)
+
+module _ (bound : ℕ) (some : 0 < bound) (f : ℕ → ℕ) where
+  pub fit-push : (n v : ℕ) → v < bound → rows (fitted bound (put n v f)) (n + 1) ≡ rows (fitted bound f) n ++ (v ∷ [])
+  fit-push n v l = ap (λ g. rows g (n + 1)) (fit-put (λ x. bound) n v f l) ∙ rows-push (fitted bound f) n v
+
+  fit-again : (i x v : ℕ) → v ≡ fit bound (f x) → _≡_ {A = ℕ → ℕ} (fitted bound (put i v f)) (put i (fit bound (f x)) (fitted bound f))
+  fit-again i x v e = rw e (fit-put (λ x. bound) i (fit bound (f x)) f (fit-lt bound (f x) some))
+
+  pub fit-shifted : (g : ℕ → ℕ) (j i v : ℕ) → v ≡ fit bound (f (i + 1)) → j ≤ i → Shifted g (fitted bound f) j i → Shifted g (fitted bound (put i v f)) j (i + 1)
+  fit-shifted g j i v e l s = subst (λ k. Shifted g k j (i + 1)) (sym (fit-again i (i + 1) v e)) (shifted-more g (fitted bound f) j i l s)
+
+  pub fit-kept : (p : ℕ → Bool) (g : ℕ → ℕ) (k i v : ℕ) → v ≡ fit bound (f i) → p v ≡ true → Kept p g (fitted bound f) k i → Kept p g (fitted bound (put k v f)) (k + 1) (i + 1)
+  fit-kept p g k i v e t s = subst (λ h. Kept p g h (k + 1) (i + 1)) (sym (fit-again k i v e)) (kept-yes p g (fitted bound f) k i (rw e at t) s)

@@ -91,7 +91,7 @@ spot-range n x p = go (decLt (fit (slots n) x) 2)
     go (yes k) = rw (lt-ltb (fit (slots n) x) 2 k) (omega arith, omega (arith, pow-mono {i = 2} {j = n + 1} (omega arith)))
     go (no k) = rw (le-ltb (fit (slots n) x) 2 (omega arith)) (omega arith, fit-lt (slots n) x (pow-pos (n + 1)))
 
-command-range : (h : Shape) (a x : ℕ) → 0 < h .L → 0 < h .P → CommandIn h (commandOf h a x)
+pub command-range : (h : Shape) (a x : ℕ) → 0 < h .L → 0 < h .P → CommandIn h (commandOf h a x)
 unfolding commandOf isKind
 command-range h a x l p = record {
   kind = go (ltb a 64);

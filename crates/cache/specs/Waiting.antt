@@ -1,0 +1,116 @@
+-- The blocks that wait, in their table.
+use mathlib.Core.Path.{_≡_, refl, ap, sym, _∙_}
+use mathlib.Core.Bool.{Bool, true, false, not}
+use mathlib.Core.List.{List, [], _∷_, _++_}
+use Prim.Native.Nat.{ℕ, _+_, _-_, _≤_, _<_}
+use lib.ListN.{length}
+use lib.Dec.{eqb}
+use borrow.Author.Tests.{eq-eqb, ne-eqb}
+use Rattle.lists.specs.Tests.{if_then_else_}
+use Rattle.lists.specs.Tables.{put}
+use Rattle.rules.specs.Ranges.{others}
+use Rattle.rules.specs.Setters.{setWaiting}
+use Rattle.memory.specs.declared.Shape.{Shape}
+use Rattle.memory.specs.Tables as M
+use Rattle.memory.specs.Tables.{tablesOf}
+use Rattle.memory.specs.Fits.{shapeOf, fit}
+use Rattle.client.specs.declared.Client.{Client}
+use Rattle.client.specs.View.{rows, view, stateOf}
+use Rattle.client.specs.Rows.{dropAt, length-rows, Shifted, shifted-none, shifted-all, Kept, kept-none, kept-no}
+use Rattle.client.specs.Changes.{fitted, fit-push, fit-shifted, fit-kept}
+use Rattle.client.specs.Moves.{withWaiting, Stands, stands}
+
+abbrev pub blocksIn : Shape → List ℕ → ℕ → ℕ
+blocksIn h m = fitted (h .n) (tablesOf (shapeOf h) m .waiting)
+
+module _ (c : Client) (m : List ℕ) where
+  pub waiting-is : stateOf c m .waiting ≡ rows (blocksIn (c .shape) m) (c .waiting)
+  unfolding stateOf view
+  waiting-is = refl
+
+  pub partition-is : (i b r : ℕ) → b ≡ blocksIn (c .shape) m i → r ≡ fit (c .shape .p) (tablesOf (shapeOf (c .shape)) m .partition b) → stateOf c m .partition (blocksIn (c .shape) m i) ≡ r
+  unfolding stateOf view
+  partition-is i b r e f = sym (rw e at f)
+
+-- only the table of those that wait is changed, to f
+pub waiting-stands : (c : Client) (m₀ m : List ℕ) (f : ℕ → ℕ) (n : ℕ) (xs : List ℕ) → tablesOf (shapeOf (c .shape)) m ≡ M.withWaiting f (tablesOf (shapeOf (c .shape)) m₀) → rows (fitted (c .shape .n) f) n ≡ xs
+    → Stands (withWaiting n c) m₀ m (setWaiting xs (stateOf c m₀))
+unfolding stateOf view tablesOf
+waiting-stands c m₀ m f n xs e l = stands (withWaiting n c) m₀ m (M.withWaiting f (tablesOf (shapeOf (c .shape)) m₀)) _ e refl (ap (λ r. setWaiting r (view c (tablesOf (shapeOf (c .shape)) m₀))) l)
+
+-- ---- One leaves: of the blocks from place j on, those below i are as the ones behind them were
+pub record Leaving (h : Shape) (m₀ m : List ℕ) (j i : ℕ) : Type 0 where
+  pub blocks : ℕ → ℕ
+  pub tables : tablesOf (shapeOf h) m ≡ M.withWaiting blocks (tablesOf (shapeOf h) m₀)
+  pub shifted : Shifted (blocksIn h m₀) (fitted (h .n) blocks) j i
+
+pub leaving-none : (h : Shape) (m : List ℕ) (j : ℕ) → Leaving h m m j j
+leaving-none h m j = record { blocks = tablesOf (shapeOf h) m .waiting; tables = refl; shifted = shifted-none (blocksIn h m) j }
+
+pub leaving-more : (h : Shape) (m₀ m m′ : List ℕ) (j i v : ℕ) → 1 ≤ h .n → j ≤ i → v ≡ blocksIn h m (i + 1) → tablesOf (shapeOf h) m′ ≡ M.withWaiting (put i v (tablesOf (shapeOf h) m .waiting)) (tablesOf (shapeOf h) m)
+    → Leaving h m₀ m j i → Leaving h m₀ m′ j (i + 1)
+leaving-more h m₀ m m′ j i v l u e t s = record {
+  blocks = put i v (s .blocks);
+  tables = t ∙ ap (λ x. M.withWaiting (put i v (x .waiting)) x) (s .tables);
+  shifted = fit-shifted (h .n) l (s .blocks) (blocksIn h m₀) j i v (e ∙ ap (λ x. fit (h .n) (x .waiting (i + 1))) (s .tables)) u (s .shifted);
+}
+
+pub left : (c : Client) (m₀ m : List ℕ) (j i : ℕ) → j < c .waiting → c .waiting ≤ i + 1 → Leaving (c .shape) m₀ m j i → Stands (withWaiting (c .waiting - 1) c) m₀ m (setWaiting (dropAt j (stateOf c m₀ .waiting)) (stateOf c m₀))
+left c m₀ m j i l u s =
+    waiting-stands c m₀ m (s .blocks) (c .waiting - 1) _ (s .tables) (shifted-all (blocksIn (c .shape) m₀) (fitted (c .shape .n) (s .blocks)) j i (c .waiting) l u (s .shifted) ∙ ap (dropAt j) (sym (waiting-is c m₀)))
+
+-- ---- One is renewed: the first k blocks are those of the first i that are not b
+abbrev pub other : ℕ → ℕ → Bool
+other b a = not (eqb a b)
+
+pub record Renewing (h : Shape) (b : ℕ) (m₀ m : List ℕ) (k i : ℕ) : Type 0 where
+  pub blocks : ℕ → ℕ
+  pub tables : tablesOf (shapeOf h) m ≡ M.withWaiting blocks (tablesOf (shapeOf h) m₀)
+  pub kept : Kept (other b) (blocksIn h m₀) (fitted (h .n) blocks) k i
+
+-- entry i of the cache joins the first k, unless it is b: r are first then
+pub record Joined (h : Shape) (m m′ : List ℕ) (k i b r : ℕ) : Type 0 where
+  pub count : r ≡ (if eqb (blocksIn h m i) b then k else k + 1)
+  pub tables : tablesOf (shapeOf h) m′ ≡ (if eqb (blocksIn h m i) b then tablesOf (shapeOf h) m else M.withWaiting (put k (blocksIn h m i) (tablesOf (shapeOf h) m .waiting)) (tablesOf (shapeOf h) m))
+
+module _ (h : Shape) (m : List ℕ) (k i b : ℕ) where
+  pub joined-not : blocksIn h m i ≡ b → Joined h m m k i b k
+  joined-not e = record { count = rw (eq-eqb (blocksIn h m i) b e); tables = rw (eq-eqb (blocksIn h m i) b e) }
+
+  pub joined : (m′ : List ℕ) (x : ℕ) → x ≡ blocksIn h m i → (x ≡ b → ⊥) → tablesOf (shapeOf h) m′ ≡ M.withWaiting (put k x (tablesOf (shapeOf h) m .waiting)) (tablesOf (shapeOf h) m) → Joined h m m′ k i b (k + 1)
+  joined m′ x e n t =
+      let f : eqb (blocksIn h m i) b ≡ false = ne-eqb (blocksIn h m i) b (λ q. n (e ∙ q)) in
+      record { count = rw f; tables = rw f (rw e at t) }
+
+pub renewing-none : (h : Shape) (b : ℕ) (m : List ℕ) → Renewing h b m m 0 0
+renewing-none h b m = record { blocks = tablesOf (shapeOf h) m .waiting; tables = refl; kept = kept-none (other b) (blocksIn h m) }
+
+pub renewing-more : (h : Shape) (b : ℕ) (m₀ m m′ : List ℕ) (k i r : ℕ) → 1 ≤ h .n → Joined h m m′ k i b r → Renewing h b m₀ m k i → Renewing h b m₀ m′ r (i + 1)
+renewing-more h b m₀ m m′ k i r l j s = go (eqb (blocksIn h m i) b) refl (j .count) (j .tables)
+  where
+    same : blocksIn h m i ≡ fit (h .n) (s .blocks i)
+    same = ap (λ x. fit (h .n) (x .waiting i)) (s .tables)
+
+    go : (t : Bool) → eqb (blocksIn h m i) b ≡ t → r ≡ (if t then k else k + 1)
+        → tablesOf (shapeOf h) m′ ≡ (if t then tablesOf (shapeOf h) m else M.withWaiting (put k (blocksIn h m i) (tablesOf (shapeOf h) m .waiting)) (tablesOf (shapeOf h) m)) → Renewing h b m₀ m′ r (i + 1)
+    go true e q t = record { blocks = s .blocks; tables = t ∙ s .tables; kept = rw q (kept-no (other b) (blocksIn h m₀) (fitted (h .n) (s .blocks)) k i (ap not (rw same at e)) (s .kept)) }
+    go false e q t = record {
+      blocks = put k (blocksIn h m i) (s .blocks);
+      tables = t ∙ ap (λ x. M.withWaiting (put k (blocksIn h m i) (x .waiting)) x) (s .tables);
+      kept = rw q (fit-kept (h .n) l (s .blocks) (other b) (blocksIn h m₀) k i (blocksIn h m i) same (ap not e) (s .kept));
+    }
+
+module _ (c : Client) (b : ℕ) (m₀ m : List ℕ) (k i : ℕ) (e : i ≡ c .waiting) (s : Renewing (c .shape) b m₀ m k i) where
+  abbrev rest : List ℕ
+  rest = others (stateOf c m₀ .waiting) b
+
+  kept-is : rows (fitted (c .shape .n) (s .blocks)) k ≡ rest
+  unfolding others
+  kept-is = s .kept .kept ∙ rw (e, waiting-is)
+
+  pub count-is : k ≡ length rest
+  count-is = sym (length-rows _ k) ∙ ap length kept-is
+
+  pub renewed : (m′ : List ℕ) → 1 ≤ c .shape .n → b < c .shape .n → tablesOf (shapeOf (c .shape)) m′ ≡ M.withWaiting (put k b (tablesOf (shapeOf (c .shape)) m .waiting)) (tablesOf (shapeOf (c .shape)) m)
+      → Stands (withWaiting (k + 1) c) m₀ m′ (setWaiting (rest ++ (b ∷ [])) (stateOf c m₀))
+  renewed m′ l u t = waiting-stands c m₀ m′ (put k b (s .blocks)) (k + 1) (rest ++ (b ∷ [])) (t ∙ ap (λ x. M.withWaiting (put k b (x .waiting)) x) (s .tables)) (fit-push (c .shape .n) l (s .blocks) k b u ∙ ap (λ r. r ++ (b ∷ [])) kept-is)

@@ -1,0 +1,92 @@
+// The blocks that wait in the eviction cache, longest waiting first, in the lent memory.
+use client::Client;
+use client::Found;
+ghost use mathlib.Core.Path.{_≡_};
+ghost use mathlib.Core.List.{_∷_, [], _++_};
+ghost use Prim.Native.Nat.{_+_, _-_, _<_, _≤_};
+ghost use lib.ListN.{length};
+ghost use Rattle.lists.specs.Search.{member};
+ghost use Rattle.rules.specs.Ranges.{others};
+ghost use Rattle.rules.specs.Setters.{setWaiting};
+ghost use Rattle.client.specs.View.{stateOf};
+ghost use Rattle.client.specs.Rows.{dropAt};
+ghost use Rattle.client.specs.Moves.{withWaiting, Room, Stands};
+ghost use Rattle.cache.specs.Longest.{Longest};
+ghost use Rattle.cache.specs.Waiting.{Joined};
+
+// Whether block b waits.
+pub fn is_waiting(c: Client, m: &[u8], b: usize) -> bool
+    requires { ⌜ Room c (now m) × (c .waiting ≤ c .shape .n) ⌝ }
+    ensures { λ r. ⌜ r ≡ member b (stateOf c (now (m .entry)) .waiting) ⌝ }
+{
+    let n = c.waiting;
+    let mut i = 0;
+    while i < n {
+        if memory::tables::waiting(c.shape, m, i) == b {
+            return true;
+        }
+        i += 1;
+    }
+    false
+}
+
+// The place in the cache of the block that has waited longest for partition q.
+pub fn longest(c: Client, m: &[u8], q: usize) -> Found
+    requires { ⌜ Room c (now m) × (c .waiting ≤ c .shape .n) ⌝ }
+    ensures { λ r. ⌜ Longest (stateOf c (now (m .entry))) q r ⌝ }
+{
+    let n = c.waiting;
+    let mut i = 0;
+    while i < n {
+        let b = memory::tables::waiting(c.shape, m, i);
+        if memory::tables::partition(c.shape, m, b) == q {
+            return Found::At(i);
+        }
+        i += 1;
+    }
+    Found::Nothing
+}
+
+// The block at place j of the cache waits no longer.
+pub fn leave(c: Client, m: &mut [u8], j: usize) -> Client
+    requires { ⌜ Room c (now m) × (c .waiting ≤ c .shape .n) × (j < c .waiting) ⌝ }
+    ensures { λ r. ⌜ (r ≡ withWaiting (c .waiting - 1) c) × Stands r (now (m .entry)) (now (m .exit)) (setWaiting (dropAt j (stateOf c (now (m .entry)) .waiting)) (stateOf c (now (m .entry)))) ⌝ }
+{
+    let last = c.waiting - 1;
+    let mut i = j;
+    while i < last {
+        let b = memory::tables::waiting(c.shape, m, i + 1);
+        memory::tables::set_waiting(c.shape, m, i, b);
+        i += 1;
+    }
+    c.with_waiting(last)
+}
+
+// Block b leaves the cache wherever it waits, and joins its young end.
+pub fn renew(c: Client, m: &mut [u8], b: usize) -> Client
+    requires { ⌜ Room c (now m) × (c .waiting ≤ c .shape .n) × (b < c .shape .n) × (length (others (stateOf c (now m) .waiting) b) < c .shape .n) ⌝ }
+    ensures { λ r. ⌜ (r ≡ withWaiting (length (others (stateOf c (now (m .entry)) .waiting) b) + 1) c) × Stands r (now (m .entry)) (now (m .exit)) (setWaiting (others (stateOf c (now (m .entry)) .waiting) b ++ (b ∷ [])) (stateOf c (now (m .entry)))) ⌝ }
+{
+    let n = c.waiting;
+    let mut k = 0;
+    let mut i = 0;
+    while i < n {
+        k = join(c, m, k, i, b);
+        i += 1;
+    }
+    memory::tables::set_waiting(c.shape, m, k, b);
+    c.with_waiting(k + 1)
+}
+
+// The block at place i joins the first k, unless it is b. The result is how many are first then.
+fn join(c: Client, m: &mut [u8], k: usize, i: usize, b: usize) -> usize
+    requires { ⌜ Room c (now m) × (k ≤ i) × (i < c .shape .n) ⌝ }
+    ensures { λ r. ⌜ Joined (c .shape) (now (m .entry)) (now (m .exit)) k i b r ⌝ }
+{
+    let x = memory::tables::waiting(c.shape, m, i);
+    if x == b {
+        return k;
+    }
+    memory::tables::set_waiting(c.shape, m, k, x);
+    k + 1
+}

@@ -1,0 +1,68 @@
+// The question with which the other four calls begin: memory long enough, each number of the state in its range?
+use client::Client;
+use client::Request;
+use memory::Shape;
+ghost use mathlib.Core.Path.{_≡_};
+ghost use Prim.Native.Nat.{_≤_};
+ghost use lib.ListN.{length};
+ghost use Rattle.rules.specs.Questions.{ready};
+ghost use Rattle.memory.specs.Fits.{shapeOf};
+ghost use Rattle.memory.specs.Tables.{tablesOf};
+ghost use Rattle.client.specs.View.{stateOf};
+ghost use Rattle.client.specs.Ready.{requestFits, countsFit, handFits, ownWaits};
+ghost use Rattle.client.specs.Moves.{Room};
+
+// Each number of the request in hand is in its range.
+fn request_fits(h: Shape, r: Request) -> bool
+    ensures { λ a. ⌜ a ≡ requestFits (shapeOf h) r ⌝ }
+{
+    (1 <= r.kind)
+        & (r.kind <= 2)
+        & (r.block < h.n)
+        & (r.next < h.p)
+        & (r.evict < h.p)
+        & (r.level <= h.l)
+}
+
+// So are the counts.
+fn counts_fit(c: Client) -> bool
+    requires { ⌜ c .shape .l ≤ 8 ⌝ }
+    ensures { λ a. ⌜ a ≡ countsFit c ⌝ }
+{
+    let slots = bits::pow2(c.shape.l + 1) - 2;
+    let writes = bits::pow2(c.shape.l);
+    (c.cursor <= slots) & (c.sent <= writes) & (c.out <= c.shape.w) & (c.waiting <= c.shape.e)
+}
+
+// With a request in hand there is room for its jobs and its block.
+fn hand_fits(c: Client, m: &[u8]) -> bool
+    requires { ⌜ Room c (now m) × (c .waiting ≤ c .shape .n) ⌝ }
+    ensures { λ a. ⌜ a ≡ handFits c (ownWaits c (tablesOf (shapeOf (c .shape)) (now (m .entry)))) ⌝ }
+{
+    let r = c.request;
+    if r.kind == 0 {
+        return c.jobs <= 64;
+    }
+    if !(request_fits(c.shape, r) & (c.jobs <= 62)) {
+        return false;
+    }
+    if c.waiting < c.shape.e {
+        return true;
+    }
+    cache::is_waiting(c, m, r.block)
+}
+
+pub fn is_ready(c: Client, m: &[u8]) -> bool
+    ensures { λ a. ⌜ a ≡ ready (stateOf c (now (m .entry))) (length (now (m .entry))) ⌝ }
+{
+    if !meets::is_within(c.shape) {
+        return false;
+    }
+    if m.len() < meets::needed(c.shape) {
+        return false;
+    }
+    if !counts_fit(c) {
+        return false;
+    }
+    hand_fits(c, m)
+}
