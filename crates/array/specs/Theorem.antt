@@ -14,11 +14,10 @@ use Rattle.rules.specs.Blocks
 use Rattle.rules.specs.Collect
 use Rattle.rules.specs.Completion
 use Rattle.rules.specs.Completion.{complete}
-use Rattle.rules.specs.Draws.{Drawn, draws, newOrder}
+use Rattle.rules.specs.Draws.{Drawn, draws, newOrder, Drew}
 use Rattle.rules.specs.Laws.Answers.{Passed, accepted-passed, step-accepted, step-refused, step-number}
 use Rattle.rules.specs.Laws.Decided.{StepIn, decide-in, stepBounds-pos}
 use Rattle.rules.specs.Laws.Kept.{completed-in, given-in, drew-of}
-use Rattle.rules.specs.Laws.Orders.{Drew}
 use Rattle.rules.specs.Open.{fresh}
 use Rattle.rules.specs.Questions
 use Rattle.rules.specs.Questions.{Ask, opening, request, turn, completion, collect, Call, bounds, number, questions}

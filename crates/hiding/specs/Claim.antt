@@ -29,12 +29,11 @@ use lib.Dec.{eqb}
 use Rattle.lists.specs.All.{All}
 use Rattle.lists.specs.Tests.{if_then_else_}
 use Rattle.rules.specs.Ranges.{isKind, bytesOf}
-use Rattle.rules.specs.Draws.{draws}
+use Rattle.rules.specs.Draws.{draws, Drew}
 use Rattle.rules.specs.Questions.{Ask, opening, request, turn, completion, collect, Call, bounds, number}
 use Rattle.rules.specs.Run.{Outcome, act, refuse, numbersOf, step, run}
 use Rattle.rules.specs.State.{State, Command}
 use Rattle.rules.specs.Laws.Answers.{opens}
-use Rattle.rules.specs.Laws.Orders.{Drew}
 use Rattle.rules.specs.Shape.{Shape}
 
 -- A call of a list: what is asked, and the lengths lent. The words themselves are no part of it

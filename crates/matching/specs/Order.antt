@@ -10,8 +10,8 @@ use Rattle.lists.specs.Members.{nodup-below}
 use Rattle.lists.specs.Lengths.{length-below}
 use Rattle.lists.specs.Search.{below}
 use Rattle.lists.specs.Distinct.{NoDup, index, index-mem, mem-at, nodup-inj, index-at}
-use Rattle.rules.specs.Draws.{exchange, shuffle, newOrder, orderBounds}
-use Rattle.rules.specs.Laws.Orders.{Drew, other, other-same, other-far, get-exchange, length-exchange, mem-exchange, exchange-mem, nodup-exchange}
+use Rattle.rules.specs.Draws.{exchange, shuffle, newOrder, orderBounds, Drew}
+use Rattle.rules.specs.Laws.Orders.{other, other-same, other-far, get-exchange, length-exchange, mem-exchange, exchange-mem, nodup-exchange}
 use Rattle.matching.specs.Match.{Match}
 use Rattle.matching.specs.Reads.{Arranges}
 

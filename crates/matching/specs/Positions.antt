@@ -11,7 +11,8 @@ use Rattle.lists.specs.Lengths.{length-below}
 use Rattle.lists.specs.Places.{map-getD}
 use Rattle.lists.specs.Members.{getD-map-below}
 use Rattle.lists.specs.Tables.{put, put-same, put-other, put-put, put-own}
-use Rattle.rules.specs.Laws.Orders.{Drew, drew-length, drew-each, each-drew}
+use Rattle.rules.specs.Draws.{Drew}
+use Rattle.rules.specs.Laws.Orders.{drew-length, drew-each, each-drew}
 use Rattle.matching.specs.Trades.{Trades, None}
 
 abbrev pub Positions : Type 0

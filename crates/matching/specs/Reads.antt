@@ -9,7 +9,7 @@ use lib.ListN.{length, getD}
 use Rattle.lists.specs.Members.{decMem, nodup-sub}
 use Rattle.lists.specs.Places.{insertAt, removeAt, remove-mem, length-remove, removed, insert-remove, nodup-remove, length-insert, nodup-insert, get-insert, mem-remove, mem-insert, remove-insert, index-insert}
 use Rattle.lists.specs.Distinct.{Mem, NoDup, index, index-mem, mem-at}
-use Rattle.rules.specs.Laws.Orders.{Drew}
+use Rattle.rules.specs.Draws.{Drew}
 use Rattle.matching.specs.Trades.{Trades, None}
 
 -- ---- arrangements

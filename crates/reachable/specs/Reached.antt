@@ -12,12 +12,11 @@ use Rattle.lists.specs.Tests.{if_then_else_, and-l}
 use Rattle.rules.specs.Blocks
 use Rattle.rules.specs.Collect
 use Rattle.rules.specs.Completion
-use Rattle.rules.specs.Draws.{newOrder, draws}
+use Rattle.rules.specs.Draws.{newOrder, draws, Drew}
 use Rattle.rules.specs.Laws.Answers.{Passed, accepted-passed, step-accepted, step-refused}
 use Rattle.rules.specs.Laws.Decided.{decide-in, StepIn, stepBounds-pos}
 use Rattle.rules.specs.Laws.Kept.{act-in, completed-in, fresh-in, drew-of, given-in}
 use Rattle.rules.specs.Laws.Levels.{partitions-pos}
-use Rattle.rules.specs.Laws.Orders.{Drew}
 use Rattle.rules.specs.Laws.Range.{InRange, facts-range}
 use Rattle.rules.specs.Memory
 use Rattle.rules.specs.Questions

@@ -17,12 +17,11 @@ use Rattle.rules.specs.Blocks
 use Rattle.rules.specs.Collect
 use Rattle.rules.specs.Completion
 use Rattle.rules.specs.Completion.{isCommand}
-use Rattle.rules.specs.Draws.{draws, newOrder}
+use Rattle.rules.specs.Draws.{draws, newOrder, Drew}
 use Rattle.rules.specs.Laws.Answers.{Passed, opens, refuse-keeps, accepted-passed, step-accepted, step-refused}
 use Rattle.rules.specs.Laws.Decided.{StepIn, decide-in, stepBounds-pos}
 use Rattle.rules.specs.Laws.Kept.{drew-of, completed-in}
 use Rattle.rules.specs.Laws.Layout.{cell-inj}
-use Rattle.rules.specs.Laws.Orders.{Drew}
 use Rattle.rules.specs.Levels.{target}
 use Rattle.rules.specs.Open.{fresh}
 use Rattle.rules.specs.Questions

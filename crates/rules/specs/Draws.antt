@@ -1,7 +1,7 @@
 -- Document 01, "Draws": numbers drawn from a tape of words, and the order of a level's items over its slots.
 use mathlib.Core.List.{List, [], _∷_}
 use mathlib.Core.Option.{Option, none, some}
-use Prim.Native.Nat.{ℕ, zero, suc, _-_, _%_}
+use Prim.Native.Nat.{ℕ, zero, suc, _-_, _%_, _<_}
 use lib.ListN.{getD, set}
 use Rattle.lists.specs.Search.{below}
 
@@ -23,6 +23,13 @@ unfoldable pub draws : List ℕ → List ℕ → Option Drawn
 draws [] ws = some (record { numbers = []; taken = 0 })
 draws (m ∷ ms) [] = none
 draws (m ∷ ms) (w ∷ ws) = drawnFirst (draw m w) (draws ms ws)
+
+-- A tape of drawn numbers, for these draws: "one for each draw, in turn, below the m of that draw, and no more"
+abbrev pub Drew : List ℕ → List ℕ → Type 0
+Drew [] [] = Unit {0}
+Drew [] (j ∷ js) = ⊥
+Drew (m ∷ ms) [] = ⊥
+Drew (m ∷ ms) (j ∷ js) = (j < m) × Drew ms js
 
 -- An order is the list of the items' slots. "Exchange the slots of items i and j."
 unfoldable pub exchange : List ℕ → ℕ → ℕ → List ℕ

@@ -16,7 +16,7 @@ use Rattle.lists.specs.All.{all-yes, All, nil, cons, all-map, all-replicate}
 use Rattle.lists.specs.Tests.{if_then_else_, every-yes, between, and-r, and-l}
 use Rattle.rules.specs.Laws.Levels.{partitions-pos}
 use Rattle.rules.specs.Shape.{Shape, within, slots}
-use Rattle.rules.specs.Draws.{Drawn, draws, orderBounds}
+use Rattle.rules.specs.Draws.{Drawn, draws, orderBounds, Drew}
 use Rattle.rules.specs.Memory.{needed}
 use Rattle.rules.specs.Laws.Decided.{StepIn, decide-in}
 use Rattle.rules.specs.Unfold.{model}
@@ -26,7 +26,7 @@ use Rattle.rules.specs.Run.{Outcome, act, refuse, sentCommand, numbersOf, accep
 use Rattle.rules.specs.Questions.{Ask, opening, request, turn, completion, collect, Call, bounds, number, questions, firstNo, ready}
 use Rattle.rules.specs.Turn.{stepBounds, decide, Step, idle, noDummy, readForRequest, readForJob, rebuild, writeNext}
 use Rattle.rules.specs.Ranges.{isKind}
-use Rattle.rules.specs.Laws.Orders.{Drew, drew-length}
+use Rattle.rules.specs.Laws.Orders.{drew-length}
 use Rattle.rules.specs.Laws.Kept.{given-in, drew-of}
 use Rattle.matching.specs.Trades.{none-drew}
 use Rattle.hiding.specs.Orders.Number.{enough}

@@ -14,9 +14,9 @@ use Rattle.lists.specs.All.{All, nil, cons, all-append, all-replicate}
 use Rattle.rules.specs.Laws.Answers.{accepted-passed}
 use Rattle.rules.specs.Questions.{Call, bounds, number}
 use Rattle.rules.specs.State.{State}
-use Rattle.rules.specs.Laws.Orders.{Drew, drew-length}
+use Rattle.rules.specs.Laws.Orders.{drew-length}
 use Rattle.rules.specs.Run.{numbersOf, step, run, Outcome}
-use Rattle.rules.specs.Draws.{draw, draws, drawnFirst}
+use Rattle.rules.specs.Draws.{draw, draws, drawnFirst, Drew}
 use Rattle.matching.specs.Trades.{none-drew}
 use Rattle.hiding.specs.Claim
 use Rattle.hiding.specs.Claim.{Lent, lend, numberOf, boundsOf, nextOf, Tape, Lends, drawsOf, drawsIn, Gives, Short, Tapes}

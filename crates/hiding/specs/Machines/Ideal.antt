@@ -9,7 +9,7 @@ use Rattle.rules.specs.Open.{fresh}
 use Rattle.rules.specs.Setters.{_▷_, setPartition, setPlace, setWaiting, setMark, setQueue, setSent, setRequest}
 use Rattle.rules.specs.Turn.{Step, idle, noDummy, readForRequest, readForJob, rebuild, writeNext, command, send, doStep}
 use Rattle.rules.specs.State.{Command, cmd, write, Place, Request, State}
-use Rattle.rules.specs.Laws.Orders.{Drew}
+use Rattle.rules.specs.Draws.{Drew}
 use Rattle.rules.specs.Shape.{Shape, slots, cell}
 use Rattle.matching.specs.Trades.{None}
 use Rattle.matching.specs.Machine.{Machine}

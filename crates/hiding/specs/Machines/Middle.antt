@@ -19,7 +19,7 @@ use Rattle.rules.specs.Ranges.{others}
 use Rattle.rules.specs.Shape.{Shape, slots}
 use Rattle.rules.specs.State.{Place, nowhere, stored, Request, State}
 use Rattle.rules.specs.Open.{fresh}
-use Rattle.rules.specs.Laws.Orders.{Drew}
+use Rattle.rules.specs.Draws.{Drew}
 use Rattle.rules.specs.Completion.{complete}
 use Rattle.matching.specs.Machine.{Machine}
 use Rattle.matching.specs.Trades.{None}

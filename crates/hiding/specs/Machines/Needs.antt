@@ -8,7 +8,7 @@ use Prim.Native.Nat.{ℕ, suc, _<_}
 use lib.ListN.{length, replicate}
 use lib.Dec.{ltb}
 use Rattle.lists.specs.Search.{member}
-use Rattle.rules.specs.Laws.Orders.{Drew}
+use Rattle.rules.specs.Draws.{Drew}
 use Rattle.rules.specs.Rebuild.{gathered, chosen}
 use Rattle.rules.specs.Run.{act}
 use Rattle.rules.specs.State.{stored, Request, State}

@@ -8,7 +8,7 @@ use Rattle.rules.specs.Questions
 use Rattle.rules.specs.Questions.{Call, bounds, number}
 use Rattle.rules.specs.Run.{act, sentCommand}
 use Rattle.rules.specs.State.{State, closed}
-use Rattle.rules.specs.Laws.Orders.{Drew}
+use Rattle.rules.specs.Draws.{Drew}
 use Rattle.rules.specs.Shape.{Shape, slots, cell}
 use Rattle.matching.specs.Keyed.{Key}
 use Rattle.matching.specs.Trades.{None}

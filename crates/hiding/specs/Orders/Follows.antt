@@ -20,14 +20,13 @@ use Rattle.rules.specs.Completion.{complete}
 use Rattle.rules.specs.Laws.Levels.{sources-le}
 use Rattle.rules.specs.Levels
 use Rattle.rules.specs.Shape.{Shape, slots}
-use Rattle.rules.specs.Draws.{newOrder}
+use Rattle.rules.specs.Draws.{newOrder, Drew}
 use Rattle.rules.specs.Collect
 use Rattle.rules.specs.Collect.{collected, finished}
 use Rattle.rules.specs.State.{State, Command, Request, Place, nowhere, stored}
 use Rattle.rules.specs.Turn
 use Rattle.rules.specs.Turn.{Step, idle, noDummy, readForRequest, readForJob, rebuild, writeNext, decide, stepBounds, doStep, command}
 use Rattle.rules.specs.Blocks
-use Rattle.rules.specs.Laws.Orders.{Drew}
 use Rattle.rules.specs.Run.{act, sentCommand}
 use Rattle.rules.specs.Rebuild
 use Rattle.rules.specs.Rebuild.{gathered, newPlace, itemPlace}

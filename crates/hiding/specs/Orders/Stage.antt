@@ -13,7 +13,7 @@ use Rattle.rules.specs.Laws.Answers.{accepted-passed}
 use Rattle.rules.specs.Questions.{bounds, number, questions}
 use Rattle.rules.specs.Shape.{Shape, within}
 use Rattle.rules.specs.State.{State, closed}
-use Rattle.rules.specs.Laws.Orders.{Drew}
+use Rattle.rules.specs.Draws.{Drew}
 use Rattle.rules.specs.Open.{fresh}
 use Rattle.matching.specs.Deferred.{Trade, full}
 use Rattle.matching.specs.Reads.{Arranges}

@@ -17,12 +17,11 @@ use Rattle.lists.specs.Tests.{if_then_else_, and-l, and-r}
 use Rattle.lists.specs.Search.{below, member}
 use Rattle.rules.specs.Turn
 use Rattle.rules.specs.Turn.{Step, idle, noDummy, readForRequest, readForJob, rebuild, writeNext, stepBounds, doStep}
-use Rattle.rules.specs.Draws.{orderBounds}
+use Rattle.rules.specs.Draws.{orderBounds, Drew}
 use Rattle.rules.specs.Request.{accept}
 use Rattle.rules.specs.Rebuild.{newPlace, leave}
 use Rattle.rules.specs.Shape.{Shape, slots, cell}
 use Rattle.rules.specs.State.{State, Command, Place, Request}
-use Rattle.rules.specs.Laws.Orders.{Drew}
 use Rattle.rules.specs.Completion.{complete}
 use Rattle.matching.specs.Match.{join, rename}
 use Rattle.matching.specs.Trades.{None, Trades, stays, renamed, none-drew}

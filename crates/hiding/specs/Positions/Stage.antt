@@ -14,7 +14,7 @@ use Rattle.lists.specs.Tests.{if_then_else_}
 use Rattle.lists.specs.Tables.{put}
 use Rattle.rules.specs.Blocks
 use Rattle.rules.specs.Request.{passLevel, accept}
-use Rattle.rules.specs.Laws.Orders.{Drew}
+use Rattle.rules.specs.Draws.{Drew}
 use Rattle.rules.specs.Shape.{Shape}
 use Rattle.rules.specs.Open.{fresh}
 use Rattle.rules.specs.State.{State, Command, Request}

@@ -22,7 +22,7 @@ use Rattle.rules.specs.Blocks
 use Rattle.rules.specs.Levels.{grown}
 use Rattle.rules.specs.Laws.Range.{PlaceIn, CommandIn, RequestIn, JobsIn, InRange, range-facts}
 use Rattle.rules.specs.Request
-use Rattle.rules.specs.Laws.Orders.{Drew, drew-each, order-below, length-order}
+use Rattle.rules.specs.Laws.Orders.{drew-each, order-below, length-order}
 use Rattle.rules.specs.Laws.Levels.{grown-lt, partitions-pos, levels-pos, slots-le}
 use Rattle.rules.specs.Laws.Layout.{cell-inj, offset-in}
 use Rattle.rules.specs.Shape.{Shape, cell, slots, within}
@@ -43,7 +43,7 @@ use Rattle.rules.specs.Turn
 use Rattle.rules.specs.Turn.{Step, idle, noDummy, readForRequest, readForJob, rebuild, writeNext, decide, doStep}
 use Rattle.rules.specs.Completion
 use Rattle.rules.specs.Ranges.{inRange, others, isKind}
-use Rattle.rules.specs.Draws.{newOrder, Drawn, draw, draws, drawnFirst}
+use Rattle.rules.specs.Draws.{newOrder, Drawn, draw, draws, drawnFirst, Drew}
 
 -- Commands sent
 pub kind-read : isKind 1 ≡ true

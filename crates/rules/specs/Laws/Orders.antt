@@ -12,7 +12,7 @@ use Rattle.lists.specs.Lengths.{length-count, length-below}
 use Rattle.lists.specs.All.{All, nil, cons, all-getD, all-set, below-below}
 use Rattle.lists.specs.Search.{below}
 use Rattle.lists.specs.Distinct.{Mem, NoDup, index, index-mem, mem-at, nodup-inj, inj-nodup}
-use Rattle.rules.specs.Draws.{exchange, shuffle, newOrder, orderBounds}
+use Rattle.rules.specs.Draws.{exchange, shuffle, newOrder, orderBounds, Drew}
 
 -- An order's slots
 pub exchange-below : (n i j : ℕ) (o : List ℕ) → 0 < n → All (λ x. x < n) o → All (λ x. x < n) (exchange o i j)
@@ -44,13 +44,6 @@ unfolding orderBounds
 orderBounds-pos zero = nil
 orderBounds-pos (suc zero) = nil
 orderBounds-pos (suc (suc i)) = let here : 0 < suc (suc i) = omega arith in cons here (orderBounds-pos (suc i))
-
--- The numbers drawn for a list of bounds, as document 01's tape has them: "one for each draw, in turn, below the m of that draw, and no more"
-abbrev pub Drew : List ℕ → List ℕ → Type 0
-Drew [] [] = Unit {0}
-Drew [] (j ∷ js) = ⊥
-Drew (m ∷ ms) [] = ⊥
-Drew (m ∷ ms) (j ∷ js) = (j < m) × Drew ms js
 
 pub drew-length : (ms js : List ℕ) → Drew ms js → length js ≡ length ms
 drew-length [] [] d = refl

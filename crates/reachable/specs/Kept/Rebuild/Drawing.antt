@@ -14,9 +14,9 @@ use borrow.Author.Tests.{ne-eqb}
 use Rattle.lists.specs.All.{All}
 use Rattle.lists.specs.Distinct.{Mem, NoDup, index, index-mem, nodup-inj}
 use Rattle.lists.specs.Members.{indexOf-mem, indexOf-none, without-mem, without-gone, nodup-without, full-mem}
-use Rattle.rules.specs.Draws.{newOrder, orderBounds}
+use Rattle.rules.specs.Draws.{newOrder, orderBounds, Drew}
 use Rattle.rules.specs.Laws.Levels.{levels-pos, target-lt}
-use Rattle.rules.specs.Laws.Orders.{Drew, order-below, length-order, nodup-order}
+use Rattle.rules.specs.Laws.Orders.{order-below, length-order, nodup-order}
 use Rattle.rules.specs.Levels.{grown, filled}
 use Rattle.rules.specs.Rebuild
 use Rattle.rules.specs.Rebuild.{gathered, doRebuild, chosen}
