@@ -137,3 +137,9 @@ module _ (bound : ℕ) (some : 0 < bound) (f : ℕ → ℕ) where
 
   pub fit-kept : (p : ℕ → Bool) (g : ℕ → ℕ) (k i v : ℕ) → v ≡ fit bound (f i) → p v ≡ true → Kept p g (fitted bound f) k i → Kept p g (fitted bound (put k v f)) (k + 1) (i + 1)
   fit-kept p g k i v e t s = subst (λ h. Kept p g h (k + 1) (i + 1)) (sym (fit-again k i v e)) (kept-yes p g (fitted bound f) k i (rw e at t) s)
+
+-- a slot below a cell's bound
+pub view-slot : (c : Client) (t : Tables) (x v : ℕ) → v < slots (levelAt (shapeOf (c .shape)) x)
+    → view c (withOrder (put x v (t .order)) t) ≡ setOrder (put x v (view c t .order)) (view c t)
+unfolding view
+view-slot c t x v l = ap (λ f. setOrder f (view c t)) (fit-put (λ x. slots (levelAt (shapeOf (c .shape)) x)) x v (t .order) l)

@@ -1,0 +1,116 @@
+// The client's state as 32 bytes, and an answer as one number.
+use client::Client;
+use client::Request;
+use meets::Answer;
+use memory::Shape;
+ghost use mathlib.Core.Path.{_≡_};
+ghost use Prim.Native.Nat.{_%_, _<_};
+ghost use lib.ListN.{length};
+ghost use Rattle.lists.specs.Tables.{put as putAt};
+ghost use Rattle.memory.specs.Words.{wordAt};
+ghost use Rattle.codec.specs.Codec.{clientOf, withShape, withRequest, lowClient, packed};
+
+// Number k of the state.
+fn number(s: &[u8], k: usize) -> usize
+    requires { ⌜ (length (now s) ≡ 32) × (k < 16) ⌝ }
+    ensures { λ r. ⌜ r ≡ wordAt (now (s .entry)) k ⌝ }
+{
+    memory::word(s, k)
+}
+
+fn set_number(s: &mut [u8], k: usize, v: usize)
+    requires { ⌜ (length (now s) ≡ 32) × (k < 16) ⌝ }
+    ensures { λ _. ⌜ wordAt (now (s .exit)) ≡ putAt k (v % 65536) (wordAt (now (s .entry))) ⌝ }
+{
+    memory::set_word(s, k, v % 65536);
+}
+
+fn shape(s: &[u8]) -> Shape
+    requires { ⌜ length (now s) ≡ 32 ⌝ }
+    ensures { λ r. ⌜ r ≡ clientOf (wordAt (now (s .entry))) .shape ⌝ }
+{
+    Shape {
+        n: number(s, 0),
+        p: number(s, 1),
+        l: number(s, 2),
+        b: number(s, 3),
+        e: number(s, 4),
+        w: number(s, 5),
+    }
+}
+
+fn request(s: &[u8]) -> Request
+    requires { ⌜ length (now s) ≡ 32 ⌝ }
+    ensures { λ r. ⌜ r ≡ clientOf (wordAt (now (s .entry))) .request ⌝ }
+{
+    Request {
+        kind: number(s, 6),
+        block: number(s, 7),
+        next: number(s, 8),
+        evict: number(s, 9),
+        level: number(s, 10),
+    }
+}
+
+pub fn decode(s: &[u8]) -> Client
+    requires { ⌜ length (now s) ≡ 32 ⌝ }
+    ensures { λ r. ⌜ r ≡ clientOf (wordAt (now (s .entry))) ⌝ }
+{
+    Client {
+        shape: shape(s),
+        request: request(s),
+        jobs: number(s, 11),
+        cursor: number(s, 12),
+        sent: number(s, 13),
+        waiting: number(s, 14),
+        out: number(s, 15),
+    }
+}
+
+fn put_shape(s: &mut [u8], h: Shape)
+    requires { ⌜ length (now s) ≡ 32 ⌝ }
+    ensures { λ _. ⌜ wordAt (now (s .exit)) ≡ withShape h (wordAt (now (s .entry))) ⌝ }
+{
+    set_number(s, 0, h.n);
+    set_number(s, 1, h.p);
+    set_number(s, 2, h.l);
+    set_number(s, 3, h.b);
+    set_number(s, 4, h.e);
+    set_number(s, 5, h.w);
+}
+
+fn put_request(s: &mut [u8], r: Request)
+    requires { ⌜ length (now s) ≡ 32 ⌝ }
+    ensures { λ _. ⌜ wordAt (now (s .exit)) ≡ withRequest r (wordAt (now (s .entry))) ⌝ }
+{
+    set_number(s, 6, r.kind);
+    set_number(s, 7, r.block);
+    set_number(s, 8, r.next);
+    set_number(s, 9, r.evict);
+    set_number(s, 10, r.level);
+}
+
+pub fn encode(s: &mut [u8], c: Client)
+    requires { ⌜ length (now s) ≡ 32 ⌝ }
+    ensures { λ _. ⌜ clientOf (wordAt (now (s .exit))) ≡ lowClient c ⌝ }
+{
+    put_shape(s, c.shape);
+    put_request(s, c.request);
+    set_number(s, 11, c.jobs);
+    set_number(s, 12, c.cursor);
+    set_number(s, 13, c.sent);
+    set_number(s, 14, c.waiting);
+    set_number(s, 15, c.out);
+}
+
+// The number in the lowest byte, then kind, partition and level, a byte each, then the slot and the words taken, two bytes each.
+pub fn pack(r: Answer) -> u64
+    ensures { λ u. ⌜ u ≡ packed r ⌝ }
+{
+    let low = r.number % 256
+        + 256 * (r.kind % 256)
+        + 65536 * (r.partition % 256)
+        + 16777216 * (r.level % 256);
+    let high = r.slot % 65536 + 65536 * (r.taken % 65536);
+    (low + 4294967296 * high) as u64
+}

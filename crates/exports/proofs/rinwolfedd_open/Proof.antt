@@ -1,0 +1,34 @@
+use mathlib.Core.Path.{refl}
+use Rattle.exports.specs.Exported.{exported-open, numbers}
+use native.Mathlib.Omega.{arith}
+use Rattle.exports.proofs.rinwolfedd_open.Statement.{statement}
+use Rattle.exports.proofs.rinwolfedd_open.Tie as tie
+use Rattle.exports.proofs.hand_back_opened.Reads as hand-back-opened-reads
+use Rattle.opening.proofs.open.Reads as open-reads
+
+returns : tie.Need-returns
+returns c = record { meets = λ l. absurd (c .if1 .taken l); refused = λ l. absurd (c .if1 .taken l); other = λ _. (refl, refl, refl) }
+
+open-requires : tie.Need-open-requires
+open-requires c κs = omega arith
+
+hand-back-opened-requires : tie.Need-hand-back-opened-requires
+hand-back-opened-requires c κs = omega arith
+
+same-length : tie.Need-same-length
+same-length c = omega arith
+
+same-length-2 : tie.Need-same-length-2
+same-length-2 c = omega arith
+
+returns-2 : tie.Need-returns-2
+returns-2 c =
+    let d = c .before .before in
+    let o = d .before .before .before .before in
+    let a = o .before .before .before .before .before .before .args in
+    exported-open (numbers (a .n) (a .p) (a .l) (a .b) (a .e) (a .w)) (a .state .now) (a .memory .now) (a .tape .now) (o .«open» .result) (d .hand-back-opened .result) _ _ (omega arith) (o .«open» .ensures) (d .hand-back-opened .ensures)
+
+pub rinwolfedd-open-spec : {M : Type 1} → statement M
+rinwolfedd-open-spec =
+    tie.close
+    (tie.spec returns open-requires hand-back-opened-requires same-length same-length-2 returns-2)

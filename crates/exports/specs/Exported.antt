@@ -1,0 +1,194 @@
+-- What the exported calls' contracts say: the answer, read off one number, and the state, read off 32 bytes, meet the rules.
+use mathlib.Core.Path.{_≡_, refl, ap, sym, _∙_}
+use mathlib.Core.List.{List, []}
+use Prim.Native.Nat.{ℕ, _+_, _*_, _/_, _%_, _≤_, _<_}
+use native.Mathlib.Nat.{mod-eq-of-lt}
+use native.Mathlib.Omega.{arith}
+use native.Mathlib.Decide.{ℕ-discrete}
+use lib.ListN.{length, drop, replicate}
+use Rattle.rules.specs.Shape.{Shape}
+use Rattle.rules.specs.State.{State, Command, cmd, closed}
+use Rattle.rules.specs.Memory.{needed}
+use Rattle.rules.specs.Draws.{draws}
+use Rattle.rules.specs.Questions.{Ask, opening, Call, bounds, number}
+use Rattle.rules.specs.Run.{Outcome, step, act, accepted, refused, sentCommand, numbersOf}
+use Rattle.rules.specs.Laws.Answers.{number-le, step-number, step-accepted, refused-outcome, accepted-passed, accepted-taken}
+use Rattle.rules.specs.Laws.Range.{InRange}
+use Rattle.rules.specs.Laws.Kept.{accepted-in}
+use Rattle.memory.specs.Words.{wordAt}
+use Rattle.client.specs.declared.Client.{Client}
+use Rattle.client.specs.View.{stateOf}
+use Rattle.tape.specs.Tape.{wordsOf}
+use Rattle.meets.specs.declared.Answer.{Answer}
+use Rattle.meets.specs.Answers.{clearedClient}
+use Rattle.meets.specs.Meets.{Meets, callOf, commandOf}
+use Rattle.codec.specs.Codec.{clientOf, lowClient, packed, answerOf}
+use Rattle.exports.specs.Small.{SmallCommand, accepted-small, low-client}
+
+-- the client that 32 bytes say
+abbrev pub clientIn : List ℕ → Client
+clientIn st = clientOf (wordAt st)
+
+-- A request, turn, completion or collect: st is the state handed in, st′ the state handed back
+pub record Exported (a : Ask) (st m tape b : List ℕ) (u : ℕ) (st′ m′ b′ : List ℕ) : Type 0 where
+  pub meets : length st ≡ 32 → Meets (clientIn st) (stateOf (clientIn st) m) a m tape b (answerOf u (clientIn st′)) m′ b′
+  pub refused : (u % 256 ≡ 0 → ⊥) → st′ ≡ st
+  -- a state of another length: 2, and nothing is written
+  pub other : (length st ≡ 32 → ⊥) → (u ≡ 2) × (st′ ≡ st) × (m′ ≡ m) × (b′ ≡ b)
+
+-- An open: a refused one hands back a closed state, all zeros
+pub record Opened (h : Shape) (st m tape : List ℕ) (u : ℕ) (st′ m′ : List ℕ) : Type 0 where
+  pub meets : length st ≡ 32 → Meets clearedClient closed (opening h) m tape [] (answerOf u (clientIn st′)) m′ []
+  pub refused : length st ≡ 32 → (u % 256 ≡ 0 → ⊥) → st′ ≡ replicate 32 0
+  pub other : (length st ≡ 32 → ⊥) → (u ≡ 2) × (st′ ≡ st) × (m′ ≡ m)
+
+-- ---- Packed answers
+
+pub record Small (r : Answer) : Type 0 where
+  pub number : r .number < 256
+  pub taken : r .taken < 65536
+  pub kind : r .kind < 256
+  pub partition : r .partition < 256
+  pub level : r .level < 256
+  pub slot : r .slot < 65536
+
+sum : Answer → ℕ
+sum r = (r .number + 256 * r .kind + 65536 * r .partition + 16777216 * r .level) + 4294967296 * (r .slot + 65536 * r .taken)
+
+packed-sum : (r : Answer) → Small r → packed r ≡ sum r
+unfolding sum
+packed-sum r f = rw (mod-eq-of-lt (f .number), mod-eq-of-lt (f .kind), mod-eq-of-lt (f .partition), mod-eq-of-lt (f .level), mod-eq-of-lt (f .slot), mod-eq-of-lt (f .taken))
+
+-- what is packed can be read off again
+pub unpacked : (r : Answer) → Small r → (x : Client) → answerOf (packed r) x ≡ record { number = r .number; taken = r .taken; kind = r .kind; partition = r .partition; level = r .level; slot = r .slot; client = x }
+unfolding sum
+unpacked r f x = ap (λ u. answerOf u x) (packed-sum r f) ∙ (λ k. record {
+  number = number-is k;
+  taken = taken-is k;
+  kind = kind-is k;
+  partition = partition-is k;
+  level = level-is k;
+  slot = slot-is k;
+  client = x;
+})
+  where
+    number-is : sum r % 256 ≡ r .number
+    number-is = omega arith
+
+    taken-is : sum r / 281474976710656 ≡ r .taken
+    taken-is = omega arith
+
+    kind-is : sum r / 256 % 256 ≡ r .kind
+    kind-is = omega arith
+
+    partition-is : sum r / 65536 % 256 ≡ r .partition
+    partition-is = omega arith
+
+    level-is : sum r / 16777216 % 256 ≡ r .level
+    level-is = omega arith
+
+    slot-is : sum r / 4294967296 % 65536 ≡ r .slot
+    slot-is = omega arith
+
+-- ---- From a call's contract to the exported one's
+
+module _ (c : Client) (s : State) (a : Ask) (m tape b : List ℕ) (r : Answer) (m′ b′ : List ℕ) (k : Meets c s a m tape b r m′ b′) where
+  abbrev asked : Call
+  asked = callOf a m tape b
+
+  is-number : r .number ≡ number s asked
+  is-number = k .number ∙ step-number s asked
+
+  -- a refusal's answer is small
+  refused-small : (r .number ≡ 0 → ⊥) → Small r
+  unfolding refused
+  refused-small n =
+      let e = refused-outcome s asked (λ z. n (is-number ∙ z)) in
+      let o = k .command ∙ ap (λ (x : Outcome). x .command) e in
+      let z : (r .kind ≡ 0) × (r .partition ≡ 0) × (r .level ≡ 0) × (r .slot ≡ 0) = (ap (λ (x : Command). x .kind) o, ap (λ (x : Command). x .partition) o, ap (λ (x : Command). x .level) o, ap (λ (x : Command). x .slot) o) in
+      let w : r .taken ≡ 0 = k .taken ∙ ap (λ (x : Outcome). x .taken) e in
+      record { number = omega (arith, is-number, number-le s asked); taken = omega arith; kind = omega arith; partition = omega arith; level = omega arith; slot = omega arith }
+
+  -- an accepted call's too
+  accepted-fits : r .number ≡ 0 → Small r
+  unfolding accepted
+  accepted-fits z =
+      let e : number s asked ≡ 0 = sym is-number ∙ z in
+      let f = accepted-small s a (length m) (wordsOf tape) (length b) (accepted-passed s asked e) in
+      let o : commandOf r ≡ sentCommand s a = k .command ∙ ap (λ (x : State × Outcome). x .1 .command) (step-accepted s asked e) in
+      let t : r .taken ≡ length (bounds s a) = k .taken ∙ accepted-taken s asked e in
+      let d : SmallCommand (commandOf r) = rw o (f .0) in
+      record { number = omega arith; taken = omega (arith, f .1); kind = d .kind; partition = d .partition; level = d .level; slot = d .slot }
+
+  -- and it leaves a state in range
+  left-in : r .number ≡ 0 → InRange (stateOf (r .client) m′)
+  unfolding accepted
+  left-in z =
+      let e : number s asked ≡ 0 = sym is-number ∙ z in
+      let w : stateOf (r .client) m′ ≡ act s a (numbersOf (draws (bounds s a) (wordsOf tape))) = k .state ∙ ap (λ (x : State × Outcome). x .0) (step-accepted s asked e) in
+      rw w (accepted-in s a (length m) (wordsOf tape) (length b) (accepted-passed s asked e))
+
+  -- the same answer with another client that stands for the same state
+  repacked : Small r → (x : Client) → stateOf x m′ ≡ stateOf (r .client) m′ → ((r .number ≡ 0 → ⊥) → x ≡ c) → Meets c s a m tape b (answerOf (packed r) x) m′ b′
+  repacked f x e n = rw (unpacked r f x) (record {
+    number = k .number;
+    taken = k .taken;
+    command = k .command;
+    state = e ∙ k .state;
+    buffer = k .buffer;
+    refused = λ z. (k .refused z .0, n z);
+    tail = rw e (k .tail);
+  })
+
+  pub meets-refused : (r .number ≡ 0 → ⊥) → Meets c s a m tape b (answerOf (packed r) c) m′ b′
+  meets-refused n = repacked (refused-small n) c (ap (λ x. stateOf x m′) (sym (k .refused n .1))) (λ z. refl)
+
+  pub meets-accepted : r .number ≡ 0 → (x : Client) → x ≡ lowClient (r .client) → Meets c s a m tape b (answerOf (packed r) x) m′ b′
+  meets-accepted z x e = repacked (accepted-fits z) x (ap (λ y. stateOf y m′) e ∙ low-client (r .client) m′ (left-in z)) (λ n. absurd (n z))
+
+  pub number-packed : packed r % 256 ≡ r .number
+  number-packed = omega (arith, is-number, number-le s asked)
+
+-- ---- The state as it is handed back
+
+pub record HandedBack (r : Answer) (u : ℕ) (st st′ : List ℕ) : Type 0 where
+  pub answer : u ≡ packed r
+  pub accepted : r .number ≡ 0 → clientIn st′ ≡ lowClient (r .client)
+  pub refused : (r .number ≡ 0 → ⊥) → st′ ≡ st
+
+pub record HandedBackOpened (r : Answer) (u : ℕ) (st′ : List ℕ) : Type 0 where
+  pub answer : u ≡ packed r
+  pub accepted : r .number ≡ 0 → clientIn st′ ≡ lowClient (r .client)
+  pub refused : (r .number ≡ 0 → ⊥) → st′ ≡ replicate 32 0
+
+abbrev pub numbers : ℕ → ℕ → ℕ → ℕ → ℕ → ℕ → Shape
+numbers n p l b e w = record { N = n; P = p; L = l; B = b; E = e; W = w }
+
+-- a call that meets the rules, handed back
+pub exported : (a : Ask) (st m tape b : List ℕ) (r : Answer) (u : ℕ) (st′ m′ b′ : List ℕ) → length st ≡ 32
+    → Meets (clientIn st) (stateOf (clientIn st) m) a m tape b r m′ b′ → HandedBack r u st st′ → Exported a st m tape b u st′ m′ b′
+exported a st m tape b r u st′ m′ b′ l k h = record {
+  meets = λ _. rw (h .answer) (go (ℕ-discrete (r .number) 0));
+  refused = λ n. h .refused (λ z. n (rw (h .answer) (number-packed (clientIn st) (stateOf (clientIn st) m) a m tape b r m′ b′ k ∙ z)));
+  other = λ n. absurd (n l);
+}
+  where
+    go : Dec (r .number ≡ 0) → Meets (clientIn st) (stateOf (clientIn st) m) a m tape b (answerOf (packed r) (clientIn st′)) m′ b′
+    go (yes z) = meets-accepted (clientIn st) (stateOf (clientIn st) m) a m tape b r m′ b′ k z (clientIn st′) (h .accepted z)
+    go (no n) = rw (h .refused n) (meets-refused (clientIn st) (stateOf (clientIn st) m) a m tape b r m′ b′ k n)
+
+-- an open
+pub exported-open : (h : Shape) (st m tape : List ℕ) (r : Answer) (u : ℕ) (st′ m′ : List ℕ) → length st ≡ 32
+    → Meets clearedClient closed (opening h) m tape [] r m′ [] → HandedBackOpened r u st′ → Opened h st m tape u st′ m′
+exported-open h st m tape r u st′ m′ l k b = record {
+  meets = λ _. rw (b .answer) (go (ℕ-discrete (r .number) 0));
+  refused = λ _ n. b .refused (λ z. n (rw (b .answer) (number-packed clearedClient closed (opening h) m tape [] r m′ [] k ∙ z)));
+  other = λ n. absurd (n l);
+}
+  where
+    zeros-say : clientIn (replicate 32 0) ≡ clearedClient
+    zeros-say = unfold wordAt in refl
+
+    go : Dec (r .number ≡ 0) → Meets clearedClient closed (opening h) m tape [] (answerOf (packed r) (clientIn st′)) m′ []
+    go (yes z) = meets-accepted clearedClient closed (opening h) m tape [] r m′ [] k z (clientIn st′) (b .accepted z)
+    go (no n) = rw (b .refused n, zeros-say) (meets-refused clearedClient closed (opening h) m tape [] r m′ [] k n)

@@ -1,0 +1,6 @@
+pub mod Target
+pub mod Fill
+pub mod Steps
+pub mod Shuffle
+pub mod Items
+pub mod Placing
