@@ -1,13 +1,15 @@
 //! A plain implementation of document 01's block store. It is written from that
 //! document alone and made to be read, so that other implementations and
-//! definitions can be compared with it.
+//! definitions can be compared with it. Beside it is a fast implementation of
+//! the same rules, for benchmarks.
 
 pub mod antt;
 pub mod array;
 pub mod calls;
+pub mod fast;
 pub mod host;
 pub mod lists;
-
+pub mod lookups;
 pub mod mistakes;
 pub mod rng;
 pub mod script;

@@ -1,6 +1,7 @@
 //! Request, completion and collect.
 
-use super::{Answer, Block, Command, NONE, NOWHERE, Phase, READ, Request, Store, WAITING, WRITE};
+use super::parts::{Block, NONE, NOWHERE, Phase, Request, WAITING};
+use super::{Answer, Command, READ, Store, WRITE, ZEROS};
 
 /// The most jobs queued when a request is accepted.
 const MOST_JOBS: usize = 62;
@@ -11,9 +12,11 @@ impl Store {
             0 => {}
             number => return Answer::refused(number),
         }
+        let mut room = ZEROS;
         if kind == WRITE {
-            let area = self.area(self.blocks.len() + 2);
-            self.contents[area].copy_from_slice(contents);
+            room = self.free.pop().unwrap_or(ZEROS);
+            let at = self.at(room);
+            self.contents[at..at + self.bytes].copy_from_slice(contents);
         }
         let mask = self.partitions.len() - 1;
         let partition = usize::from(self.blocks[block].partition);
@@ -26,6 +29,7 @@ impl Store {
             partition,
             next: usize::from(words[0]) & mask,
             evict: usize::from(words[1]) & mask,
+            room,
         };
         self.release(partition);
         Answer::sent(Command::default(), 2)
@@ -64,46 +68,28 @@ impl Store {
     }
 
     pub fn completion(&mut self, command: Command, bytes: &[u8]) -> u8 {
-        if command.kind != READ && command.kind != WRITE {
-            return 2;
-        }
-        let (partition, level) = (usize::from(command.partition), usize::from(command.level));
-        let slot = usize::from(command.slot);
-        if partition >= self.partitions.len() || level >= self.levels || slot >= 2 << level {
-            return 11;
-        }
-        let index = (2 << level) + slot;
-        let word = &mut self.partitions[partition].sent[index / 64 % 8];
-        let bit = 1 << (index % 64);
-        let job = partition == self.job.partition;
-        let writing = job && matches!(self.job.phase, Phase::Write | Phase::Written);
-        if *word & bit == 0 || writing != (command.kind == WRITE) {
-            return 11;
-        }
-        if bytes.len() != if writing { 0 } else { self.bytes } {
-            return 12;
-        }
-        *word ^= bit;
-        if job {
-            self.job.outstanding -= 1;
+        let Some(index) = self.sent.find(command) else {
+            let known = matches!(command.kind, READ | WRITE);
+            return if known { 11 } else { 2 };
+        };
+        if command.kind == READ {
+            if bytes.len() != self.bytes {
+                return 12;
+            }
+            let at = self.sent.remove(index);
+            let requests = usize::from(command.partition) != self.job.partition;
+            self.request.outstanding -= usize::from(requests);
+            self.contents[at..at + self.bytes].copy_from_slice(bytes);
         } else {
-            self.request.outstanding -= 1;
-        }
-        if !writing {
-            self.keep((partition << (self.levels + 1)) + index, bytes);
-        } else if self.job.phase == Phase::Written && self.job.outstanding == 0 {
-            self.end_job();
+            if !bytes.is_empty() {
+                return 12;
+            }
+            self.sent.remove(index);
+            if self.job.phase == Phase::Written && self.sent.count == self.request.outstanding {
+                self.end_job();
+            }
         }
         0
-    }
-
-    /// Keeps the bytes read from a slot. A dummy's go where nobody looks,
-    /// which costs less than to foresee whose they are.
-    #[inline]
-    fn keep(&mut self, index: usize, bytes: &[u8]) {
-        let block = usize::from(self.block_at[index]);
-        let area = self.area(block + usize::from(block == self.blocks.len()));
-        self.contents[area].copy_from_slice(bytes);
     }
 
     pub fn collect(&mut self, answer: &mut [u8]) -> u8 {
@@ -117,11 +103,12 @@ impl Store {
         if answer.len() != self.bytes {
             return 15;
         }
-        let area = self.area(request.block);
-        answer.copy_from_slice(&self.contents[area.clone()]);
+        let room = self.room_of[request.block];
+        let at = self.at(room);
+        answer.copy_from_slice(&self.contents[at..at + self.bytes]);
         if request.kind == WRITE {
-            let new = self.area(self.blocks.len() + 2);
-            self.contents.copy_within(new, area.start);
+            self.give_back(room);
+            self.room_of[request.block] = request.room;
         }
         self.leave(request.block);
         self.wait(request.block, request.next);
@@ -136,6 +123,12 @@ impl Store {
         0
     }
 
+    pub(super) fn give_back(&mut self, room: u16) {
+        if room != ZEROS {
+            self.free.push(room);
+        }
+    }
+
     /// Takes a block from its place.
     fn leave(&mut self, block: usize) {
         let Block {
@@ -144,10 +137,7 @@ impl Store {
         match place {
             NOWHERE => {}
             WAITING => self.unlink(block),
-            slot => {
-                self.block_at[usize::from(slot)] = self.blocks.len() as u16;
-                self.partitions[usize::from(partition)].stored -= 1;
-            }
+            _ => self.partitions[usize::from(partition)].stored -= 1,
         }
     }
 

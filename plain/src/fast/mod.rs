@@ -9,9 +9,12 @@
 //! index in the store has the partition in the bits above.
 
 mod calls;
+mod parts;
+mod rebuild;
 mod turn;
 
 use crate::shape::Shape;
+use parts::{Block, IDLE, Job, Partition, Queue, Request, Sent};
 
 pub const READ: u8 = 1;
 pub const WRITE: u8 = 2;
@@ -19,14 +22,16 @@ pub const WRITE: u8 = 2;
 /// What a turn sends and a completion names. The default is the command of
 /// zeros that a refusal reports.
 #[derive(Clone, Copy, Debug, Default, PartialEq, Eq)]
+#[repr(C, align(4))]
 pub struct Command {
     pub kind: u8,
     pub partition: u8,
     pub level: u8,
-    pub slot: u16,
+    pub slot: u8,
 }
 
-/// The number answered, the words taken and a turn's command.
+/// The number answered, the words taken and a turn's command, in the eight
+/// bytes that a call hands back in a register.
 #[derive(Clone, Copy, Debug, Default, PartialEq, Eq)]
 pub struct Answer {
     pub number: u8,
@@ -51,171 +56,52 @@ impl Answer {
     }
 }
 
-/// The most levels, and the words of bits for a partition's slots.
-const LEVELS: usize = 8;
-const WORDS: usize = 8;
-/// The most jobs in the queue.
-const JOBS: usize = 64;
-
-/// A place that is no slot.
-const NOWHERE: u16 = u16::MAX;
-const WAITING: u16 = u16::MAX - 1;
-/// The end of a list of waiting blocks.
-const NONE: u16 = u16::MAX;
-
-#[derive(Clone, Copy)]
-struct Block {
-    /// NOWHERE, WAITING or the index of its slot in the store.
-    place: u16,
-    partition: u16,
-    /// The neighbours in the list of blocks that wait for the partition.
-    older: u16,
-    younger: u16,
-}
-
-#[derive(Clone, Copy)]
-#[repr(align(64))]
-struct Partition {
-    /// The slots not read since their level was written.
-    unread: [u64; WORDS],
-    /// The slots with a command outstanding.
-    sent: [u64; WORDS],
-    /// By level, how many of its first items are blocks.
-    blocks: [u16; LEVELS],
-    /// By level, the lowest-numbered unread dummy item.
-    dummy: [u16; LEVELS],
-    counter: u16,
-    /// The blocks its levels hold.
-    stored: u16,
-    /// Its jobs in the queue.
-    jobs: u16,
-    /// The ends of the list of blocks that wait for it.
-    oldest: u16,
-    youngest: u16,
-}
-
-const FRESH: Partition = Partition {
-    unread: [0; WORDS],
-    sent: [0; WORDS],
-    blocks: [0; LEVELS],
-    dummy: [0; LEVELS],
-    counter: 0,
-    stored: 0,
-    jobs: 0,
-    oldest: NONE,
-    youngest: NONE,
-};
-
-/// The request in hand; without one, all but the areas of contents is idle.
-#[derive(Clone, Copy, Default)]
-struct Request {
-    /// READ, WRITE or, without a request, 0.
-    kind: u8,
-    held: bool,
-    /// The levels whose read is yet to be sent, as bits; 0 while held.
-    pending: u32,
-    outstanding: u32,
-    block: usize,
-    partition: usize,
-    next: usize,
-    evict: usize,
-}
-
-#[derive(Clone, Copy, PartialEq, Eq)]
-enum Phase {
-    /// No job is queued.
-    Idle,
-    /// Slots of the sources are yet to be read.
-    Read,
-    /// All reads are sent.
-    Gather,
-    /// Slots of the target are yet to be written.
-    Write,
-    /// All writes are sent.
-    Written,
-}
-
-/// The front job.
-#[derive(Clone, Copy)]
-struct Job {
-    phase: Phase,
-    /// Without a job, a number that no partition has.
-    partition: usize,
-    sources: usize,
-    target: usize,
-    /// The reads yet to be sent, and the word of bits with the next one.
-    reads: u32,
-    word: usize,
-    /// The next slot to write.
-    slot: usize,
-    outstanding: u32,
-}
-
-const IDLE: Job = Job {
-    phase: Phase::Idle,
-    partition: usize::MAX,
-    sources: 0,
-    target: 0,
-    reads: 0,
-    word: 0,
-    slot: 0,
-    outstanding: 0,
-};
-
-/// A ring of partition numbers.
-#[derive(Clone, Copy)]
-struct Queue {
-    ring: [u8; JOBS],
-    first: usize,
-    len: usize,
-}
-
-impl Queue {
-    fn push(&mut self, partition: usize) {
-        self.ring[(self.first + self.len) % JOBS] = partition as u8;
-        self.len += 1;
-    }
-
-    fn pop(&mut self) {
-        self.first = (self.first + 1) % JOBS;
-        self.len -= 1;
-    }
-
-    fn front(&self) -> usize {
-        usize::from(self.ring[self.first % JOBS])
-    }
-}
+/// The room that is always zeros, the one for bytes that nobody wants, and
+/// the first of those for the blocks that a job reads.
+const ZEROS: u16 = 0;
+const JUNK: u16 = 1;
+const GATHER: u16 = 2;
+/// The most slots of a level.
+const SLOTS: usize = 256;
+/// The bytes of a cache line.
+const LINE: usize = 64;
 
 pub struct Store {
     request: Request,
     job: Job,
+    sent: Sent,
     queue: Queue,
-    /// B, W, L, P, N and E.
+    /// B, W, L and E.
     bytes: usize,
-    window: u32,
+    window: usize,
     levels: usize,
     places: usize,
     /// The blocks in the eviction cache.
     waiting: usize,
     partitions: Vec<Partition>,
     blocks: Vec<Block>,
-    /// By index of slot: its block, or N for a dummy's slot.
+    /// By index of slot: the block written there, or N for a dummy. That of
+    /// a slot read, or of an empty level, means nothing.
     block_at: Vec<u16>,
     /// By level and item, laid out as the slots are: the item's slot.
     slot_of: Vec<u16>,
-    /// Room for the blocks of one rebuild.
-    gathered: Vec<u16>,
+    /// By block: the room of its contents while it waits or its request is
+    /// in hand, and ZEROS while it is nowhere.
+    room_of: Vec<u16>,
+    /// A stack of free rooms, so that few are in use again and again.
+    free: Vec<u16>,
+    /// The blocks of a rebuild, each with its room in the lower half.
+    gathered: [u32; SLOTS],
+    /// By slot of the level being written: where its contents lie.
+    outgoing: [u32; SLOTS],
     /// By m: 2^32 / m, rounded up, to draw below m without a division.
-    inverse: Vec<u32>,
-    /// B bytes for each block, for a dummy's zeros, for bytes that nobody
-    /// wants and for the request's contents, after a gap of `start` bytes
-    /// that puts them on a cache line's border.
+    inverse: [u32; SLOTS + 1],
+    /// Rooms of B bytes, after a gap of `start` bytes that puts them on a
+    /// cache line's border: ZEROS, JUNK, those for the blocks that a job
+    /// reads, and one for each block and for a request's contents.
     contents: Vec<u8>,
     start: usize,
 }
-
-/// The bytes of a cache line.
-const LINE: usize = 64;
 
 impl Store {
     /// Takes N words. All memory is allocated here.
@@ -226,48 +112,38 @@ impl Store {
         let n = shape.blocks;
         let words = words.get(..n).ok_or(3)?;
         let slots = shape.partitions << (shape.levels + 1);
-        let contents = vec![0; (n + 3) * shape.bytes + LINE];
+        let first = usize::from(GATHER) + shape.capacity();
+        let rooms = first + n + 1;
+        let contents = vec![0; rooms * shape.bytes + LINE];
         let mask = shape.partitions as u16 - 1;
         Ok(Store {
             request: Request::default(),
             job: IDLE,
-            queue: Queue {
-                ring: [0; JOBS],
-                first: 0,
-                len: 0,
-            },
+            sent: Sent::default(),
+            queue: Queue::default(),
             bytes: shape.bytes,
-            window: shape.window as u32,
+            window: shape.window,
             levels: shape.levels,
             places: shape.places,
             waiting: 0,
-            partitions: vec![FRESH; shape.partitions],
+            partitions: vec![Partition::FRESH; shape.partitions],
             blocks: words.iter().map(|w| Block::nowhere(w & mask)).collect(),
             block_at: vec![n as u16; slots],
             slot_of: vec![0; slots],
-            gathered: vec![0; 1 << shape.levels],
-            inverse: (0..=1 << shape.levels).map(inverse).collect(),
+            room_of: vec![ZEROS; n],
+            free: (first as u16..rooms as u16).rev().collect(),
+            gathered: [0; SLOTS],
+            outgoing: [0; SLOTS],
+            inverse: std::array::from_fn(|m| inverse(m as u32)),
             start: contents.as_ptr().align_offset(LINE).min(LINE),
             contents,
         })
     }
 
-    /// Where the bytes of a block lie.
+    /// Where the bytes of a room begin.
     #[inline]
-    fn area(&self, block: usize) -> std::ops::Range<usize> {
-        let at = self.start + block * self.bytes;
-        at..at + self.bytes
-    }
-}
-
-impl Block {
-    fn nowhere(partition: u16) -> Block {
-        Block {
-            place: NOWHERE,
-            partition,
-            older: NONE,
-            younger: NONE,
-        }
+    fn at(&self, room: u16) -> usize {
+        self.start + usize::from(room) * self.bytes
     }
 }
 

@@ -1,0 +1,12 @@
+use mathlib.Core.Path.{refl}
+use Rattle.lists.specs.Tests.{between}
+use Rattle.rules.specs.Ranges.{isKind}
+use Rattle.completing.proofs.is_kind.Statement.{statement}
+use Rattle.completing.proofs.is_kind.Tie as tie
+
+returns : tie.Need-returns
+unfolding isKind between
+returns c = refl
+
+pub is-kind-spec : {M : Type 1} → statement M
+is-kind-spec = tie.close (tie.spec returns)

@@ -1,0 +1,228 @@
+-- Completion: its questions, and what the command that is found comes to.
+use mathlib.Core.Path.{_≡_, refl, ap, sym, _∙_, subst}
+use mathlib.Core.Bool.{Bool, true, false, not, _&&_, true≢false}
+use mathlib.Core.Logic.{_⊎_, inl, inr}
+use mathlib.Core.List.{List, [], _∷_}
+use mathlib.Core.Option.{some}
+use Prim.Native.Nat.{ℕ, zero, suc, _+_, _-_, _^_, _≤_, _<_, min}
+use native.Mathlib.Omega.{arith}
+use lib.ListN.{length}
+use lib.Dec.{eqb, leb}
+use borrow.Author.Tests.{eqb-true, eq-eqb, ne-eqb, leb-true}
+use Rattle.lists.specs.Tests.{if_then_else_, and-l, and-r, or-true, between}
+use Rattle.lists.specs.Search.{any, without, below, count}
+use Rattle.lists.specs.All.{All, nil, cons}
+use Rattle.lists.specs.Tables.{put}
+use Rattle.rules.specs.Shape.{Shape, cell}
+use Rattle.rules.specs.State.{Command, cmd, read, write}
+use Rattle.rules.specs.Setters.{setOutstanding, setQueue, setCounter, setCursor, setSent}
+use Rattle.rules.specs.Ranges.{isKind}
+use Rattle.rules.specs.Levels.{sources, target, grown, trailingOnes}
+use Rattle.rules.specs.Blocks.{holder, named}
+use Rattle.rules.specs.Completion.{isCommand, completed, gatherBytes, completeRead, jobDone, endJob, finishJob, completeWrite, complete}
+use Rattle.rules.specs.Draws.{draws}
+use Rattle.rules.specs.Questions.{completion, ready, bounds, questions, firstNo, number}
+use Rattle.rules.specs.Run.{act, refuse, sentCommand, handed, takenOf, numbersOf}
+use Rattle.rules.specs.Laws.Range.{CommandIn}
+use Rattle.memory.specs.Tables.{tablesOf, withBlocks, withCounter}
+use Rattle.memory.specs.Fits.{shapeOf, fit, fit-lt}
+use Rattle.client.specs.declared.Client.{Client}
+use Rattle.client.specs.View.{stateOf, view, rows}
+use Rattle.client.specs.Rows.{dropAt, length-rows}
+use Rattle.client.specs.Changes.{view-bytes, view-counter}
+use Rattle.client.specs.Moves.{Room, Stands, stands, then as next, withJobs, withCursor, withSent}
+use Rattle.meets.specs.Answers.{refusedWith}
+use Rattle.meets.specs.Meets.{Meets, callOf, meets-no, meets-yes}
+use Rattle.ready.specs.Usable.{usable}
+use Rattle.jobs.specs.Queue.{jobsIn, queue-is}
+use Rattle.commands.specs.Outstanding.{OutstandingAt, ofKind}
+use Rattle.commands.specs.Commands.{outstanding-is}
+
+-- ---- Its questions
+
+-- the bytes that are asked for
+abbrev pub wanted : Client → Command → ℕ
+wanted c d = if eqb (d .kind) read then c .shape .b else 0
+
+module _ (c : Client) (m : List ℕ) (d : Command) (bs : List ℕ) where
+  abbrev asked : ℕ
+  asked = number (stateOf c m) (callOf (completion d bs) m [] [])
+
+  refusal : (n : ℕ) → 1 ≤ n → n ≡ asked → Meets c (stateOf c m) (completion d bs) m [] [] (refusedWith n c) m []
+  unfolding refuse
+  refusal n l e = meets-no c (stateOf c m) (completion d bs) m [] [] n e (λ z. omega arith) refl
+
+  pub no-ready : (ready (stateOf c m) (length m) && isKind (d .kind)) ≡ false → Meets c (stateOf c m) (completion d bs) m [] [] (refusedWith 2 c) m []
+  unfolding number questions firstNo
+  no-ready e = refusal 2 (omega arith) (rw e)
+
+  module _ (r : (ready (stateOf c m) (length m) && isKind (d .kind)) ≡ true) where
+    pub no-command : any (isCommand d) (stateOf c m .outstanding) ≡ false → Meets c (stateOf c m) (completion d bs) m [] [] (refusedWith 11 c) m []
+    unfolding number questions firstNo
+    no-command e = refusal 11 (omega arith) (rw (r, e))
+
+    module _ (a : any (isCommand d) (stateOf c m .outstanding) ≡ true) where
+      pub no-length : (length bs ≡ wanted c d → ⊥) → Meets c (stateOf c m) (completion d bs) m [] [] (refusedWith 12 c) m []
+      unfolding number questions firstNo stateOf view
+      no-length n = refusal 12 (omega arith) (rw (r, a, ne-eqb (length bs) (wanted c d) n))
+
+      passed : length bs ≡ wanted c d → asked ≡ 0
+      unfolding number questions firstNo stateOf view
+      passed e = rw (r, a, eq-eqb (length bs) (wanted c d) e)
+
+      -- all answers are yes, and the act leaves the rules' state
+      pub yes : (c′ : Client) (m′ : List ℕ) → length bs ≡ wanted c d → Stands c′ m m′ (complete d bs (stateOf c m)) → Meets c (stateOf c m) (completion d bs) m [] [] (refusedWith 0 c′) m′ []
+      unfolding bounds draws takenOf numbersOf act sentCommand handed stateOf view
+      yes c′ m′ e s = meets-yes c (stateOf c m) (completion d bs) m [] [] (refusedWith 0 c′) m′ [] (record {
+        yes = passed e;
+        number = refl;
+        taken = refl;
+        command = refl;
+        state = s .state;
+        buffer = refl;
+        tail = s .tail;
+      })
+
+-- ---- The command
+
+same-command : (h : Shape) (d x : Command) → isCommand d x ≡ true → CommandIn h x → CommandIn h d
+unfolding isCommand
+same-command h d x e k =
+    let a = and-l (eqb (d .kind) (x .kind) && eqb (d .partition) (x .partition) && eqb (d .level) (x .level)) (eqb (d .slot) (x .slot)) e in
+    let b = and-l (eqb (d .kind) (x .kind) && eqb (d .partition) (x .partition)) (eqb (d .level) (x .level)) a in
+    let kind = eqb-true (d .kind) (x .kind) (and-l (eqb (d .kind) (x .kind)) (eqb (d .partition) (x .partition)) b) in
+    let partition = eqb-true (d .partition) (x .partition) (and-r (eqb (d .kind) (x .kind)) (eqb (d .partition) (x .partition)) b) in
+    let level = eqb-true (d .level) (x .level) (and-r (eqb (d .kind) (x .kind) && eqb (d .partition) (x .partition)) (eqb (d .level) (x .level)) a) in
+    let slot = eqb-true (d .slot) (x .slot) (and-r (eqb (d .kind) (x .kind) && eqb (d .partition) (x .partition) && eqb (d .level) (x .level)) (eqb (d .slot) (x .slot)) e) in
+    subst (CommandIn h) (λ i. cmd (sym kind i) (sym partition i) (sym level i) (sym slot i)) k
+
+-- a command that is outstanding is in range
+command-in : (h : Shape) (d : Command) {cs : List Command} → any (isCommand d) cs ≡ true → All (CommandIn h) cs → CommandIn h d
+unfolding any
+command-in h d e nil = absurd (true≢false (sym e))
+command-in h d e (cons {x = x} {xs = xs} k a) = go (or-true (isCommand d x) (any (isCommand d) xs) e) (λ z. command-in h d z a)
+  where
+    go : (isCommand d x ≡ true) ⊎ (any (isCommand d) xs ≡ true) → (any (isCommand d) xs ≡ true → CommandIn h d) → CommandIn h d
+    go (inl z) ih = same-command h d x z k
+    go (inr z) ih = ih z
+
+-- what the act goes by: the command is at place j
+pub record Completes (c : Client) (m : List ℕ) (d : Command) (bs : List ℕ) (j : ℕ) : Type 0 where
+  pub room : Room c m
+  pub jobs : c .jobs ≤ 64
+  pub out : c .out ≤ 32
+  pub place : j < c .out
+  pub gone : without (isCommand d) (stateOf c m .outstanding) ≡ dropAt j (stateOf c m .outstanding)
+  pub range : CommandIn (shapeOf (c .shape)) d
+  pub long : length bs ≡ wanted c d
+
+-- what the search for it asks
+pub begins : (c : Client) (m : List ℕ) (kind : ℕ) → (ready (stateOf c m) (length m) && isKind kind) ≡ true → Room c m × (c .out ≤ 32) × (1 ≤ kind) × (kind ≤ 2)
+unfolding isKind between
+begins c m kind e =
+    let u = usable c m (and-l (ready (stateOf c m) (length m)) (isKind kind) e) in
+    let k = and-r (ready (stateOf c m) (length m)) (isKind kind) e in
+    (u .room, omega (arith, u .counts .out, u .window), leb-true 1 kind (and-l (leb 1 kind) (leb kind 2) k), leb-true kind 2 (and-r (leb 1 kind) (leb kind 2) k))
+
+pub completes : (c : Client) (m : List ℕ) (d : Command) (bs : List ℕ) (j : ℕ) → (ready (stateOf c m) (length m) && isKind (d .kind)) ≡ true → OutstandingAt d (stateOf c m .outstanding) j → length bs ≡ wanted c d → Completes c m d bs j
+unfolding stateOf view
+completes c m d bs j r o l =
+    let u = usable c m (and-l (ready (stateOf c m) (length m)) (isKind (d .kind)) r) in
+    record {
+      room = u .room;
+      jobs = u .jobs;
+      out = omega (arith, u .counts .out, u .window);
+      place = omega (arith, o .place, ap length (outstanding-is c m) ∙ length-rows _ _);
+      gone = o .gone;
+      range = command-in (shapeOf (c .shape)) d (o .there) (u .range .outstanding);
+      long = l;
+    }
+
+-- ---- A read
+
+named-some : (b : ℕ) → (b ≡ 0 → ⊥) → named b ≡ some (b - 1)
+unfolding named
+named-some zero n = absurd (n refl)
+named-some (suc b) n = let e : b ≡ suc b - 1 = omega arith in ap some e
+
+-- the slot's cell is x, and b its entry
+module _ (c : Client) (m : List ℕ) (q ℓ i x b : ℕ) (bs : List ℕ) (at : x ≡ cell (shapeOf (c .shape)) q ℓ i) (entry : b ≡ fit (c .shape .n + 1) (tablesOf (shapeOf (c .shape)) m .holds x)) where
+  held : holder (stateOf c m) q ℓ i ≡ named b
+  unfolding holder stateOf view
+  held = rw (entry, at)
+
+  pub gathers-none : b ≡ 0 → Stands c m m (gatherBytes (holder (stateOf c m) q ℓ i) bs (stateOf c m))
+  unfolding gatherBytes named
+  gathers-none z = record { state = sym (ap (λ o. gatherBytes o bs (stateOf c m)) (held ∙ ap named z)); tail = refl }
+
+  pub gathers-some : (m′ : List ℕ) → (b ≡ 0 → ⊥) → tablesOf (shapeOf (c .shape)) m′ ≡ withBlocks (put (b - 1) bs (tablesOf (shapeOf (c .shape)) m .blocks)) (tablesOf (shapeOf (c .shape)) m)
+      → Stands c m m′ (gatherBytes (holder (stateOf c m) q ℓ i) bs (stateOf c m))
+  unfolding gatherBytes stateOf tablesOf
+  gathers-some m′ n t =
+      let l : b < c .shape .n + 1 = rw entry (fit-lt (c .shape .n + 1) _ (omega arith)) in
+      let u : b - 1 < c .shape .n = omega (arith, n) in
+      stands c m m′ _ _ t refl (view-bytes c (tablesOf (shapeOf (c .shape)) m) (b - 1) bs u ∙ sym (ap (λ o. gatherBytes o bs (stateOf c m)) (held ∙ named-some b n)))
+
+-- ---- A write
+
+pub done-is : (c : Client) (m : List ℕ) (q n s t w : ℕ) (writing : Bool) → n ≡ fit (2 ^ c .shape .l) (tablesOf (shapeOf (c .shape)) m .counter q) → s ≡ trailingOnes (c .shape .l) n → t ≡ min s (c .shape .l - 1) → w ≡ 2 ^ (t + 1)
+    → writing ≡ any (ofKind write) (stateOf c m .outstanding) → (eqb (c .sent) w && not writing) ≡ jobDone (stateOf c m) q
+unfolding jobDone target sources stateOf view
+done-is c m q n s t w writing e₁ e₂ e₃ e₄ e₅ = rw (e₅, e₄, e₃, e₂, e₁)
+
+-- the counter grows
+pub counted : (c : Client) (m m₁ : List ℕ) (q k n : ℕ) → k ≡ fit (2 ^ c .shape .l) (tablesOf (shapeOf (c .shape)) m .counter q) → n ≡ grown (shapeOf (c .shape)) k → n < 2 ^ c .shape .l
+    → tablesOf (shapeOf (c .shape)) m₁ ≡ withCounter (put q n (tablesOf (shapeOf (c .shape)) m .counter)) (tablesOf (shapeOf (c .shape)) m)
+    → Stands c m m₁ (setCounter (put q (grown (stateOf c m .shape) (stateOf c m .counter q)) (stateOf c m .counter)) (stateOf c m))
+unfolding stateOf view tablesOf
+counted c m m₁ q k n e g l t = stands c m m₁ _ _ t refl (view-counter c (tablesOf (shapeOf (c .shape)) m) q n l ∙ rw (g, e))
+
+-- the front job leaves, and the next one has sent nothing
+pub ended : (c d : Client) (m m₁ m₂ : List ℕ) (q : ℕ) → Stands c m m₁ (setCounter (put q (grown (stateOf c m .shape) (stateOf c m .counter q)) (stateOf c m .counter)) (stateOf c m))
+    → d ≡ withJobs (c .jobs - 1) c → Stands d m₁ m₂ (setQueue (dropAt 0 (stateOf c m₁ .queue)) (stateOf c m₁))
+    → Stands (withSent 0 (withCursor 0 d)) m m₂ (endJob q (dropAt 0 (stateOf c m .queue)) (stateOf c m))
+unfolding endJob stateOf view
+ended c d m m₁ m₂ q k e p = record {
+  state = ap (λ s. setSent 0 (setCursor 0 s)) (p .state ∙ ap (λ s. setQueue (dropAt 0 (s .queue)) s) (k .state));
+  tail = next c d m m₁ m₂ _ _ (rw e) k p .tail;
+}
+
+module _ (c : Client) (m : List ℕ) where
+  pub finish-none : c .jobs ≡ 0 → Stands c m m (finishJob (stateOf c m .queue) (stateOf c m))
+  unfolding finishJob rows below count
+  finish-none z = record { state = sym (ap (λ qs. finishJob qs (stateOf c m)) (queue-is c m ∙ ap (rows (jobsIn (c .shape) m)) z)); tail = refl }
+
+  module _ (q : ℕ) (front : stateOf c m .queue ≡ q ∷ dropAt 0 (stateOf c m .queue)) where
+    finish-is : (t : Bool) → jobDone (stateOf c m) q ≡ t → finishJob (stateOf c m .queue) (stateOf c m) ≡ (if t then endJob q (dropAt 0 (stateOf c m .queue)) (stateOf c m) else stateOf c m)
+    unfolding finishJob
+    finish-is t e = ap (λ qs. finishJob qs (stateOf c m)) front ∙ ap (λ t. if t then endJob q (dropAt 0 (stateOf c m .queue)) (stateOf c m) else stateOf c m) e
+
+    pub finish-later : jobDone (stateOf c m) q ≡ false → Stands c m m (finishJob (stateOf c m .queue) (stateOf c m))
+    finish-later e = record { state = sym (finish-is false e); tail = refl }
+
+    pub finish-now : (c′ : Client) (m′ : List ℕ) → jobDone (stateOf c m) q ≡ true → Stands c′ m m′ (endJob q (dropAt 0 (stateOf c m .queue)) (stateOf c m)) → Stands c′ m m′ (finishJob (stateOf c m .queue) (stateOf c m))
+    finish-now c′ m′ e s = record { state = s .state ∙ sym (finish-is true e); tail = s .tail }
+
+-- ---- Both: the command leaves the list first
+
+module _ (c d : Client) (m m₁ : List ℕ) (x : Command) (bs : List ℕ) (j : ℕ) (o : Completes c m x bs j)
+    (s : Stands d m m₁ (setOutstanding (dropAt j (stateOf c m .outstanding)) (stateOf c m))) where
+  left : stateOf d m₁ ≡ completed x (stateOf c m)
+  unfolding completed
+  left = s .state ∙ ap (λ cs. setOutstanding cs (stateOf c m)) (sym (o .gone))
+
+  pub read-done : (m₂ : List ℕ) → x .kind ≡ 1 → Stands d m₁ m₂ (gatherBytes (holder (stateOf d m₁) (x .partition) (x .level) (x .slot)) bs (stateOf d m₁)) → Stands d m m₂ (complete x bs (stateOf c m))
+  unfolding complete completeRead completed holder
+  read-done m₂ k g = let a = next d d m m₁ m₂ _ _ refl s g in
+      record {
+        state = a .state ∙ ap (λ z. gatherBytes (holder z (x .partition) (x .level) (x .slot)) bs z) left ∙ sym (ap (λ t. if t then completeRead x bs (stateOf c m) else completeWrite x (stateOf c m)) (eq-eqb (x .kind) 1 k));
+        tail = a .tail;
+      }
+
+  pub write-done : (d₂ : Client) (m₂ : List ℕ) → d₂ .shape ≡ d .shape → (x .kind ≡ 1 → ⊥) → Stands d₂ m₁ m₂ (finishJob (stateOf d m₁ .queue) (stateOf d m₁)) → Stands d₂ m m₂ (complete x bs (stateOf c m))
+  unfolding complete completeWrite completed
+  write-done d₂ m₂ h k g = let a = next d d₂ m m₁ m₂ _ _ h s g in
+      record {
+        state = a .state ∙ ap (λ z. finishJob (z .queue) z) left ∙ sym (ap (λ t. if t then completeRead x bs (stateOf c m) else completeWrite x (stateOf c m)) (ne-eqb (x .kind) 1 k));
+        tail = a .tail;
+      }

@@ -1,0 +1,152 @@
+// Completion names a kind and a slot (partition, level, slot), with B bytes for a read.
+use client::Client;
+use client::Found;
+use meets::Answer;
+use memory::Shape;
+ghost use mathlib.Core.Path.{_≡_};
+ghost use mathlib.Core.List.{[]};
+ghost use Prim.Native.Nat.{_^_, _<_, _≤_};
+ghost use lib.ListN.{length};
+ghost use lib.Dec.{eqb};
+ghost use Rattle.lists.specs.Tests.{if_then_else_};
+ghost use Rattle.rules.specs.Shape.{slots};
+ghost use Rattle.rules.specs.State.{cmd, read};
+ghost use Rattle.rules.specs.Ranges.{isKind};
+ghost use Rattle.rules.specs.Levels.{grown as grownOf};
+ghost use Rattle.rules.specs.Blocks.{holder};
+ghost use Rattle.rules.specs.Completion.{gatherBytes, jobDone, endJob, finishJob, complete as completeOf};
+ghost use Rattle.rules.specs.Questions.{completion as completionOf};
+ghost use Rattle.memory.specs.Fits.{shapeOf};
+ghost use Rattle.client.specs.View.{stateOf};
+ghost use Rattle.client.specs.Rows.{dropAt};
+ghost use Rattle.client.specs.Moves.{Room, Stands};
+ghost use Rattle.meets.specs.Meets.{Meets};
+ghost use Rattle.completing.specs.Completing.{Completes};
+
+// 1 for a read, 2 for a write.
+fn is_kind(kind: usize) -> bool
+    ensures { λ r. ⌜ r ≡ isKind kind ⌝ }
+{
+    (1 <= kind) & (kind <= 2)
+}
+
+// The length that is asked for: that of a block for a read, 0 for a write.
+fn expected(kind: usize, block: usize) -> usize
+    ensures { λ r. ⌜ r ≡ (if eqb kind read then block else 0) ⌝ }
+{
+    if kind == 1 { block } else { 0 }
+}
+
+// A read's bytes are those of the block in its slot.
+fn gather(c: Client, m: &mut [u8], q: usize, l: usize, i: usize, bytes: &[u8])
+    requires { ⌜ Room c (now m) × (q < c .shape .p) × (l < c .shape .l) × (i < slots l) × (length (now bytes) ≡ c .shape .b) ⌝ }
+    ensures { λ _. ⌜ Stands c (now (m .entry)) (now (m .exit)) (gatherBytes (holder (stateOf c (now (m .entry))) q l i) (now (bytes .entry)) (stateOf c (now (m .entry)))) ⌝ }
+{
+    let x = levels::cell(c.shape, q, l, i);
+    let b = memory::tables::holds(c.shape, m, x);
+    if b == 0 {
+        return;
+    }
+    memory::blocks::store(c.shape, m, b - 1, bytes);
+}
+
+// The job for q has sent all its writes, and none is outstanding.
+fn is_done(c: Client, m: &[u8], q: usize) -> bool
+    requires { ⌜ Room c (now m) × (c .out ≤ 32) × (q < c .shape .p) ⌝ }
+    ensures { λ r. ⌜ r ≡ jobDone (stateOf c (now (m .entry))) q ⌝ }
+{
+    let l = c.shape.l;
+    let sources = bits::sources(memory::tables::counter(c.shape, m, q), l);
+    let writes = bits::pow2(bits::target(sources, l) + 1);
+    (c.sent == writes) & !commands::is_writing(c, m)
+}
+
+// The counter grows by 1, or from 2^L - 1 falls to 2^(L-1).
+fn grown(h: Shape, counter: usize) -> usize
+    requires { ⌜ (1 ≤ h .l) × (h .l ≤ 8) × (counter < 2 ^ h .l) ⌝ }
+    ensures { λ r. ⌜ (r ≡ grownOf (shapeOf h) counter) × (r < 2 ^ h .l) ⌝ }
+{
+    if counter == bits::pow2(h.l) - 1 {
+        return bits::pow2(h.l - 1);
+    }
+    counter + 1
+}
+
+// The front job, for q, is done: its counter grows, and it leaves the queue.
+fn end_job(c: Client, m: &mut [u8], q: usize) -> Client
+    requires { ⌜ Room c (now m) × (1 ≤ c .jobs) × (c .jobs ≤ 64) × (q < c .shape .p) ⌝ }
+    ensures { λ r. ⌜ (r .shape ≡ c .shape) × Stands r (now (m .entry)) (now (m .exit)) (endJob q (dropAt 0 (stateOf c (now (m .entry)) .queue)) (stateOf c (now (m .entry)))) ⌝ }
+{
+    let n = grown(c.shape, memory::tables::counter(c.shape, m, q));
+    memory::tables::set_counter(c.shape, m, q, n);
+    jobs::pop(c, m).with_cursor(0).with_sent(0)
+}
+
+// The front job ends when its last write completes.
+fn finish_job(c: Client, m: &mut [u8]) -> Client
+    requires { ⌜ Room c (now m) × (c .out ≤ 32) × (c .jobs ≤ 64) ⌝ }
+    ensures { λ r. ⌜ (r .shape ≡ c .shape) × Stands r (now (m .entry)) (now (m .exit)) (finishJob (stateOf c (now (m .entry)) .queue) (stateOf c (now (m .entry)))) ⌝ }
+{
+    if c.jobs == 0 {
+        return c;
+    }
+    let q = jobs::front(c, m);
+    if !is_done(c, m, q) {
+        return c;
+    }
+    end_job(c, m, q)
+}
+
+// The command at place j is completed.
+fn complete(
+    c: Client,
+    m: &mut [u8],
+    j: usize,
+    kind: usize,
+    q: usize,
+    l: usize,
+    i: usize,
+    bytes: &[u8],
+) -> Client
+    requires { ⌜ Completes c (now m) (cmd kind q l i) (now bytes) j ⌝ }
+    ensures { λ r. ⌜ Stands r (now (m .entry)) (now (m .exit)) (completeOf (cmd kind q l i) (now (bytes .entry)) (stateOf c (now (m .entry)))) ⌝ }
+{
+    let d = commands::complete(c, m, j);
+    if kind == 1 {
+        gather(d, m, q, l, i, bytes);
+        return d;
+    }
+    finish_job(d, m)
+}
+
+pub fn completion(
+    c: Client,
+    m: &mut [u8],
+    kind: usize,
+    partition: usize,
+    level: usize,
+    slot: usize,
+    bytes: &[u8],
+) -> Answer
+    ensures { λ r. ⌜ Meets c (stateOf c (now (m .entry))) (completionOf (cmd kind partition level slot) (now (bytes .entry))) (now (m .entry)) [] [] r (now (m .exit)) [] ⌝ }
+{
+    if !(ready::is_ready(c, m) & is_kind(kind)) {
+        return meets::refused(2, c);
+    }
+    let found = commands::find(c, m, kind, partition, level, slot);
+    let Found::At(j) = found else {
+        return meets::refused(11, c);
+    };
+    if bytes.len() != expected(kind, c.shape.b) {
+        return meets::refused(12, c);
+    }
+    Answer {
+        number: 0,
+        taken: 0,
+        kind: 0,
+        partition: 0,
+        level: 0,
+        slot: 0,
+        client: complete(c, m, j, kind, partition, level, slot, bytes),
+    }
+}

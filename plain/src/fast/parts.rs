@@ -1,0 +1,219 @@
+//! The parts of a store's state.
+
+use super::Command;
+
+/// The most levels, and the words of bits for a partition's slots.
+pub const LEVELS: usize = 8;
+pub const WORDS: usize = 8;
+/// The most jobs in the queue.
+pub const JOBS: usize = 64;
+/// The most commands outstanding.
+pub const MOST_SENT: usize = 32;
+
+/// A place that is no slot.
+pub const NOWHERE: u16 = u16::MAX;
+pub const WAITING: u16 = u16::MAX - 1;
+/// The end of a list of waiting blocks.
+pub const NONE: u16 = u16::MAX;
+
+#[derive(Clone, Copy)]
+pub struct Block {
+    /// NOWHERE, WAITING or the index of its slot in the store.
+    pub place: u16,
+    pub partition: u16,
+    /// The neighbours in the list of blocks that wait for the partition.
+    pub older: u16,
+    pub younger: u16,
+}
+
+impl Block {
+    pub fn nowhere(partition: u16) -> Block {
+        Block {
+            place: NOWHERE,
+            partition,
+            older: NONE,
+            younger: NONE,
+        }
+    }
+}
+
+#[derive(Clone, Copy)]
+pub struct Partition {
+    /// The slots that no request has read since their level was written. The
+    /// bits of an empty level mean nothing.
+    pub unread: [u64; WORDS],
+    /// By level, the lowest-numbered unread dummy item.
+    pub dummy: [u16; LEVELS],
+    pub counter: u16,
+    /// The blocks its levels hold.
+    pub stored: u16,
+    /// Its jobs in the queue.
+    pub jobs: u16,
+    /// The ends of the list of blocks that wait for it.
+    pub oldest: u16,
+    pub youngest: u16,
+}
+
+impl Partition {
+    pub const FRESH: Partition = Partition {
+        unread: [0; WORDS],
+        dummy: [0; LEVELS],
+        counter: 0,
+        stored: 0,
+        jobs: 0,
+        oldest: NONE,
+        youngest: NONE,
+    };
+}
+
+/// The request in hand, if its kind is one.
+#[derive(Clone, Copy, Default)]
+pub struct Request {
+    /// READ, WRITE or, without a request, 0.
+    pub kind: u8,
+    pub held: bool,
+    /// The levels whose read is yet to be sent, as bits; 0 while held.
+    pub pending: u32,
+    pub outstanding: usize,
+    pub block: usize,
+    pub partition: usize,
+    pub next: usize,
+    pub evict: usize,
+    /// The room of a write's contents.
+    pub room: u16,
+}
+
+#[derive(Clone, Copy, PartialEq, Eq)]
+pub enum Phase {
+    /// No job is queued.
+    Idle,
+    /// Slots of the sources are yet to be read.
+    Read,
+    /// All reads are sent.
+    Gather,
+    /// Slots of the target are yet to be written.
+    Write,
+    /// All writes are sent.
+    Written,
+}
+
+/// The front job.
+#[derive(Clone, Copy)]
+pub struct Job {
+    pub phase: Phase,
+    /// Without a job, a number that no partition has.
+    pub partition: usize,
+    /// The index in the store of the partition's first slot.
+    pub base: usize,
+    /// The index in the partition at which the sources end, and the target.
+    pub end: usize,
+    pub target: usize,
+    /// A word of the sources' slots that are yet to be read, and which it is.
+    pub unread: u64,
+    pub word: usize,
+    /// The blocks gathered so far.
+    pub count: usize,
+    /// The next write, and how many are left.
+    pub write: Command,
+    pub left: usize,
+    /// The room of the block that waited, or ZEROS.
+    pub room: u16,
+}
+
+pub const IDLE: Job = Job {
+    phase: Phase::Idle,
+    partition: usize::MAX,
+    base: 0,
+    end: 0,
+    target: 0,
+    unread: 0,
+    word: 0,
+    count: 0,
+    write: Command {
+        kind: 0,
+        partition: 0,
+        level: 0,
+        slot: 0,
+    },
+    left: 0,
+    room: 0,
+};
+
+/// The commands outstanding. The lower half of an entry is the command, the
+/// upper half says where the bytes of a read go.
+#[derive(Clone, Copy, Default)]
+pub struct Sent {
+    entries: [u64; MOST_SENT],
+    pub count: usize,
+}
+
+impl Sent {
+    #[inline]
+    pub fn push(&mut self, command: Command, at: usize) {
+        self.entries[self.count % MOST_SENT] = (at as u64) << 32 | u64::from(packed(command));
+        self.count += 1;
+    }
+
+    #[inline]
+    pub fn find(&self, command: Command) -> Option<usize> {
+        let packed = packed(command);
+        if self.count > 0 && self.entries[0] as u32 == packed {
+            return Some(0);
+        }
+        self.find_later(packed)
+    }
+
+    #[inline(never)]
+    fn find_later(&self, packed: u32) -> Option<usize> {
+        let entries = &self.entries[..self.count.min(MOST_SENT)];
+        entries.iter().position(|entry| *entry as u32 == packed)
+    }
+
+    /// Takes a command out and hands back where its bytes go.
+    #[inline]
+    pub fn remove(&mut self, index: usize) -> usize {
+        let at = self.entries[index % MOST_SENT] >> 32;
+        self.count -= 1;
+        self.entries[index % MOST_SENT] = self.entries[self.count % MOST_SENT];
+        at as usize
+    }
+}
+
+#[inline]
+fn packed(command: Command) -> u32 {
+    u32::from_ne_bytes([command.kind, command.partition, command.level, command.slot])
+}
+
+/// A ring of partition numbers.
+#[derive(Clone, Copy)]
+pub struct Queue {
+    ring: [u8; JOBS],
+    first: usize,
+    pub len: usize,
+}
+
+impl Default for Queue {
+    fn default() -> Queue {
+        Queue {
+            ring: [0; JOBS],
+            first: 0,
+            len: 0,
+        }
+    }
+}
+
+impl Queue {
+    pub fn push(&mut self, partition: usize) {
+        self.ring[(self.first + self.len) % JOBS] = partition as u8;
+        self.len += 1;
+    }
+
+    pub fn pop(&mut self) {
+        self.first = (self.first + 1) % JOBS;
+        self.len -= 1;
+    }
+
+    pub fn front(&self) -> usize {
+        usize::from(self.ring[self.first % JOBS])
+    }
+}
