@@ -1,0 +1,131 @@
+-- The buffer after a call has the bytes that the rules hand out, where they hand out any.
+use mathlib.Core.Path.{_≡_, refl, sym}
+use mathlib.Core.Bool.{Bool, true, false, not, _&&_, true≢false}
+use mathlib.Core.List.{List, [], _∷_}
+use mathlib.Core.Option.{Option, none, some}
+use Prim.Native.Nat.{ℕ, _≤_}
+use native.Mathlib.Omega.{arith}
+use native.Mathlib.Decide.{ℕ-discrete}
+use lib.Dec.{eqb, leb}
+use lib.ListN.{length, length-replicate}
+use borrow.Author.Tests.{leb-true, ne-eqb}
+use Rattle.lists.specs.Tests.{if_then_else_, and-l}
+use Rattle.lists.specs.Search.{member}
+use Rattle.rules.specs.Blocks.{zeros, contents, slotBytes, isNowhere, holder}
+use Rattle.rules.specs.Collect.{answer}
+use Rattle.rules.specs.Draws.{draws}
+use Rattle.rules.specs.Laws.Answers.{Passed, accepted-passed, step-accepted, refused-outcome, opens}
+use Rattle.rules.specs.Laws.Kept.{given-in}
+use Rattle.rules.specs.Memory.{needed}
+use Rattle.rules.specs.Questions.{Ask, opening, request, turn, completion, collect, Call, ready, questions, bounds, number, inHand}
+use Rattle.rules.specs.Ranges.{isKind}
+use Rattle.rules.specs.Rebuild.{doRebuild}
+use Rattle.rules.specs.Run.{Outcome, act, step, accepted, refused, sentCommand, handed, written, numbersOf}
+use Rattle.rules.specs.State.{State, Request, write}
+use Rattle.rules.specs.Turn.{Step, idle, noDummy, readForRequest, readForJob, rebuild, writeNext, decide, command, doStep, markRead, send}
+use Rattle.memory.specs.Fits.{fits}
+use Rattle.meets.specs.Meets.{handedTo}
+use Rattle.claims.specs.Claim.{handsOut}
+
+-- ---- The state's blocks have B bytes
+
+abbrev pub Whole : State → Type 0
+Whole s = (b : ℕ) → length (s .bytes b) ≡ s .shape .B
+
+slot-length : (s : State) → Whole s → (o : Option ℕ) → length (slotBytes s o) ≡ s .shape .B
+unfolding slotBytes zeros
+slot-length s w none = length-replicate (s .shape .B) 0
+slot-length s w (some b) = w b
+
+contents-length : (s : State) → Whole s → (b : ℕ) → length (contents s b) ≡ s .shape .B
+unfolding contents zeros
+contents-length s w b = go (isNowhere (s .place b) && not (member b (s .waiting)))
+  where
+    go : (t : Bool) → length (if t then zeros s else s .bytes b) ≡ s .shape .B
+    go true = length-replicate (s .shape .B) 0
+    go false = w b
+
+-- a turn keeps them
+turn-whole : (s : State) → Whole s → (x : Step) (js : List ℕ) → Whole (doStep x js s) × (doStep x js s .shape .B ≡ s .shape .B)
+unfolding doStep markRead send doRebuild
+turn-whole s w idle js = (w, refl)
+turn-whole s w noDummy js = (w, refl)
+turn-whole s w (readForRequest q ℓ i) js = (w, refl)
+turn-whole s w (readForJob q ℓ i) js = (w, refl)
+turn-whole s w (rebuild q t) js = (w, refl)
+turn-whole s w (writeNext q t i) js = (w, refl)
+
+-- ---- What is handed out
+
+filled : (b bs : List ℕ) → 1 ≤ length bs → handedTo b bs ≡ bs
+filled b [] l = absurd (omega arith)
+filled b (x ∷ xs) l = refl
+
+-- where a call that is no open finds the state ready
+pub ready-of : (s : State) (a : Ask) (m : ℕ) (ws : List ℕ) (n : ℕ) → opens a ≡ false → Passed (questions s a m ws n) → ready s m ≡ true
+unfolding questions opens
+ready-of s (opening h) m ws n o p = absurd (true≢false o)
+ready-of s (request k b bs) m ws n o p = and-l (ready s m) (isKind k) (p .0)
+ready-of s turn m ws n o p = p .0
+ready-of s (completion c bs) m ws n o p = and-l (ready s m) (isKind (c .kind)) (p .0)
+ready-of s collect m ws n o p = p .0
+
+pub ready-long : (s : State) (m : ℕ) → ready s m ≡ true → needed (s .shape) ≤ m
+unfolding ready
+ready-long s m e = leb-true (needed (s .shape)) m (and-l (leb (needed (s .shape)) m) _ e)
+
+-- a block has a byte at least
+some-byte : (s : State) (m : ℕ) → ready s m ≡ true → 1 ≤ s .shape .B
+some-byte s m e = fits (s .shape) m (given-in s m e .shape) (ready-long s m e) .someBytes
+
+-- what a turn writes, and what a collect answers
+written-some : (s : State) (m : ℕ) → Whole s → ready s m ≡ true → (js : List ℕ) (o : Option ℕ) → 1 ≤ length (slotBytes (act s turn js) o)
+unfolding act
+written-some s m w e js o = let x = turn-whole s w (decide s) js in omega (arith, slot-length (doStep (decide s) js s) (x .0) o, x .1, some-byte s m e)
+
+answer-some : (s : State) (m : ℕ) → Whole s → ready s m ≡ true → (o : Option Request) → inHand (λ r. true) o ≡ true → 1 ≤ length (answer s o)
+unfolding inHand answer
+answer-some s m w e none h = absurd (true≢false (sym h))
+answer-some s m w e (some r) h = omega (arith, contents-length s w (r .block), some-byte s m e)
+
+module _ (s : State) (m : ℕ) (ws : List ℕ) (n : ℕ) (w : Whole s) (b : List ℕ) where
+  -- an accepted call
+  accepted-hands : (a : Ask) → Passed (questions s a m ws n) → (js : List ℕ)
+      → handsOut a 0 (sentCommand s a .kind) (handedTo b (handed s a (act s a js))) ≡ handed s a (act s a js)
+  unfolding handsOut handed sentCommand questions written
+  accepted-hands (opening h) p js = refl
+  accepted-hands (request k c bs) p js = refl
+  accepted-hands turn p js = go (eqb (command (decide s) .kind) write)
+    where
+      s′ : State
+      s′ = act s turn js
+
+      bytes : List ℕ
+      bytes = slotBytes s′ (holder s′ (command (decide s) .partition) (command (decide s) .level) (command (decide s) .slot))
+
+      go : (t : Bool) → (if t then handedTo b (if t then bytes else []) else []) ≡ (if t then bytes else [])
+      go true = filled b bytes (written-some s m w (p .0) js _)
+      go false = refl
+  accepted-hands (completion c bs) p js = refl
+  accepted-hands collect p js = filled b (answer s (s .request)) (answer-some s m w (p .0) (s .request) (p .1 .0))
+
+-- a refused one hands out nothing
+refused-hands : (a : Ask) (n k : ℕ) (b : List ℕ) → (n ≡ 0 → ⊥) → handsOut a n k b ≡ []
+unfolding handsOut
+refused-hands (opening h) n k b z = refl
+refused-hands (request j c bs) n k b z = refl
+refused-hands turn n k b z = rw (ne-eqb n 0 z)
+refused-hands (completion c bs) n k b z = refl
+refused-hands collect n k b z = rw (ne-eqb n 0 z)
+
+-- Every call: what is in the buffer after it is what the rules hand out
+pub hands-out : (s : State) (c : Call) → (number s c ≡ 0 → Whole s) → (b : List ℕ)
+    → handsOut (c .ask) (step s c .1 .number) (step s c .1 .command .kind) (handedTo b (step s c .1 .bytes)) ≡ step s c .1 .bytes
+hands-out s c w b = go (ℕ-discrete (number s c) 0)
+  where
+    hands : Outcome → List ℕ
+    hands o = handsOut (c .ask) (o .number) (o .command .kind) (handedTo b (o .bytes))
+
+    go : Dec (number s c ≡ 0) → hands (step s c .1) ≡ step s c .1 .bytes
+    go (yes z) = rw (step-accepted s c z) (unfold accepted in (accepted-hands s (c .memory) (c .words) (c .buffer) (w z) b (c .ask) (accepted-passed s c z) (numbersOf (draws (bounds s (c .ask)) (c .words)))))
+    go (no z) = rw (refused-outcome s c z) (unfold refused in (refused-hands (c .ask) (number s c) 0 b z))

@@ -1,0 +1,121 @@
+-- Demands 2 and 3 for exported calls, as a host program makes them: an open, then any calls. Each is handed the 32 bytes of state and the memory
+-- that the last one left, or a part of that memory from its start. All that is known of a call is its contract.
+-- To believe the claims, read this file, `Exported` and `Opened` of crate `exports`, and the claims of crates `array` and `hiding`. They are
+-- proved in Theorem.antt, the last of them in Words.antt.
+use mathlib.Core.Path.{_≡_}
+use mathlib.Core.Bool.{_&&_}
+use mathlib.Core.List.{List, [], _∷_, _++_, map}
+use Prim.Native.Nat.{ℕ, _^_, _≤_, _<_}
+use lib.ListN.{length}
+use lib.Dec.{eqb}
+use Rattle.lists.specs.All.{All}
+use Rattle.lists.specs.Tests.{if_then_else_}
+use Rattle.rules.specs.Shape.{Shape}
+use Rattle.rules.specs.State.{closed, write}
+use Rattle.rules.specs.Questions.{Ask, opening, request, turn, completion, collect, Call}
+use Rattle.rules.specs.Run.{Outcome, run}
+use Rattle.tape.specs.Tape.{wordsOf}
+use Rattle.meets.specs.Meets.{callOf, commandOf}
+use Rattle.codec.specs.Codec.{answerOf}
+use Rattle.exports.specs.Exported.{clientIn, Exported, Opened}
+use Rattle.array.specs.Claim.{Host, Expected, Honest, Plain}
+use Rattle.hiding.specs.Claim.{Lent, first, Compared, Tape, Gives, Matching, told, NoOpen, openOver, AgreeUntil8}
+
+-- ---- A run of exported calls
+
+-- One call: what is asked, the bytes handed in, the number answered, and the bytes after it. What a call doesn't take, tape or buffer, is []
+pub record Made : Type 0 where
+  pub ask : Ask
+  pub state : List ℕ
+  pub memory : List ℕ
+  pub tape : List ℕ
+  pub buffer : List ℕ
+  pub answer : ℕ
+  pub state′ : List ℕ
+  pub memory′ : List ℕ
+  pub buffer′ : List ℕ
+
+-- its contract
+abbrev pub Contract : Ask → Made → Type 0
+Contract (opening h) x = Opened h (x .state) (x .memory) (x .tape) (x .answer) (x .state′) (x .memory′)
+Contract (request k b bs) x = Exported (request k b bs) (x .state) (x .memory) (x .tape) (x .buffer) (x .answer) (x .state′) (x .memory′) (x .buffer′)
+Contract turn x = Exported turn (x .state) (x .memory) (x .tape) (x .buffer) (x .answer) (x .state′) (x .memory′) (x .buffer′)
+Contract (completion c bs) x = Exported (completion c bs) (x .state) (x .memory) (x .tape) (x .buffer) (x .answer) (x .state′) (x .memory′) (x .buffer′)
+Contract collect x = Exported collect (x .state) (x .memory) (x .tape) (x .buffer) (x .answer) (x .state′) (x .memory′) (x .buffer′)
+
+-- The call is handed the state st, and of the memory m all but `rest`. (Handed a state of another length, a call answers 2 and leaves every
+-- byte as it was, by its contract: it is no part of a run)
+pub record Handed (st m rest : List ℕ) (x : Made) : Type 0 where
+  pub bytes : length st ≡ 32
+  pub state : x .state ≡ st
+  pub memory : x .memory ++ rest ≡ m
+  pub contract : Contract (x .ask) x
+  pub slice : length (x .memory′) ≡ length (x .memory)  -- the prover asks it for every slice that a function is lent
+
+-- "Each later call gets the state and the memory as the last one left them, and nobody else writes them meanwhile"
+abbrev pub Runs : List ℕ → List ℕ → List Made → Type 0
+Runs st m [] = Unit {0}
+Runs st m (x ∷ xs) = (rest : List ℕ) × (Handed st m rest x × Runs (x .state′) (x .memory′ ++ rest) xs)
+
+-- the first call is an open
+abbrev pub Opens : List Made → Type 0
+Opens [] = ⊥
+Opens (x ∷ xs) = (h : Shape) × (x .ask ≡ opening h)
+
+-- A run starts with an open, on a state and a memory of any bytes. (Later opens are allowed here; the lists that demand 3 compares have none)
+pub record FromOpen (xs : List Made) : Type 0 where
+  pub state : List ℕ
+  pub memory : List ℕ
+  pub opens : Opens xs
+  pub runs : Runs state memory xs
+
+-- ---- What was asked, and what was told, as the rules have it
+
+-- the call: what is asked, the length of memory and buffer, the words of the tape
+abbrev pub callMade : Made → Call
+callMade x = callOf (x .ask) (x .memory) (x .tape) (x .buffer)
+
+-- the bytes handed out are in the buffer after an accepted collect, and after an accepted turn that sends a write; n is the number, k the
+-- command's kind
+unfoldable pub handsOut : Ask → ℕ → ℕ → List ℕ → List ℕ
+handsOut (opening h) n k buffer = []
+handsOut (request j b bs) n k buffer = []
+handsOut turn n k buffer = if eqb n 0 && eqb k write then buffer else []
+handsOut (completion c bs) n k buffer = []
+handsOut collect n k buffer = if eqb n 0 then buffer else []
+
+-- number, count of words and command are read off the number answered
+abbrev pub outcomeOf : Made → Outcome
+outcomeOf x =
+    let r = answerOf (x .answer) (clientIn (x .state′)) in
+    record { number = r .number; taken = r .taken; command = commandOf r; bytes = handsOut (x .ask) (r .number) (r .kind) (x .buffer′) }
+
+-- ---- The claims
+
+-- A run's outcomes are those of the rules, "no more and no fewer". (The rules' open looks at no state before it; `closed` stands for any)
+abbrev pub RulesClaim : Type 0
+RulesClaim = (xs : List Made) → FromOpen xs → map outcomeOf xs ≡ run closed (map callMade xs)
+
+-- Demand 2: with an honest host, what is collected is a plain array's
+abbrev pub ArrayClaim : Type 0
+ArrayClaim = (xs : List Made) → FromOpen xs → (host : Host) (m : Expected)
+    → Honest host (map callMade xs) (map outcomeOf xs) → Plain m (map callMade xs) (map outcomeOf xs)
+
+-- Demand 3: the tapes of two compared lists are matched; and where the words lent in two runs of them give partners, number, count of words and
+-- command are equal at each place
+abbrev pub HidingClaim : Type 0
+HidingClaim = (h : Shape) → h .E ≡ h .N → (m w n : ℕ) (as′ bs′ : List Lent) → Compared h as′ bs′ →
+    (p : Matching (Tape closed (first h m w n ∷ as′)) (Tape closed (first h m w n ∷ bs′)))
+    × ((t : List ℕ) → Tape closed (first h m w n ∷ as′) t → (xs ys : List Made) → FromOpen xs → FromOpen ys →
+    Gives closed (first h m w n ∷ as′) t (map callMade xs) → Gives closed (first h m w n ∷ bs′) (p .f t) (map callMade ys) →
+    map told (map outcomeOf xs) ≡ map told (map outcomeOf ys))
+
+-- The smaller cache: the same calls with the same words, with E equal to N and with a smaller E
+abbrev pub CacheClaim : Type 0
+CacheClaim = (h : Shape) (e : ℕ) → 1 ≤ e → e < h .N → (m n : ℕ) (ws : List ℕ) (cs : List Call) → NoOpen cs → (xs ys : List Made) → FromOpen xs → FromOpen ys
+    → map callMade xs ≡ openOver (h .N) h m ws n ∷ cs → map callMade ys ≡ openOver e h m ws n ∷ cs
+    → AgreeUntil8 (map outcomeOf xs) (map outcomeOf ys)
+
+-- The words of a run may be any: words of 16 bits are those of some bytes. (`Tapes` of crate `hiding` gives each tape such words)
+abbrev pub WordsClaim : Type 0
+WordsClaim = (ws : List ℕ) → All (λ w. w < 2 ^ 16) ws → (tape : List ℕ) × (All (λ x. x < 256) tape × (wordsOf tape ≡ ws))

@@ -1,0 +1,91 @@
+-- A run that is computed: an open of no shape, which answers 1 and hands back zeros, then a turn, which answers 2. The open is lent three bytes of
+-- memory, the turn one of them.
+use mathlib.Core.Path.{_≡_, refl}
+use mathlib.Core.List.{[], _∷_, map}
+use native.Mathlib.Omega.{arith}
+use lib.ListN.{replicate}
+use Rattle.rules.specs.Questions.{opening, turn, number}
+use Rattle.rules.specs.Run.{refuse, refused}
+use Rattle.rules.specs.Shape.{Shape}
+use Rattle.rules.specs.State.{closed}
+use Rattle.rules.specs.Unfold.{model}
+use Rattle.memory.specs.Words.{wordAt}
+use Rattle.client.specs.View.{stateOf}
+use Rattle.meets.specs.Answers.{clearedClient}
+use Rattle.meets.specs.Meets.{Meets, callOf, meets-no, closed-is}
+use Rattle.codec.specs.Codec.{answerOf}
+use Rattle.exports.specs.Exported.{clientIn, Exported, Opened}
+use Rattle.claims.specs.Claim.{Made, FromOpen, outcomeOf, handsOut}
+
+abbrev noShape : Shape
+noShape = record { N = 0; P = 0; L = 0; B = 0; E = 0; W = 0 }
+
+abbrev pub opened : Made
+opened = record {
+  ask = opening noShape;
+  state = replicate 32 7;
+  memory = 1 ∷ 2 ∷ 3 ∷ [];
+  tape = [];
+  buffer = [];
+  answer = 1;
+  state′ = replicate 32 0;
+  memory′ = 1 ∷ 2 ∷ 3 ∷ [];
+  buffer′ = [];
+}
+
+abbrev pub turned : Made
+turned = record {
+  ask = turn;
+  state = replicate 32 0;
+  memory = 1 ∷ [];
+  tape = 5 ∷ 6 ∷ [];
+  buffer = 9 ∷ [];
+  answer = 2;
+  state′ = replicate 32 0;
+  memory′ = 1 ∷ [];
+  buffer′ = 9 ∷ [];
+}
+
+zeros-say : clientIn (replicate 32 0) ≡ clearedClient
+unfolding wordAt
+zeros-say = refl
+
+open-number : 1 ≡ number closed (callOf (opening noShape) (1 ∷ 2 ∷ 3 ∷ []) [] [])
+unfolding model
+open-number = refl
+
+turn-number : 2 ≡ number closed (callOf turn (1 ∷ []) (5 ∷ 6 ∷ []) (9 ∷ []))
+unfolding model
+turn-number = refl
+
+open-meets : Meets clearedClient closed (opening noShape) (1 ∷ 2 ∷ 3 ∷ []) [] [] (answerOf 1 clearedClient) (1 ∷ 2 ∷ 3 ∷ []) []
+unfolding refuse
+open-meets = meets-no clearedClient closed (opening noShape) (1 ∷ 2 ∷ 3 ∷ []) [] [] 1 open-number (λ z. omega arith) (closed-is (1 ∷ 2 ∷ 3 ∷ []))
+
+turn-meets : Meets clearedClient (stateOf clearedClient (1 ∷ [])) turn (1 ∷ []) (5 ∷ 6 ∷ []) (9 ∷ []) (answerOf 2 clearedClient) (1 ∷ []) (9 ∷ [])
+unfolding refuse
+turn-meets = rw (closed-is (1 ∷ [])) (meets-no clearedClient closed turn (1 ∷ []) (5 ∷ 6 ∷ []) (9 ∷ []) 2 turn-number (λ z. omega arith) (closed-is (1 ∷ [])))
+
+open-contract : Opened noShape (replicate 32 7) (1 ∷ 2 ∷ 3 ∷ []) [] 1 (replicate 32 0) (1 ∷ 2 ∷ 3 ∷ [])
+open-contract = record { meets = λ l. rw zeros-say open-meets; refused = λ l n. refl; other = λ n. absurd (n refl) }
+
+turn-contract : Exported turn (replicate 32 0) (1 ∷ []) (5 ∷ 6 ∷ []) (9 ∷ []) 2 (replicate 32 0) (1 ∷ []) (9 ∷ [])
+turn-contract = record { meets = λ l. rw zeros-say turn-meets; refused = λ n. refl; other = λ n. absurd (n refl) }
+
+pub example : FromOpen (opened ∷ turned ∷ [])
+example = record {
+  state = replicate 32 7;
+  memory = 1 ∷ 2 ∷ 3 ∷ 4 ∷ [];
+  opens = (noShape, refl);
+  runs = (
+    4 ∷ [],
+    (
+      record { bytes = refl; state = refl; memory = refl; contract = open-contract; slice = refl },
+      (2 ∷ 3 ∷ 4 ∷ [], (record { bytes = refl; state = refl; memory = refl; contract = turn-contract; slice = refl }, tt)),
+    ),
+  );
+}
+
+pub example-told : map outcomeOf (opened ∷ turned ∷ []) ≡ refused 1 ∷ refused 2 ∷ []
+unfolding refused handsOut
+example-told = refl

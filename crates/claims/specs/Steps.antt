@@ -1,0 +1,257 @@
+-- One exported call is the rules' step, from the state that the whole memory stands for to the one that it stands for after the call.
+use mathlib.Core.Path.{_≡_, refl, ap, sym, _∙_}
+use mathlib.Core.Bool.{Bool, true, false, true≢false}
+use mathlib.Core.List.{List, [], _∷_, _++_}
+use mathlib.Core.Option.{Option, none, some}
+use Prim.Native.Nat.{ℕ, _%_, _≤_, _<_}
+use native.Mathlib.Omega.{arith}
+use native.Mathlib.Decide.{ℕ-discrete, decLt}
+use lib.Dec.{eqb}
+use lib.ListN.{length, replicate}
+use borrow.Author.Tests.{lt-leb, leb-true}
+use Rattle.lists.specs.Tests.{if_then_else_}
+use Rattle.rules.specs.Blocks.{holder}
+use Rattle.rules.specs.Collect.{collected, finish}
+use Rattle.rules.specs.Completion.{complete, completeRead, completeWrite, completed, gatherBytes, finishJob, endJob, jobDone}
+use Rattle.rules.specs.Draws.{draws}
+use Rattle.rules.specs.Laws.Answers.{accepted-passed, step-accepted, step-number, opens, refused-keeps, refused-outcome, refused-open}
+use Rattle.rules.specs.Memory.{needed}
+use Rattle.rules.specs.Open.{fresh}
+use Rattle.rules.specs.Questions.{Ask, opening, request, turn, completion, collect, Call, ready, questions, firstNo, bounds, number}
+use Rattle.rules.specs.Rebuild.{doRebuild}
+use Rattle.rules.specs.Request.{accept}
+use Rattle.rules.specs.Run.{Outcome, act, step, accepted, refused, refuse, numbersOf, sentCommand, handed}
+use Rattle.rules.specs.Shape.{Shape}
+use Rattle.rules.specs.State.{State, Command, Request, closed}
+use Rattle.rules.specs.Turn.{Step, idle, noDummy, readForRequest, readForJob, rebuild, writeNext, decide, doStep, markRead, send}
+use Rattle.memory.specs.Words.{wordAt}
+use Rattle.client.specs.declared.Client.{Client}
+use Rattle.client.specs.View.{stateOf, view}
+use Rattle.meets.specs.declared.Answer.{Answer}
+use Rattle.meets.specs.Answers.{clearedClient}
+use Rattle.meets.specs.Meets.{Meets, callOf, commandOf, closed-is}
+use Rattle.codec.specs.Codec.{answerOf}
+use Rattle.exports.specs.Exported.{clientIn, Exported, Opened}
+use Rattle.claims.specs.Claim.{Made, Contract, Handed, callMade, handsOut, outcomeOf}
+use Rattle.claims.specs.Memory.{state-lent, state-whole}
+use Rattle.claims.specs.Buffers.{Whole, ready-of, ready-long, hands-out}
+
+-- ---- What the calls keep of the shape
+
+turn-shape : (s : State) (x : Step) (js : List ℕ) → doStep x js s .shape ≡ s .shape
+unfolding doStep markRead send doRebuild
+turn-shape s idle js = refl
+turn-shape s noDummy js = refl
+turn-shape s (readForRequest q ℓ i) js = refl
+turn-shape s (readForJob q ℓ i) js = refl
+turn-shape s (rebuild q t) js = refl
+turn-shape s (writeNext q t i) js = refl
+
+complete-shape : (s : State) (c : Command) (bs : List ℕ) → complete c bs s .shape ≡ s .shape
+unfolding complete completeRead completeWrite completed gatherBytes finishJob endJob
+complete-shape s c bs = go (eqb (c .kind) 1) (holder s (c .partition) (c .level) (c .slot)) (s .queue)
+  where
+    s′ : State
+    s′ = completed c s
+
+    ended : (q : ℕ) (qs : List ℕ) (t : Bool) → (if t then endJob q qs s′ else s′) .shape ≡ s .shape
+    ended q qs true = refl
+    ended q qs false = refl
+
+    go : (t : Bool) (b : Option ℕ) (qs : List ℕ) → (if t then gatherBytes b bs s′ else finishJob qs s′) .shape ≡ s .shape
+    go true none qs = refl
+    go true (some b) qs = refl
+    go false b [] = refl
+    go false b (q ∷ qs) = ended q qs (jobDone s′ q)
+
+collect-shape : (s : State) (o : Option Request) → collected o s .shape ≡ s .shape
+unfolding collected finish
+collect-shape s none = refl
+collect-shape s (some r) = refl
+
+-- no call but an open changes it
+act-shape : (s : State) (a : Ask) (js : List ℕ) → opens a ≡ false → act s a js .shape ≡ s .shape
+unfolding act accept opens
+act-shape s (opening h) js o = absurd (true≢false o)
+act-shape s (request k b bs) js o = refl
+act-shape s turn js o = turn-shape s (decide s) js
+act-shape s (completion c bs) js o = complete-shape s c bs
+act-shape s collect js o = collect-shape s (s .request)
+
+-- ---- "Lent too little of that memory, it replies 2"
+
+unready-two : (s : State) (c : Call) → opens (c .ask) ≡ false → ready s (c .memory) ≡ false → number s c ≡ 2
+unfolding number
+unready-two s c o e = go (c .ask) o
+  where
+    go : (a : Ask) → opens a ≡ false → firstNo (questions s a (c .memory) (c .words) (c .buffer)) ≡ 2
+    go (opening h) o = absurd (true≢false (unfold opens in o))
+    go (request k b bs) o = unfold questions firstNo in (rw e)
+    go turn o = unfold questions firstNo in (rw e)
+    go (completion d bs) o = unfold questions firstNo in (rw e)
+    go collect o = unfold questions firstNo in (rw e)
+
+short-unready : (s : State) (m : ℕ) → m < needed (s .shape) → ready s m ≡ false
+unfolding ready
+short-unready s m l = rw (lt-leb (needed (s .shape)) m l)
+
+-- ---- What is read off an answer
+
+abbrev readOff : Ask → Answer → List ℕ → Outcome
+readOff a r b′ = record { number = r .number; taken = r .taken; command = commandOf r; bytes = handsOut a (r .number) (r .kind) b′ }
+
+meets-outcome : (c : Client) (s : State) (a : Ask) (m tape b : List ℕ) (r : Answer) (m′ b′ : List ℕ) → (number s (callOf a m tape b) ≡ 0 → Whole s) → Meets c s a m tape b r m′ b′
+    → readOff a r b′ ≡ step s (callOf a m tape b) .1
+meets-outcome c s a m tape b r m′ b′ w k = λ i. record { number = k .number i; taken = k .taken i; command = k .command i; bytes = bytes i }
+  where
+    o : Outcome
+    o = step s (callOf a m tape b) .1
+
+    bytes : handsOut a (r .number) (r .kind) b′ ≡ o .bytes
+    bytes = (λ i. handsOut a (k .number i) (k .command i .kind) (k .buffer i)) ∙ hands-out s (callOf a m tape b) w b
+
+-- ---- A request, turn, completion or collect
+
+module _ (a : Ask) (four : opens a ≡ false) (st m tape b : List ℕ) (u : ℕ) (st′ m′ b′ rest : List ℕ) (l : length st ≡ 32) (same : length m′ ≡ length m) (k : Exported a st m tape b u st′ m′ b′) where
+  abbrev asked : Call
+  asked = callOf a m tape b
+
+  -- the state that the bytes lent stand for, and that of the whole memory
+  abbrev lent : State
+  lent = stateOf (clientIn st) m
+
+  abbrev whole : State
+  whole = stateOf (clientIn st) (m ++ rest)
+
+  answers : u % 256 ≡ number lent asked
+  answers = k .meets l .number ∙ step-number lent asked
+
+  lent-outcome : readOff a (answerOf u (clientIn st′)) b′ ≡ step lent asked .1
+  lent-outcome = meets-outcome (clientIn st) lent a m tape b (answerOf u (clientIn st′)) m′ b′ full (k .meets l)
+    where
+      full : number lent asked ≡ 0 → Whole lent
+      full z = state-whole (clientIn st) m (ready-long lent (length m) (ready-of lent a (length m) _ (length b) four (accepted-passed lent asked z)))
+
+  -- after a refusal
+  refused-state : (u % 256 ≡ 0 → ⊥) → (number whole asked ≡ 0 → ⊥) → stateOf (clientIn st′) (m′ ++ rest) ≡ step whole asked .0
+  refused-state z n = rw (k .refused z, k .meets l .refused z .0) (sym (refused-keeps whole asked four n))
+
+  -- lent what the shape needs
+  module _ (long : needed (lent .shape) ≤ length m) where
+    lent-is : lent ≡ whole
+    lent-is = sym (state-lent (clientIn st) m rest long)
+
+    kept-shape : u % 256 ≡ 0 → stateOf (clientIn st′) m′ .shape ≡ lent .shape
+    unfolding accepted
+    kept-shape z = ap (λ (s : State). s .shape) (k .meets l .state)
+        ∙ ap (λ (x : State × Outcome). x .0 .shape) (step-accepted lent asked (sym answers ∙ z))
+        ∙ act-shape lent a (numbersOf (draws (bounds lent a) (asked .words))) four
+
+    accepted-state : u % 256 ≡ 0 → stateOf (clientIn st′) (m′ ++ rest) ≡ step whole asked .0
+    accepted-state z =
+        let e : needed (stateOf (clientIn st′) m′ .shape) ≤ length m′ = omega (arith, ap needed (kept-shape z)) in
+        state-lent (clientIn st′) m′ rest e ∙ k .meets l .state ∙ ap (λ s. step s asked .0) lent-is
+
+    long-step : (readOff a (answerOf u (clientIn st′)) b′ ≡ step whole asked .1) × (stateOf (clientIn st′) (m′ ++ rest) ≡ step whole asked .0)
+    long-step = (lent-outcome ∙ ap (λ s. step s asked .1) lent-is, go (ℕ-discrete (u % 256) 0))
+      where
+        go : Dec (u % 256 ≡ 0) → stateOf (clientIn st′) (m′ ++ rest) ≡ step whole asked .0
+        go (yes z) = accepted-state z
+        go (no z) = refused-state z (λ n. z (answers ∙ ap (λ s. number s asked) lent-is ∙ n))
+
+  -- lent less
+  module _ (short : length m < needed (lent .shape)) where
+    lent-two : number lent asked ≡ 2
+    lent-two = unready-two lent asked four (short-unready lent (length m) short)
+
+    whole-two : number whole asked ≡ 2
+    unfolding stateOf view
+    whole-two = unready-two whole asked four (short-unready whole (length m) short)
+
+    not-none : (n : ℕ) → n ≡ 2 → n ≡ 0 → ⊥
+    not-none n e z = omega arith
+
+    short-step : (readOff a (answerOf u (clientIn st′)) b′ ≡ step whole asked .1) × (stateOf (clientIn st′) (m′ ++ rest) ≡ step whole asked .0)
+    short-step = (
+      lent-outcome ∙ refused-outcome lent asked (not-none _ lent-two) ∙ ap refused (lent-two ∙ sym whole-two) ∙ sym (refused-outcome whole asked (not-none _ whole-two)),
+      refused-state (not-none _ (answers ∙ lent-two)) (not-none _ whole-two),
+    )
+
+  exported-step : (readOff a (answerOf u (clientIn st′)) b′ ≡ step whole asked .1) × (stateOf (clientIn st′) (m′ ++ rest) ≡ step whole asked .0)
+  exported-step = go (decLt (length m) (needed (lent .shape)))
+    where
+      go : Dec (length m < needed (lent .shape)) → (readOff a (answerOf u (clientIn st′)) b′ ≡ step whole asked .1) × (stateOf (clientIn st′) (m′ ++ rest) ≡ step whole asked .0)
+      go (yes n) = short-step n
+      go (no n) = long-step (omega arith)
+
+-- ---- An open
+
+-- it looks neither at the state nor at a buffer
+open-alone : (s : State) (h : Shape) (m tape b : List ℕ) → step s (callOf (opening h) m tape b) ≡ step closed (callOf (opening h) m tape [])
+unfolding step number questions bounds accepted act refuse sentCommand handed
+open-alone s h m tape b = refl
+
+module _ (h : Shape) (st m tape : List ℕ) (u : ℕ) (st′ m′ rest : List ℕ) (l : length st ≡ 32) (same : length m′ ≡ length m) (k : Opened h st m tape u st′ m′) where
+  abbrev opened : Call
+  opened = callOf (opening h) m tape []
+
+  says : u % 256 ≡ number closed opened
+  says = k .meets l .number ∙ step-number closed opened
+
+  open-outcome : (b′ : List ℕ) → readOff (opening h) (answerOf u (clientIn st′)) b′ ≡ step closed opened .1
+  unfolding handsOut
+  open-outcome b′ = meets-outcome clearedClient closed (opening h) m tape [] (answerOf u (clientIn st′)) m′ [] (λ z b. unfold closed in refl) (k .meets l)
+
+  zeros-say : clientIn (replicate 32 0) ≡ clearedClient
+  unfolding wordAt
+  zeros-say = refl
+
+  open-long : u % 256 ≡ 0 → needed h ≤ length m
+  unfolding questions
+  open-long z = leb-true (needed h) (length m) (accepted-passed closed opened (sym says ∙ z) .1 .0)
+
+  open-shape : u % 256 ≡ 0 → stateOf (clientIn st′) m′ .shape ≡ h
+  unfolding accepted act fresh
+  open-shape z = ap (λ (s : State). s .shape) (k .meets l .state) ∙ ap (λ (x : State × Outcome). x .0 .shape) (step-accepted closed opened (sym says ∙ z))
+
+  open-state : Dec (u % 256 ≡ 0) → stateOf (clientIn st′) (m′ ++ rest) ≡ step closed opened .0
+  open-state (yes z) =
+      let e : needed (stateOf (clientIn st′) m′ .shape) ≤ length m′ = omega (arith, ap needed (open-shape z), open-long z) in
+      state-lent (clientIn st′) m′ rest e ∙ k .meets l .state
+  open-state (no z) = rw (k .refused l z, zeros-say) (closed-is (m′ ++ rest) ∙ sym (refused-open closed opened h refl (λ n. z (says ∙ n))))
+
+-- ---- Every call
+
+-- from the state s to what the bytes after the call stand for
+abbrev Steps : State → List ℕ → Ask → Made → Type 0
+Steps s rest a x = (readOff a (answerOf (x .answer) (clientIn (x .state′))) (x .buffer′) ≡ step s (callOf a (x .memory) (x .tape) (x .buffer)) .1)
+    × (stateOf (clientIn (x .state′)) (x .memory′ ++ rest) ≡ step s (callOf a (x .memory) (x .tape) (x .buffer)) .0)
+
+module _ (x : Made) (rest : List ℕ) (l : length (x .state) ≡ 32) (same : length (x .memory′) ≡ length (x .memory)) where
+  abbrev before : State
+  before = stateOf (clientIn (x .state)) (x .memory ++ rest)
+
+  open-steps : (h : Shape) → Opened h (x .state) (x .memory) (x .tape) (x .answer) (x .state′) (x .memory′) → Steps before rest (opening h) x
+  open-steps h c =
+      let e = open-alone before h (x .memory) (x .tape) (x .buffer) in (
+        open-outcome h (x .state) (x .memory) (x .tape) (x .answer) (x .state′) (x .memory′) rest l same c (x .buffer′) ∙ sym (ap (λ (y : State × Outcome). y .1) e),
+        open-state h (x .state) (x .memory) (x .tape) (x .answer) (x .state′) (x .memory′) rest l same c (ℕ-discrete (x .answer % 256) 0) ∙ sym (ap (λ (y : State × Outcome). y .0) e),
+      )
+
+  four-steps : (a : Ask) → opens a ≡ false → Exported a (x .state) (x .memory) (x .tape) (x .buffer) (x .answer) (x .state′) (x .memory′) (x .buffer′) → Steps before rest a x
+  four-steps a o c = exported-step a o (x .state) (x .memory) (x .tape) (x .buffer) (x .answer) (x .state′) (x .memory′) (x .buffer′) rest l same c
+
+  every-steps : (a : Ask) → Contract a x → Steps before rest a x
+  unfolding opens
+  every-steps (opening h) c = open-steps h c
+  every-steps (request j b bs) c = four-steps (request j b bs) refl c
+  every-steps turn c = four-steps turn refl c
+  every-steps (completion d bs) c = four-steps (completion d bs) refl c
+  every-steps collect c = four-steps collect refl c
+
+pub made-step : (st m rest : List ℕ) (x : Made) → Handed st m rest x
+    → (outcomeOf x ≡ step (stateOf (clientIn st) m) (callMade x) .1) × (stateOf (clientIn (x .state′)) (x .memory′ ++ rest) ≡ step (stateOf (clientIn st) m) (callMade x) .0)
+made-step st m rest x k =
+    let e : stateOf (clientIn (x .state)) (x .memory ++ rest) ≡ stateOf (clientIn st) m = λ i. stateOf (clientIn (k .state i)) (k .memory i) in
+    let y = every-steps x rest (ap length (k .state) ∙ k .bytes) (k .slice) (x .ask) (k .contract) in
+    (y .0 ∙ ap (λ s. step s (callMade x) .1) e, y .1 ∙ ap (λ s. step s (callMade x) .0) e)

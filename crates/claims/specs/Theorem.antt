@@ -1,0 +1,52 @@
+-- Demands 2 and 3 for runs of exported calls.
+use mathlib.Core.Path.{_≡_, refl, ap, sym, subst, _∙_}
+use mathlib.Core.List.{List, [], _∷_, _++_, map}
+use Prim.Native.Nat.{ℕ}
+use Rattle.rules.specs.Run.{Outcome, run}
+use Rattle.rules.specs.State.{State, closed}
+use Rattle.client.specs.View.{stateOf}
+use Rattle.exports.specs.Exported.{clientIn}
+use Rattle.reachable.specs.Reached.{open-first}
+use Rattle.array.specs.Claim.{Honest, Plain}
+use Rattle.array.specs.Theorem.{plain-array}
+use Rattle.hiding.specs.Claim.{told}
+use Rattle.hiding.specs.Theorem.{hidden}
+use Rattle.claims.specs.Claim.{Made, Runs, Opens, callMade, outcomeOf, RulesClaim, ArrayClaim, HidingClaim, CacheClaim}
+use Rattle.claims.specs.Steps.{made-step}
+
+-- from any bytes of state and memory: each call finds the state that the last one left
+runs-are : (st m : List ℕ) (xs : List Made) → Runs st m xs → map outcomeOf xs ≡ run (stateOf (clientIn st) m) (map callMade xs)
+unfolding run
+runs-are st m [] k = refl
+runs-are st m (x ∷ xs) k =
+    let y = made-step st m (k .0) x (k .1 .0) in
+    let z = runs-are (x .state′) (x .memory′ ++ k .0) xs (k .1 .1) ∙ ap (λ s. run s (map callMade xs)) (y .1) in
+    λ i. y .0 i ∷ z i
+
+-- a run that starts with an open has no regard for the state before it
+from-closed : (s : State) (xs : List Made) → Opens xs → run s (map callMade xs) ≡ run closed (map callMade xs)
+unfolding run
+from-closed s [] o = absurd o
+from-closed s (x ∷ xs) o = ap (λ (y : State × Outcome). y .1 ∷ run (y .0) (map callMade xs)) (open-first s (callMade x) (o .0) (o .1))
+
+pub exported-run : RulesClaim
+exported-run xs r = runs-are (r .state) (r .memory) xs (r .runs) ∙ from-closed (stateOf (clientIn (r .state)) (r .memory)) xs (r .opens)
+
+-- Demand 2
+pub exported-array : ArrayClaim
+exported-array [] r host m w = absurd (r .opens)
+exported-array (x ∷ xs) r host m w =
+    let cs = map callMade (x ∷ xs) in
+    let e = exported-run (x ∷ xs) r in
+    subst (Plain m cs) (sym e) (plain-array closed host m (r .opens .0) (callMade x) (map callMade xs) (r .opens .1) (subst (Honest host cs) e w))
+
+-- Demand 3
+pub exported-hiding : HidingClaim
+exported-hiding h e m w n as′ bs′ k =
+    let y = hidden .lists h e m w n as′ bs′ k closed closed in
+    (y .0, (λ t a xs ys q r u v. ap (map told) (exported-run xs q) ∙ y .1 t a (map callMade xs) (map callMade ys) u v ∙ sym (ap (map told) (exported-run ys r))))
+
+-- The smaller cache
+pub exported-cache : CacheClaim
+exported-cache h e lo hi m n ws cs k xs ys q r u v =
+    rw (exported-run xs q ∙ ap (run closed) u, exported-run ys r ∙ ap (run closed) v) (hidden .cache h e lo hi m n ws cs k closed closed)
