@@ -3,10 +3,11 @@
 use meets::Answer;
 use memory::Shape;
 ghost use mathlib.Core.Path.{_≡_};
-ghost use lib.ListN.{length, replicate};
-ghost use Rattle.memory.specs.Fits.{shapeOf};
-ghost use Rattle.codec.specs.Codec.{lowClient, packed};
-ghost use Rattle.exports.specs.Exported.{clientIn, Opened, HandedBack, HandedBackOpened, numbers};
+ghost use mathlib.Core.List.{[]};
+ghost use lib.ListN.{length};
+ghost use Rattle.rules.specs.State.{cmd};
+ghost use Rattle.rules.specs.Questions.{request, turn, completion as completionOf, collect};
+ghost use Rattle.exports.specs.Exported.{Opened, Exported, HandedBack, HandedBackOpened, numbers};
 
 // The next state is handed back where the call was accepted.
 fn hand_back(state: &mut [u8], r: Answer) -> u64
@@ -52,4 +53,72 @@ pub extern "C" fn rinwolfedd_open(
     }
     let r = opening::open(Shape { n, p, l, b, e, w }, memory, tape);
     hand_back_opened(state, r)
+}
+
+#[no_mangle]
+pub extern "C" fn rinwolfedd_request(
+    state: &mut [u8],
+    memory: &mut [u8],
+    kind: usize,
+    block: usize,
+    contents: &[u8],
+    tape: &[u8],
+) -> u64
+    ensures { λ u. ⌜ Exported (request kind block (now (contents .entry))) (now (state .entry)) (now (memory .entry)) (now (tape .entry)) [] u (now (state .exit)) (now (memory .exit)) [] ⌝ }
+{
+    if state.len() != 32 {
+        return 2;
+    }
+    let c = codec::decode(state);
+    let r = requests::request(c, memory, kind, block, contents, tape);
+    hand_back(state, r)
+}
+
+#[no_mangle]
+pub extern "C" fn rinwolfedd_turn(
+    state: &mut [u8],
+    memory: &mut [u8],
+    tape: &[u8],
+    buffer: &mut [u8],
+) -> u64
+    ensures { λ u. ⌜ Exported turn (now (state .entry)) (now (memory .entry)) (now (tape .entry)) (now (buffer .entry)) u (now (state .exit)) (now (memory .exit)) (now (buffer .exit)) ⌝ }
+{
+    if state.len() != 32 {
+        return 2;
+    }
+    let c = codec::decode(state);
+    let r = turning::turn(c, memory, tape, buffer);
+    hand_back(state, r)
+}
+
+#[no_mangle]
+pub extern "C" fn rinwolfedd_completion(
+    state: &mut [u8],
+    memory: &mut [u8],
+    kind: usize,
+    partition: usize,
+    level: usize,
+    slot: usize,
+    bytes: &[u8],
+) -> u64
+    ensures { λ u. ⌜ Exported (completionOf (cmd kind partition level slot) (now (bytes .entry))) (now (state .entry)) (now (memory .entry)) [] [] u (now (state .exit)) (now (memory .exit)) [] ⌝ }
+{
+    if state.len() != 32 {
+        return 2;
+    }
+    let c = codec::decode(state);
+    let r = completing::completion(c, memory, kind, partition, level, slot, bytes);
+    hand_back(state, r)
+}
+
+#[no_mangle]
+pub extern "C" fn rinwolfedd_collect(state: &mut [u8], memory: &mut [u8], buffer: &mut [u8]) -> u64
+    ensures { λ u. ⌜ Exported collect (now (state .entry)) (now (memory .entry)) [] (now (buffer .entry)) u (now (state .exit)) (now (memory .exit)) (now (buffer .exit)) ⌝ }
+{
+    if state.len() != 32 {
+        return 2;
+    }
+    let c = codec::decode(state);
+    let r = collecting::collect(c, memory, buffer);
+    hand_back(state, r)
 }

@@ -1,0 +1,136 @@
+// What a turn does next. A request's reads go before a job's commands.
+use client::Client;
+use client::Found;
+use levels::Spot;
+ghost use mathlib.Core.Path.{_≡_};
+ghost use Prim.Native.Nat.{_-_, _<_};
+ghost use Rattle.lists.specs.Search.{orElse, keep, count};
+ghost use Rattle.rules.specs.Levels.{filled, sources as sourcesOf, target as targetOf};
+ghost use Rattle.rules.specs.Request.{slotIn, dummy};
+ghost use Rattle.rules.specs.Rebuild.{unread};
+ghost use Rattle.rules.specs.Turn.{decide as decideOf, requestStep, firstRead, jobStep, gatherStep, rebuildStep, writeStep};
+ghost use Rattle.memory.specs.Fits.{shapeOf};
+ghost use Rattle.client.specs.View.{stateOf, foundOf};
+ghost use Rattle.ready.specs.Usable.{Usable};
+ghost use Rattle.deciding.specs.Steps.{stepOf, dueOf, Reads, Placed};
+
+// There is no command to send; the request lacks an unread dummy; or the step: partition, level, and but for a rebuild the slot.
+pub enum Step {
+    Idle,
+    NoDummy,
+    ReadForRequest(usize, usize, usize),
+    ReadForJob(usize, usize, usize),
+    Rebuild(usize, usize),
+    WriteNext(usize, usize, usize),
+}
+
+// What a request wants: a read of partition, level and slot, a dummy that is lacking, or nothing.
+enum Due {
+    Read(usize, usize, usize),
+    NoDummy,
+    Nothing,
+}
+
+// The slot to read at level l of partition q: the block's own if its place, the number x, is there, else that of a dummy.
+fn slot(c: Client, m: &[u8], q: usize, l: usize, x: usize) -> Found
+    requires { ⌜ Usable c (now m) × Reads c (now m) q × (l < c .shape .l) × Placed c (now m) x ⌝ }
+    ensures { λ r. ⌜ foundOf r ≡ orElse (slotIn l (stateOf c (now (m .entry)) .place (c .request .block))) (dummy (stateOf c (now (m .entry))) q l) ⌝ }
+{
+    let n = bits::pow2(l + 1);
+    if (n <= x) & (x < 2 * n) {
+        return Found::At(x - n);
+    }
+    levels::dummy(c, m, q, l)
+}
+
+// The read of the first filled level that is left. A block that waits or is nowhere costs dummies.
+fn first_read(c: Client, m: &[u8], q: usize) -> Due
+    requires { ⌜ Usable c (now m) × Reads c (now m) q ⌝ }
+    ensures { λ r. ⌜ dueOf r ≡ firstRead q (stateOf c (now (m .entry)) .place (c .request .block)) (dummy (stateOf c (now (m .entry))) q) (keep (filled (stateOf c (now (m .entry)) .counter q)) (count (c .request .level) (c .shape .l - c .request .level))) ⌝ }
+{
+    let levels = c.shape.l;
+    let x = memory::tables::place(c.shape, m, c.request.block);
+    let counter = memory::tables::counter(c.shape, m, q);
+    let l = levels::next_filled(levels, counter, c.request.level);
+    if l == levels {
+        return Due::Nothing;
+    }
+    let found = slot(c, m, q, l, x);
+    match found {
+        Found::At(i) => Due::Read(q, l, i),
+        Found::Nothing => Due::NoDummy,
+    }
+}
+
+// What the request in hand wants, unless a job for its block's partition holds it.
+fn request_step(c: Client, m: &[u8]) -> Due
+    requires { ⌜ Usable c (now m) ⌝ }
+    ensures { λ r. ⌜ dueOf r ≡ requestStep (stateOf c (now (m .entry))) (stateOf c (now (m .entry)) .request) ⌝ }
+{
+    let r = c.request;
+    if r.kind == 0 {
+        return Due::Nothing;
+    }
+    let q = memory::tables::partition(c.shape, m, r.block);
+    if jobs::is_queued(c, m, q) {
+        return Due::Nothing;
+    }
+    first_read(c, m, q)
+}
+
+// The job's next read; or the rebuild, once nothing of its partition is outstanding.
+fn gather_step(c: Client, m: &[u8], q: usize, sources: usize) -> Step
+    requires { ⌜ Usable c (now m) × (q < c .shape .p) × (sources ≡ sourcesOf (shapeOf (c .shape)) (stateOf c (now m) .counter q)) ⌝ }
+    ensures { λ r. ⌜ stepOf r ≡ gatherStep q (unread (stateOf c (now (m .entry))) q) (rebuildStep (stateOf c (now (m .entry))) q) ⌝ }
+{
+    let spot = levels::unread(c, m, q, sources);
+    if let Spot::At(l, i) = spot {
+        return Step::ReadForJob(q, l, i);
+    }
+    if commands::is_busy(c, m, q) {
+        return Step::Idle;
+    }
+    let t = bits::target(sources, c.shape.l);
+    Step::Rebuild(q, t)
+}
+
+// The job's next write to level t, if one is left.
+fn write_step(c: Client, m: &[u8], q: usize, t: usize) -> Step
+    requires { ⌜ (t < 8) × (t ≡ targetOf (shapeOf (c .shape)) (stateOf c (now m) .counter q)) ⌝ }
+    ensures { λ r. ⌜ stepOf r ≡ writeStep (stateOf c (now (m .entry))) q ⌝ }
+{
+    let i = c.sent;
+    if i < bits::pow2(t + 1) {
+        return Step::WriteNext(q, t, i);
+    }
+    Step::Idle
+}
+
+// What the front job does next.
+fn job_step(c: Client, m: &[u8]) -> Step
+    requires { ⌜ Usable c (now m) ⌝ }
+    ensures { λ r. ⌜ stepOf r ≡ jobStep (stateOf c (now (m .entry))) (stateOf c (now (m .entry)) .queue) ⌝ }
+{
+    if c.jobs == 0 {
+        return Step::Idle;
+    }
+    let q = jobs::front(c, m);
+    let counter = memory::tables::counter(c.shape, m, q);
+    let sources = bits::sources(counter, c.shape.l);
+    if c.sent == 0 {
+        return gather_step(c, m, q, sources);
+    }
+    write_step(c, m, q, bits::target(sources, c.shape.l))
+}
+
+pub fn decide(c: Client, m: &[u8]) -> Step
+    requires { ⌜ Usable c (now m) ⌝ }
+    ensures { λ r. ⌜ stepOf r ≡ decideOf (stateOf c (now (m .entry))) ⌝ }
+{
+    let due = request_step(c, m);
+    match due {
+        Due::Read(q, l, i) => Step::ReadForRequest(q, l, i),
+        Due::NoDummy => Step::NoDummy,
+        Due::Nothing => job_step(c, m),
+    }
+}

@@ -1,0 +1,48 @@
+use mathlib.Core.Path.{refl}
+use native.Mathlib.Omega.{arith}
+use Rattle.rules.specs.Questions.{turn}
+use Rattle.exports.specs.Exported.{exported}
+use Rattle.exports.proofs.rinwolfedd_turn.Statement.{statement}
+use Rattle.exports.proofs.rinwolfedd_turn.Tie as tie
+
+returns : tie.Need-returns
+returns c = record { meets = λ l. absurd (c .if1 .taken l); refused = λ _. refl; other = λ _. (refl, refl, refl, refl) }
+
+decode-requires : tie.Need-decode-requires
+decode-requires c κs = omega arith
+
+turn-requires : tie.Need-turn-requires
+turn-requires c κs = omega arith
+
+hand-back-requires : tie.Need-hand-back-requires
+hand-back-requires c κs = omega arith
+
+same-length : tie.Need-same-length
+same-length c = omega arith
+
+same-length-2 : tie.Need-same-length-2
+same-length-2 c = omega arith
+
+same-length-3 : tie.Need-same-length-3
+same-length-3 c = omega arith
+
+returns-2 : tie.Need-returns-2
+returns-2 c =
+    let h = c .before .before .hand-back in
+    let r = c .before .before .before .before .before .before .before .before .turn in
+    let d = c .before .before .before .before .before .before .before .before .before .before .before .decode in
+    let a = c .before .before .before .before .before .before .before .before .before .before .before .before .before .before .before .before .before .before .args in
+    exported (turn) (a .state .now) (a .memory .now) (a .tape .now) (a .buffer .now) (r .result) (h .result) _ _ _ (c .before .before .before .before .before .before .before .before .before .before .before .before .before .if1 .left) (rw (← d .ensures) (r .ensures)) (h .ensures)
+
+pub rinwolfedd-turn-spec : {M : Type 1} → statement M
+rinwolfedd-turn-spec =
+    tie.close
+    (tie.spec
+    returns
+    decode-requires
+    turn-requires
+    hand-back-requires
+    same-length
+    same-length-2
+    same-length-3
+    returns-2)

@@ -1,0 +1,51 @@
+use mathlib.Core.Path.{refl}
+use Rattle.rules.specs.Turn.{readForRequest, command, stepBounds}
+use Rattle.rules.specs.Questions.{sends, possible}
+use Rattle.sending.specs.Turning.{read-meets, request-sent}
+use native.Mathlib.Omega.{arith}
+use borrow.Author.Needs.{needs}
+use Rattle.sending.proofs.read_for_request.Statement.{statement}
+use Rattle.sending.proofs.read_for_request.Tie as tie
+use Rattle.sending.proofs.read_for_request.Reads as reads
+use Rattle.sending.proofs.read_for_request.Lts as lts
+use Rattle.commands.proofs.send.Reads as send-reads
+use Rattle.levels.proofs.mark_read.Reads as mark-read-reads
+use Rattle.sending.proofs.pass_level.Reads as pass-level-reads
+use Rattle.sending.proofs.sent.Reads as sent-reads
+
+mark-read-requires : tie.Need-mark-read-requires
+mark-read-requires c κs = omega arith
+
+pass-level-requires : tie.Need-pass-level-requires
+pass-level-requires c κs = omega arith
+
+send-requires : tie.Need-send-requires
+send-requires c κs = rw (c .before .pass-level .ensures) (omega arith)
+
+sent-requires : tie.Need-sent-requires
+sent-requires c κs = omega arith
+
+same-length : tie.Need-same-length
+same-length c = omega arith
+
+returns : tie.Need-returns
+unfolding command sends possible stepBounds
+returns c =
+    let s = c .before .before .before .send in
+    let p = c .before .before .before .before .before .pass-level in
+    let k = c .before .before .before .before .before .before .before .before .mark-read in
+    let a = c .before .before .before .before .before .before .before .before .before .before .before in
+    let r = a .args in
+    rw (c .sent .ensures) (λ tape b. read-meets (r .c) (r .m .now) tape b (readForRequest (r .q) (r .l) (r .i)) (a .pre) _ _ (r .q) (r .l) (r .i) refl refl refl refl
+    (request-sent (r .c) (p .result) (s .result) (r .m .now) (k .last .1 .0) (s .last .1 .0) (r .q) (r .l) (r .i) (k .ensures) (p .ensures) (s .ensures .0) (s .ensures .1) _))
+
+pub read-for-request-spec : {M : Type 1} → statement M
+read-for-request-spec =
+    tie.close
+    (tie.spec
+    mark-read-requires
+    pass-level-requires
+    send-requires
+    sent-requires
+    same-length
+    returns)
