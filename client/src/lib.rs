@@ -6,5 +6,5 @@
 pub mod calls;
 mod store;
 
-pub use calls::{Answer, Command, Shape, READ, STATE, WRITE};
+pub use calls::{Answer, Command, READ, STATE, Shape, WRITE};
 pub use store::Store;

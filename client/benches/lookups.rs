@@ -1,0 +1,119 @@
+//! What whole look-ups cost beside the plain implementation, in the same run:
+//! for each shape, nanoseconds per command of both, and their ratio; first
+//! with a host in memory, then with one that does nothing.
+
+use plain::fast;
+use plain::lookups::{Client, Host, LookUps, Measure, Memory, Nothing};
+use plain::shape::Shape;
+use rinwolfedd::{Command, Store};
+
+const SHAPES: [Shape; 3] = [
+    Shape::new(64, 4, 5, 64, 64, 32),
+    Shape::new(1024, 16, 7, 256, 1024, 32),
+    Shape::new(4096, 64, 8, 512, 4096, 32),
+];
+
+const LOOK_UPS: usize = 2048;
+const REPEATS: usize = 6;
+
+/// The proved calls behind the same trait. The tape is lent as it lies in
+/// memory, which on a little-endian machine is low byte first.
+struct Proved(Store);
+
+fn bytes(words: &[u16]) -> &[u8] {
+    assert!(cfg!(target_endian = "little"));
+    // Safety: a slice of words is twice as many bytes.
+    unsafe { std::slice::from_raw_parts(words.as_ptr().cast(), 2 * words.len()) }
+}
+
+fn answer(from: rinwolfedd::Answer) -> fast::Answer {
+    fast::Answer {
+        number: from.number,
+        taken: from.taken,
+        command: fast::Command {
+            kind: from.command.kind,
+            partition: from.command.partition,
+            level: from.command.level,
+            slot: from.command.slot as u8,
+        },
+    }
+}
+
+impl Client for Proved {
+    fn open(h: Shape, words: &[u16]) -> Result<Proved, u8> {
+        let shape = rinwolfedd::Shape {
+            blocks: h.blocks,
+            partitions: h.partitions,
+            levels: h.levels,
+            bytes: h.bytes,
+            places: h.places,
+            window: h.window,
+        };
+        Store::open(shape, bytes(words)).map(Proved)
+    }
+
+    fn request(&mut self, kind: u8, block: usize, contents: &[u8], words: &[u16]) -> fast::Answer {
+        answer(self.0.request(kind, block, contents, bytes(words)))
+    }
+
+    fn turn(&mut self, words: &[u16], buffer: &mut [u8]) -> fast::Answer {
+        answer(self.0.turn(bytes(words), buffer))
+    }
+
+    fn completion(&mut self, command: fast::Command, bytes: &[u8]) -> u8 {
+        let command = Command {
+            kind: command.kind,
+            partition: command.partition,
+            level: command.level,
+            slot: command.slot.into(),
+        };
+        self.0.completion(command, bytes).number
+    }
+
+    fn collect(&mut self, buffer: &mut [u8]) -> u8 {
+        self.0.collect(buffer).number
+    }
+}
+
+fn measure<C: Client, H: Host>(shape: Shape) -> Measure {
+    let mut look_ups = LookUps::<C, H>::open(shape, 1).expect("the shape is in bounds");
+    look_ups
+        .warm_up()
+        .expect("the answers are those of an array");
+    look_ups.measure(LOOK_UPS).expect("no look-up is refused")
+}
+
+/// Nanoseconds per command of the proved calls and of the plain ones, which
+/// take turns.
+fn compare<H: Host>(shape: Shape) -> (f64, f64) {
+    let mut proved = measure::<Proved, H>(shape);
+    let mut plain = measure::<fast::Store, H>(shape);
+    for _ in 1..REPEATS {
+        proved = proved.best(&measure::<Proved, H>(shape));
+        plain = plain.best(&measure::<fast::Store, H>(shape));
+    }
+    assert_eq!(proved.commands, plain.commands);
+    let commands = proved.commands as f64;
+    (
+        proved.nanoseconds() / commands,
+        plain.nanoseconds() / commands,
+    )
+}
+
+fn main() {
+    println!("ns per command            host in memory                host that does nothing");
+    println!("                          proved    plain    ratio      proved    plain    ratio");
+    for shape in SHAPES {
+        let (a, b) = compare::<Memory>(shape);
+        let (c, d) = compare::<Nothing>(shape);
+        println!(
+            "N={:<4} P={:<2} L={} B={:<3} {a:>12.1} {b:>8.1} {:>8.2} {c:>12.1} {d:>8.1} {:>8.2}",
+            shape.blocks,
+            shape.partitions,
+            shape.levels,
+            shape.bytes,
+            a / b,
+            c / d,
+        );
+    }
+}

@@ -1,0 +1,152 @@
+//! Every length and random contents: each call answers one of its numbers, and
+//! nothing outside what is lent changes. A refusal changes no lent byte.
+
+mod lent;
+
+use lent::Lent;
+use plain::rng::Rng;
+use rinwolfedd::calls;
+use rinwolfedd::{Answer, STATE, Shape};
+
+const SHAPE: Shape = Shape {
+    blocks: 3,
+    partitions: 2,
+    levels: 2,
+    bytes: 4,
+    places: 3,
+    window: 2,
+};
+
+/// The state of an open store with numbers put in at random, so that each
+/// question comes to a no now and then; or bytes that say nothing.
+fn state(rng: &mut Rng, len: usize) -> Vec<u8> {
+    if len != STATE || rng.chance(20) {
+        return rng.bytes(len);
+    }
+    let mut words = [3, 2, 2, 4, 3, 2, 0, 0, 0, 0, 0, 0, 0, 0, 0, 0u16];
+    for word in &mut words[6..] {
+        *word = rng.below(4) as u16;
+    }
+    if rng.chance(30) {
+        words[rng.below(16)] = rng.step() as u16;
+    }
+    words.iter().flat_map(|word| word.to_le_bytes()).collect()
+}
+
+struct Lending {
+    state: Lent,
+    memory: Lent,
+    buffer: Lent,
+}
+
+impl Lending {
+    fn new(rng: &mut Rng, state_len: usize, memory: usize) -> Lending {
+        let len = if rng.chance(60) { 4 } else { rng.below(9) };
+        Lending {
+            state: Lent::new(&state(rng, state_len)),
+            memory: Lent::new(&rng.bytes(memory)),
+            buffer: Lent::new(&rng.bytes(len)),
+        }
+    }
+
+    fn bytes(&self) -> [Vec<u8>; 3] {
+        [&self.state, &self.memory, &self.buffer].map(|lent| lent.bytes().to_vec())
+    }
+
+    /// One of the five calls with random arguments.
+    fn call(&mut self, rng: &mut Rng, which: usize) -> Answer {
+        let state = self.state.lend();
+        let memory = self.memory.lend();
+        let length = rng.below(80);
+        let tape = rng.bytes(length);
+        let length = [0, 4, 4, rng.below(9)][rng.below(4)];
+        let contents = rng.bytes(length);
+        let number = |rng: &mut Rng| match rng.below(10) {
+            0 => rng.step() as usize,
+            _ => rng.below(4),
+        };
+        match which {
+            0 => {
+                let mut shape = SHAPE;
+                if rng.chance(30) {
+                    shape.partitions = number(rng);
+                    shape.places = number(rng);
+                }
+                calls::open(state, memory, shape, &tape)
+            }
+            1 => calls::request(state, memory, number(rng), number(rng), &contents, &tape),
+            2 => calls::turn(state, memory, &tape, self.buffer.lend()),
+            3 => {
+                let slot = [number(rng), number(rng), number(rng)];
+                calls::completion(state, memory, number(rng), slot, &contents)
+            }
+            _ => calls::collect(state, memory, self.buffer.lend()),
+        }
+    }
+}
+
+/// The numbers that each call may answer.
+const NUMBERS: [&[u8]; 5] = [
+    &[0, 1, 2, 3],
+    &[0, 2, 3, 4, 5, 6, 7, 8],
+    &[0, 2, 3, 9, 10, 15],
+    &[0, 2, 11, 12],
+    &[0, 2, 13, 14, 15],
+];
+
+fn check(rng: &mut Rng, state_len: usize, memory: usize, seen: &mut [[usize; 16]; 5]) {
+    for which in 0..5 {
+        let mut lending = Lending::new(rng, state_len, memory);
+        let before = lending.bytes();
+        let answer = lending.call(rng, which);
+        let sound = lending.state.is_sound() && lending.memory.is_sound();
+        assert!(sound && lending.buffer.is_sound());
+        assert!(
+            NUMBERS[which].contains(&answer.number),
+            "{which}: {answer:?}"
+        );
+        if answer.number != 0 {
+            let mut after = lending.bytes();
+            if which == 0 && state_len == STATE {
+                assert_eq!(after[0], [0; STATE]);
+                after[0].clone_from(&before[0]);
+            }
+            assert_eq!(after, before, "call {which} answers {answer:?}");
+            assert_eq!((answer.taken, answer.command), Default::default());
+        }
+        seen[which][usize::from(answer.number)] += 1;
+    }
+}
+
+#[test]
+fn every_length_of_memory() {
+    let mut rng = Rng::new(1);
+    let mut seen = [[0; 16]; 5];
+    let needed = SHAPE.needed().unwrap();
+    for memory in 0..needed + 9 {
+        check(&mut rng, STATE, memory, &mut seen);
+    }
+    for memory in needed..needed + 9 {
+        for _ in 0..20_000 {
+            check(&mut rng, STATE, memory, &mut seen);
+        }
+    }
+    for (which, numbers) in NUMBERS.iter().enumerate() {
+        for number in numbers.iter().filter(|number| **number != 7) {
+            let count = seen[which][usize::from(*number)];
+            assert!(count > 0, "call {which} never answers {number}");
+        }
+    }
+}
+
+#[test]
+fn every_length_of_state() {
+    let mut rng = Rng::new(2);
+    let mut seen = [[0; 16]; 5];
+    let needed = SHAPE.needed().unwrap();
+    for state_len in (0..100).filter(|len| *len != STATE) {
+        check(&mut rng, state_len, needed, &mut seen);
+    }
+    // a state of another length is answered 2
+    assert!(seen.iter().all(|numbers| numbers[2] == 99));
+}
