@@ -3,15 +3,9 @@
 //! with a host in memory, then with one that does nothing.
 
 use plain::fast;
-use plain::lookups::{Client, Host, LookUps, Measure, Memory, Nothing};
+use plain::lookups::{Client, Host, LookUps, Measure, Memory, Nothing, SHAPES};
 use plain::shape::Shape;
 use rinwolfedd::{Command, Store};
-
-const SHAPES: [Shape; 3] = [
-    Shape::new(64, 4, 5, 64, 64, 32),
-    Shape::new(1024, 16, 7, 256, 1024, 32),
-    Shape::new(4096, 64, 8, 512, 4096, 32),
-];
 
 const LOOK_UPS: usize = 2048;
 const REPEATS: usize = 6;

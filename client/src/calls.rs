@@ -23,9 +23,8 @@ impl Shape {
     /// The bytes of memory that the shape needs (docs/MEMORY.md), or none for
     /// numbers far out of bounds.
     pub fn needed(&self) -> Option<usize> {
-        let cells = 1usize
-            .checked_shl(self.levels as u32 + 1)?
-            .checked_mul(self.partitions)?;
+        let levels = u32::try_from(self.levels).ok()?.checked_add(1)?;
+        let cells = 2usize.checked_pow(levels)?.checked_mul(self.partitions)?;
         let tables = self.blocks.checked_add(cells)?.checked_mul(6)?;
         let contents = self.blocks.checked_add(1)?.checked_mul(self.bytes)?;
         tables.checked_add(contents)?.checked_add(384)

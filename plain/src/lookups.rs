@@ -7,6 +7,13 @@ use crate::rng::Rng;
 use crate::shape::Shape;
 use std::time::{Duration, Instant};
 
+/// The shapes at which look-ups are timed.
+pub const SHAPES: [Shape; 3] = [
+    Shape::new(64, 4, 5, 64, 64, 32),
+    Shape::new(1024, 16, 7, 256, 1024, 32),
+    Shape::new(4096, 64, 8, 512, 4096, 32),
+];
+
 /// The five calls, over borrowed slices. A client keeps its state, or takes
 /// it along with its memory, as it likes.
 pub trait Client: Sized {

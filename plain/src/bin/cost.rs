@@ -4,15 +4,9 @@
 //! leaves the client and about 3 ns of the loop around it.
 
 use plain::fast::Store;
-use plain::lookups::{Client, Host, LookUps, Measure, Memory, Nothing};
+use plain::lookups::{Client, Host, LookUps, Measure, Memory, Nothing, SHAPES};
 use plain::shape::Shape;
 use std::process::ExitCode;
-
-const SHAPES: [Shape; 3] = [
-    Shape::new(64, 4, 5, 64, 64, 32),
-    Shape::new(1024, 16, 7, 256, 1024, 32),
-    Shape::new(4096, 64, 8, 512, 4096, 32),
-];
 
 const SEED: u64 = 1;
 const LOOK_UPS: usize = 8192;
