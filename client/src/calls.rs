@@ -2,7 +2,7 @@
 //! asked of the caller: each value of each number is answered.
 
 /// The bytes of a client's state.
-pub const STATE: usize = 32;
+pub const STATE: usize = 64;
 
 pub const READ: u8 = 1;
 pub const WRITE: u8 = 2;

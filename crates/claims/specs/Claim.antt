@@ -1,4 +1,4 @@
--- Demands 2 and 3 for exported calls, as a host program makes them: an open, then any calls. Each is handed the 32 bytes of state and the memory
+-- Demands 2 and 3 for exported calls, as a host program makes them: an open, then any calls. Each is handed the 64 bytes of state and the memory
 -- that the last one left, or a part of that memory from its start. All that is known of a call is its contract.
 -- To believe the claims, read this file, `Exported` and `Opened` of crate `exports`, and the claims of crates `array` and `hiding`. They are
 -- proved in Theorem.antt, the last of them in Words.antt.
@@ -16,7 +16,7 @@ use Rattle.rules.specs.Questions.{Ask, opening, request, turn, completion, coll
 use Rattle.rules.specs.Run.{Outcome, run}
 use Rattle.tape.specs.Tape.{wordsOf}
 use Rattle.meets.specs.Meets.{callOf, commandOf}
-use Rattle.codec.specs.Codec.{answerOf}
+use Rattle.codec.specs.Codec.{answerOf, stateLength}
 use Rattle.exports.specs.Exported.{clientIn, Exported, Opened}
 use Rattle.array.specs.Claim.{Host, Expected, Honest, Plain}
 use Rattle.hiding.specs.Claim.{Lent, first, Compared, Tape, Gives, Matching, told, NoOpen, openOver, AgreeUntil8}
@@ -46,7 +46,7 @@ Contract collect x = Exported collect (x .state) (x .memory) (x .tape) (x .buffe
 -- The call is handed the state st, and of the memory m all but `rest`. (Handed a state of another length, a call answers 2 and leaves every
 -- byte as it was, by its contract: it is no part of a run)
 pub record Handed (st m rest : List ℕ) (x : Made) : Type 0 where
-  pub bytes : length st ≡ 32
+  pub bytes : length st ≡ stateLength
   pub state : x .state ≡ st
   pub memory : x .memory ++ rest ≡ m
   pub contract : Contract (x .ask) x

@@ -13,7 +13,7 @@ use Rattle.memory.specs.Words.{wordAt}
 use Rattle.client.specs.View.{stateOf}
 use Rattle.meets.specs.Answers.{clearedClient}
 use Rattle.meets.specs.Meets.{Meets, callOf, meets-no, closed-is}
-use Rattle.codec.specs.Codec.{answerOf}
+use Rattle.codec.specs.Codec.{answerOf, stateLength}
 use Rattle.exports.specs.Exported.{clientIn, Exported, Opened}
 use Rattle.claims.specs.Claim.{Made, FromOpen, outcomeOf, handsOut}
 
@@ -23,12 +23,12 @@ noShape = record { N = 0; P = 0; L = 0; B = 0; E = 0; W = 0 }
 abbrev pub opened : Made
 opened = record {
   ask = opening noShape;
-  state = replicate 32 7;
+  state = replicate stateLength 7;
   memory = 1 ∷ 2 ∷ 3 ∷ [];
   tape = [];
   buffer = [];
   answer = 1;
-  state′ = replicate 32 0;
+  state′ = replicate stateLength 0;
   memory′ = 1 ∷ 2 ∷ 3 ∷ [];
   buffer′ = [];
 }
@@ -36,17 +36,17 @@ opened = record {
 abbrev pub turned : Made
 turned = record {
   ask = turn;
-  state = replicate 32 0;
+  state = replicate stateLength 0;
   memory = 1 ∷ [];
   tape = 5 ∷ 6 ∷ [];
   buffer = 9 ∷ [];
   answer = 2;
-  state′ = replicate 32 0;
+  state′ = replicate stateLength 0;
   memory′ = 1 ∷ [];
   buffer′ = 9 ∷ [];
 }
 
-zeros-say : clientIn (replicate 32 0) ≡ clearedClient
+zeros-say : clientIn (replicate stateLength 0) ≡ clearedClient
 unfolding wordAt
 zeros-say = refl
 
@@ -66,15 +66,15 @@ turn-meets : Meets clearedClient (stateOf clearedClient (1 ∷ [])) turn (1 ∷ 
 unfolding refuse
 turn-meets = rw (closed-is (1 ∷ [])) (meets-no clearedClient closed turn (1 ∷ []) (5 ∷ 6 ∷ []) (9 ∷ []) 2 turn-number (λ z. omega arith) (closed-is (1 ∷ [])))
 
-open-contract : Opened noShape (replicate 32 7) (1 ∷ 2 ∷ 3 ∷ []) [] 1 (replicate 32 0) (1 ∷ 2 ∷ 3 ∷ [])
+open-contract : Opened noShape (replicate stateLength 7) (1 ∷ 2 ∷ 3 ∷ []) [] 1 (replicate stateLength 0) (1 ∷ 2 ∷ 3 ∷ [])
 open-contract = record { meets = λ l. rw zeros-say open-meets; refused = λ l n. refl; other = λ n. absurd (n refl) }
 
-turn-contract : Exported turn (replicate 32 0) (1 ∷ []) (5 ∷ 6 ∷ []) (9 ∷ []) 2 (replicate 32 0) (1 ∷ []) (9 ∷ [])
+turn-contract : Exported turn (replicate stateLength 0) (1 ∷ []) (5 ∷ 6 ∷ []) (9 ∷ []) 2 (replicate stateLength 0) (1 ∷ []) (9 ∷ [])
 turn-contract = record { meets = λ l. rw zeros-say turn-meets; refused = λ n. refl; other = λ n. absurd (n refl) }
 
 pub example : FromOpen (opened ∷ turned ∷ [])
 example = record {
-  state = replicate 32 7;
+  state = replicate stateLength 7;
   memory = 1 ∷ 2 ∷ 3 ∷ 4 ∷ [];
   opens = (noShape, refl);
   runs = (

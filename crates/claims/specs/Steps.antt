@@ -15,6 +15,7 @@ use Rattle.rules.specs.Collect.{collected, finish}
 use Rattle.rules.specs.Completion.{complete, completeRead, completeWrite, completed, gatherBytes, finishJob, endJob, jobDone}
 use Rattle.rules.specs.Draws.{draws}
 use Rattle.rules.specs.Laws.Answers.{accepted-passed, step-accepted, step-number, opens, refused-keeps, refused-outcome, refused-open}
+use Rattle.rules.specs.Laws.Shapes.{act-shape}
 use Rattle.rules.specs.Memory.{needed}
 use Rattle.rules.specs.Open.{fresh}
 use Rattle.rules.specs.Questions.{Ask, opening, request, turn, completion, collect, Call, ready, questions, firstNo, bounds, number}
@@ -30,53 +31,11 @@ use Rattle.client.specs.View.{stateOf, view}
 use Rattle.meets.specs.declared.Answer.{Answer}
 use Rattle.meets.specs.Answers.{clearedClient}
 use Rattle.meets.specs.Meets.{Meets, callOf, commandOf, closed-is}
-use Rattle.codec.specs.Codec.{answerOf}
+use Rattle.codec.specs.Codec.{answerOf, stateLength}
 use Rattle.exports.specs.Exported.{clientIn, Exported, Opened}
 use Rattle.claims.specs.Claim.{Made, Contract, Handed, callMade, handsOut, outcomeOf}
 use Rattle.claims.specs.Memory.{state-lent, state-whole}
 use Rattle.claims.specs.Buffers.{Whole, ready-of, ready-long, hands-out}
-
--- ---- What the calls keep of the shape
-
-turn-shape : (s : State) (x : Step) (js : List ℕ) → doStep x js s .shape ≡ s .shape
-unfolding doStep markRead send doRebuild
-turn-shape s idle js = refl
-turn-shape s noDummy js = refl
-turn-shape s (readForRequest q ℓ i) js = refl
-turn-shape s (readForJob q ℓ i) js = refl
-turn-shape s (rebuild q t) js = refl
-turn-shape s (writeNext q t i) js = refl
-
-complete-shape : (s : State) (c : Command) (bs : List ℕ) → complete c bs s .shape ≡ s .shape
-unfolding complete completeRead completeWrite completed gatherBytes finishJob endJob
-complete-shape s c bs = go (eqb (c .kind) 1) (holder s (c .partition) (c .level) (c .slot)) (s .queue)
-  where
-    s′ : State
-    s′ = completed c s
-
-    ended : (q : ℕ) (qs : List ℕ) (t : Bool) → (if t then endJob q qs s′ else s′) .shape ≡ s .shape
-    ended q qs true = refl
-    ended q qs false = refl
-
-    go : (t : Bool) (b : Option ℕ) (qs : List ℕ) → (if t then gatherBytes b bs s′ else finishJob qs s′) .shape ≡ s .shape
-    go true none qs = refl
-    go true (some b) qs = refl
-    go false b [] = refl
-    go false b (q ∷ qs) = ended q qs (jobDone s′ q)
-
-collect-shape : (s : State) (o : Option Request) → collected o s .shape ≡ s .shape
-unfolding collected finish
-collect-shape s none = refl
-collect-shape s (some r) = refl
-
--- no call but an open changes it
-act-shape : (s : State) (a : Ask) (js : List ℕ) → opens a ≡ false → act s a js .shape ≡ s .shape
-unfolding act accept opens
-act-shape s (opening h) js o = absurd (true≢false o)
-act-shape s (request k b bs) js o = refl
-act-shape s turn js o = turn-shape s (decide s) js
-act-shape s (completion c bs) js o = complete-shape s c bs
-act-shape s collect js o = collect-shape s (s .request)
 
 -- ---- "Lent too little of that memory, it replies 2"
 
@@ -112,7 +71,7 @@ meets-outcome c s a m tape b r m′ b′ w k = λ i. record { number = k .number
 
 -- ---- A request, turn, completion or collect
 
-module _ (a : Ask) (four : opens a ≡ false) (st m tape b : List ℕ) (u : ℕ) (st′ m′ b′ rest : List ℕ) (l : length st ≡ 32) (same : length m′ ≡ length m) (k : Exported a st m tape b u st′ m′ b′) where
+module _ (a : Ask) (four : opens a ≡ false) (st m tape b : List ℕ) (u : ℕ) (st′ m′ b′ rest : List ℕ) (l : length st ≡ stateLength) (same : length m′ ≡ length m) (k : Exported a st m tape b u st′ m′ b′) where
   abbrev asked : Call
   asked = callOf a m tape b
 
@@ -191,7 +150,7 @@ open-alone : (s : State) (h : Shape) (m tape b : List ℕ) → step s (callOf (o
 unfolding step number questions bounds accepted act refuse sentCommand handed
 open-alone s h m tape b = refl
 
-module _ (h : Shape) (st m tape : List ℕ) (u : ℕ) (st′ m′ rest : List ℕ) (l : length st ≡ 32) (same : length m′ ≡ length m) (k : Opened h st m tape u st′ m′) where
+module _ (h : Shape) (st m tape : List ℕ) (u : ℕ) (st′ m′ rest : List ℕ) (l : length st ≡ stateLength) (same : length m′ ≡ length m) (k : Opened h st m tape u st′ m′) where
   abbrev opened : Call
   opened = callOf (opening h) m tape []
 
@@ -202,7 +161,7 @@ module _ (h : Shape) (st m tape : List ℕ) (u : ℕ) (st′ m′ rest : List �
   unfolding handsOut
   open-outcome b′ = meets-outcome clearedClient closed (opening h) m tape [] (answerOf u (clientIn st′)) m′ [] (λ z b. unfold closed in refl) (k .meets l)
 
-  zeros-say : clientIn (replicate 32 0) ≡ clearedClient
+  zeros-say : clientIn (replicate stateLength 0) ≡ clearedClient
   unfolding wordAt
   zeros-say = refl
 
@@ -227,7 +186,7 @@ abbrev Steps : State → List ℕ → Ask → Made → Type 0
 Steps s rest a x = (readOff a (answerOf (x .answer) (clientIn (x .state′))) (x .buffer′) ≡ step s (callOf a (x .memory) (x .tape) (x .buffer)) .1)
     × (stateOf (clientIn (x .state′)) (x .memory′ ++ rest) ≡ step s (callOf a (x .memory) (x .tape) (x .buffer)) .0)
 
-module _ (x : Made) (rest : List ℕ) (l : length (x .state) ≡ 32) (same : length (x .memory′) ≡ length (x .memory)) where
+module _ (x : Made) (rest : List ℕ) (l : length (x .state) ≡ stateLength) (same : length (x .memory′) ≡ length (x .memory)) where
   abbrev before : State
   before = stateOf (clientIn (x .state)) (x .memory ++ rest)
 

@@ -12,6 +12,14 @@ use Rattle.client.specs.declared.Client.{Client}
 use Rattle.client.specs.declared.Request.{Request}
 use Rattle.meets.specs.declared.Answer.{Answer}
 
+-- The state lies in 64 bytes
+abbrev pub stateLength : ℕ
+stateLength = 64
+
+-- number k: four bytes for each, of which the first two are used, so that the compiler reads each number as it was stored and not several at once
+abbrev pub numberAt : List ℕ → ℕ → ℕ
+numberAt st k = wordAt st (k * 2)
+
 -- the client that sixteen numbers say
 abbrev pub clientOf : (ℕ → ℕ) → Client
 clientOf w = record {
@@ -32,9 +40,12 @@ abbrev pub withRequest : Request → (ℕ → ℕ) → ℕ → ℕ
 withRequest r w = put 10 (r .level % 65536) (put 9 (r .evict % 65536) (put 8 (r .next % 65536) (put 7 (r .block % 65536) (put 6 (r .kind % 65536) w))))
 
 -- each number modulo 2^16
+abbrev pub lowShape : Shape → Shape
+lowShape h = record { n = h .n % 65536; p = h .p % 65536; l = h .l % 65536; b = h .b % 65536; e = h .e % 65536; w = h .w % 65536 }
+
 abbrev pub lowClient : Client → Client
 lowClient c = record {
-  shape = record { n = c .shape .n % 65536; p = c .shape .p % 65536; l = c .shape .l % 65536; b = c .shape .b % 65536; e = c .shape .e % 65536; w = c .shape .w % 65536 };
+  shape = lowShape (c .shape);
   request = record { kind = c .request .kind % 65536; block = c .request .block % 65536; next = c .request .next % 65536; evict = c .request .evict % 65536; level = c .request .level % 65536 };
   jobs = c .jobs % 65536;
   cursor = c .cursor % 65536;
@@ -43,9 +54,20 @@ lowClient c = record {
   out = c .out % 65536;
 }
 
--- sixteen numbers stored are read again
-pub stored-is : (c : Client) (w : ℕ → ℕ)
-    → clientOf (put 15 (c .out % 65536) (put 14 (c .waiting % 65536) (put 13 (c .sent % 65536) (put 12 (c .cursor % 65536) (put 11 (c .jobs % 65536) (withRequest (c .request) (withShape (c .shape) w))))))) ≡ lowClient c
+-- the same with another shape
+abbrev pub reshaped : Shape → Client → Client
+reshaped h c = record { shape = h; request = c .request; jobs = c .jobs; cursor = c .cursor; sent = c .sent; waiting = c .waiting; out = c .out }
+
+-- sixteen numbers with those of a client but its shape
+abbrev pub withRest : Client → (ℕ → ℕ) → ℕ → ℕ
+withRest c w = put 15 (c .out % 65536) (put 14 (c .waiting % 65536) (put 13 (c .sent % 65536) (put 12 (c .cursor % 65536) (put 11 (c .jobs % 65536) (withRequest (c .request) w)))))
+
+-- numbers stored are read again
+pub rest-is : (c : Client) (w : ℕ → ℕ) → clientOf (withRest c w) ≡ reshaped (clientOf w .shape) (lowClient c)
+unfolding put
+rest-is c w = refl
+
+pub stored-is : (c : Client) (w : ℕ → ℕ) → clientOf (withRest c (withShape (c .shape) w)) ≡ lowClient c
 unfolding put
 stored-is c w = refl
 
@@ -65,9 +87,9 @@ answerOf u c = record {
 }
 
 -- a number stored among others
-pub word-put : (m : List ℕ) (k v : ℕ) → k * 2 + 1 < length m → v < 65536 → wordAt (setWord m k v) ≡ put k v (wordAt m)
-word-put m k v l f = fun-ext (λ x. go x (ℕ-discrete x k))
+pub number-put : (m : List ℕ) (k v : ℕ) → k * 2 * 2 + 1 < length m → v < 65536 → numberAt (setWord m (k * 2) v) ≡ put k v (numberAt m)
+number-put m k v l f = fun-ext (λ x. go x (ℕ-discrete x k))
   where
-    go : (x : ℕ) → Dec (x ≡ k) → wordAt (setWord m k v) x ≡ put k v (wordAt m) x
-    go x (yes e) = rw e (word-same m k v l f ∙ sym (put-same k v (wordAt m)))
-    go x (no n) = word-other m k v x n ∙ sym (put-other k v (wordAt m) x n)
+    go : (x : ℕ) → Dec (x ≡ k) → wordAt (setWord m (k * 2) v) (x * 2) ≡ put k v (numberAt m) x
+    go x (yes e) = rw e (word-same m (k * 2) v l f ∙ sym (put-same k v (numberAt m)))
+    go x (no n) = word-other m (k * 2) v (x * 2) (λ e. n (omega arith)) ∙ sym (put-other k v (numberAt m) x n)

@@ -1,4 +1,4 @@
-// The client's state as 32 bytes, and an answer as one number.
+// The client's state as 64 bytes, and an answer as one number.
 use client::Client;
 use client::Request;
 use meets::Answer;
@@ -7,27 +7,26 @@ ghost use mathlib.Core.Path.{_≡_};
 ghost use Prim.Native.Nat.{_%_, _<_};
 ghost use lib.ListN.{length};
 ghost use Rattle.lists.specs.Tables.{put as putAt};
-ghost use Rattle.memory.specs.Words.{wordAt};
-ghost use Rattle.codec.specs.Codec.{clientOf, withShape, withRequest, lowClient, packed};
+ghost use Rattle.codec.specs.Codec.{stateLength, numberAt, clientOf, withShape, withRequest, withRest, lowClient, packed};
 
 // Number k of the state.
 fn number(s: &[u8], k: usize) -> usize
-    requires { ⌜ (length (now s) ≡ 32) × (k < 16) ⌝ }
-    ensures { λ r. ⌜ r ≡ wordAt (now (s .entry)) k ⌝ }
+    requires { ⌜ (length (now s) ≡ stateLength) × (k < 16) ⌝ }
+    ensures { λ r. ⌜ r ≡ numberAt (now (s .entry)) k ⌝ }
 {
-    memory::word(s, k)
+    memory::word(s, k * 2)
 }
 
 fn set_number(s: &mut [u8], k: usize, v: usize)
-    requires { ⌜ (length (now s) ≡ 32) × (k < 16) ⌝ }
-    ensures { λ _. ⌜ wordAt (now (s .exit)) ≡ putAt k (v % 65536) (wordAt (now (s .entry))) ⌝ }
+    requires { ⌜ (length (now s) ≡ stateLength) × (k < 16) ⌝ }
+    ensures { λ _. ⌜ numberAt (now (s .exit)) ≡ putAt k (v % 65536) (numberAt (now (s .entry))) ⌝ }
 {
-    memory::set_word(s, k, v % 65536);
+    memory::set_word(s, k * 2, v % 65536);
 }
 
 fn shape(s: &[u8]) -> Shape
-    requires { ⌜ length (now s) ≡ 32 ⌝ }
-    ensures { λ r. ⌜ r ≡ clientOf (wordAt (now (s .entry))) .shape ⌝ }
+    requires { ⌜ length (now s) ≡ stateLength ⌝ }
+    ensures { λ r. ⌜ r ≡ clientOf (numberAt (now (s .entry))) .shape ⌝ }
 {
     Shape {
         n: number(s, 0),
@@ -40,8 +39,8 @@ fn shape(s: &[u8]) -> Shape
 }
 
 fn request(s: &[u8]) -> Request
-    requires { ⌜ length (now s) ≡ 32 ⌝ }
-    ensures { λ r. ⌜ r ≡ clientOf (wordAt (now (s .entry))) .request ⌝ }
+    requires { ⌜ length (now s) ≡ stateLength ⌝ }
+    ensures { λ r. ⌜ r ≡ clientOf (numberAt (now (s .entry))) .request ⌝ }
 {
     Request {
         kind: number(s, 6),
@@ -53,8 +52,8 @@ fn request(s: &[u8]) -> Request
 }
 
 pub fn decode(s: &[u8]) -> Client
-    requires { ⌜ length (now s) ≡ 32 ⌝ }
-    ensures { λ r. ⌜ r ≡ clientOf (wordAt (now (s .entry))) ⌝ }
+    requires { ⌜ length (now s) ≡ stateLength ⌝ }
+    ensures { λ r. ⌜ r ≡ clientOf (numberAt (now (s .entry))) ⌝ }
 {
     Client {
         shape: shape(s),
@@ -68,8 +67,8 @@ pub fn decode(s: &[u8]) -> Client
 }
 
 fn put_shape(s: &mut [u8], h: Shape)
-    requires { ⌜ length (now s) ≡ 32 ⌝ }
-    ensures { λ _. ⌜ wordAt (now (s .exit)) ≡ withShape h (wordAt (now (s .entry))) ⌝ }
+    requires { ⌜ length (now s) ≡ stateLength ⌝ }
+    ensures { λ _. ⌜ numberAt (now (s .exit)) ≡ withShape h (numberAt (now (s .entry))) ⌝ }
 {
     set_number(s, 0, h.n);
     set_number(s, 1, h.p);
@@ -80,8 +79,8 @@ fn put_shape(s: &mut [u8], h: Shape)
 }
 
 fn put_request(s: &mut [u8], r: Request)
-    requires { ⌜ length (now s) ≡ 32 ⌝ }
-    ensures { λ _. ⌜ wordAt (now (s .exit)) ≡ withRequest r (wordAt (now (s .entry))) ⌝ }
+    requires { ⌜ length (now s) ≡ stateLength ⌝ }
+    ensures { λ _. ⌜ numberAt (now (s .exit)) ≡ withRequest r (numberAt (now (s .entry))) ⌝ }
 {
     set_number(s, 6, r.kind);
     set_number(s, 7, r.block);
@@ -90,17 +89,25 @@ fn put_request(s: &mut [u8], r: Request)
     set_number(s, 10, r.level);
 }
 
-pub fn encode(s: &mut [u8], c: Client)
-    requires { ⌜ length (now s) ≡ 32 ⌝ }
-    ensures { λ _. ⌜ clientOf (wordAt (now (s .exit))) ≡ lowClient c ⌝ }
+// Stores all but the shape, which only an open changes.
+pub fn encode_rest(s: &mut [u8], c: Client)
+    requires { ⌜ length (now s) ≡ stateLength ⌝ }
+    ensures { λ _. ⌜ numberAt (now (s .exit)) ≡ withRest c (numberAt (now (s .entry))) ⌝ }
 {
-    put_shape(s, c.shape);
     put_request(s, c.request);
     set_number(s, 11, c.jobs);
     set_number(s, 12, c.cursor);
     set_number(s, 13, c.sent);
     set_number(s, 14, c.waiting);
     set_number(s, 15, c.out);
+}
+
+pub fn encode(s: &mut [u8], c: Client)
+    requires { ⌜ length (now s) ≡ stateLength ⌝ }
+    ensures { λ _. ⌜ clientOf (numberAt (now (s .exit))) ≡ lowClient c ⌝ }
+{
+    put_shape(s, c.shape);
+    encode_rest(s, c);
 }
 
 // The number in the lowest byte, then kind, partition and level, a byte each, then the slot and the words taken, two bytes each.

@@ -130,7 +130,10 @@ pub fn completion(
 ) -> Answer
     ensures { λ r. ⌜ Meets c (stateOf c (now (m .entry))) (completionOf (cmd kind partition level slot) (now (bytes .entry))) (now (m .entry)) [] [] r (now (m .exit)) [] ⌝ }
 {
-    if !(ready::is_ready(c, m) & is_kind(kind)) {
+    if !ready::shape_fits(c.shape, m.len()) {
+        return meets::refused(2, c);
+    }
+    if !(ready::numbers_fit(c, m) & is_kind(kind)) {
         return meets::refused(2, c);
     }
     let found = commands::find(c, m, kind, partition, level, slot);

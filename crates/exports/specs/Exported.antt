@@ -1,46 +1,50 @@
--- What the exported calls' contracts say: the answer, read off one number, and the state, read off 32 bytes, meet the rules.
+-- What the exported calls' contracts say: the answer, read off one number, and the state, read off 64 bytes, meet the rules.
 use mathlib.Core.Path.{_≡_, refl, ap, sym, _∙_}
+use mathlib.Core.Bool.{true, false}
 use mathlib.Core.List.{List, []}
 use Prim.Native.Nat.{ℕ, _+_, _*_, _/_, _%_, _≤_, _<_}
 use native.Mathlib.Nat.{mod-eq-of-lt}
 use native.Mathlib.Omega.{arith}
 use native.Mathlib.Decide.{ℕ-discrete}
 use lib.ListN.{length, drop, replicate}
-use Rattle.rules.specs.Shape.{Shape}
+use Rattle.rules.specs.Shape.{Shape, within}
 use Rattle.rules.specs.State.{State, Command, cmd, closed}
 use Rattle.rules.specs.Memory.{needed}
 use Rattle.rules.specs.Draws.{draws}
 use Rattle.rules.specs.Questions.{Ask, opening, Call, bounds, number}
 use Rattle.rules.specs.Run.{Outcome, step, act, accepted, refused, sentCommand, numbersOf}
-use Rattle.rules.specs.Laws.Answers.{number-le, step-number, step-accepted, refused-outcome, accepted-passed, accepted-taken}
+use Rattle.rules.specs.Laws.Shapes.{act-shape}
+use Rattle.rules.specs.Laws.Answers.{opens, number-le, step-number, step-accepted, refused-outcome, accepted-passed, accepted-taken}
 use Rattle.rules.specs.Laws.Range.{InRange}
 use Rattle.rules.specs.Laws.Kept.{accepted-in}
 use Rattle.memory.specs.Words.{wordAt}
+use Rattle.memory.specs.Fits.{shapeOf}
+use Rattle.memory.specs.declared.Shape as M
 use Rattle.client.specs.declared.Client.{Client}
-use Rattle.client.specs.View.{stateOf}
+use Rattle.client.specs.View.{stateOf, view}
 use Rattle.tape.specs.Tape.{wordsOf}
 use Rattle.meets.specs.declared.Answer.{Answer}
 use Rattle.meets.specs.Answers.{clearedClient}
 use Rattle.meets.specs.Meets.{Meets, callOf, commandOf}
-use Rattle.codec.specs.Codec.{clientOf, lowClient, packed, answerOf}
-use Rattle.exports.specs.Small.{SmallCommand, accepted-small, low-client}
+use Rattle.codec.specs.Codec.{stateLength, numberAt, clientOf, reshaped, lowShape, lowClient, packed, answerOf}
+use Rattle.exports.specs.Small.{SmallCommand, accepted-small, low-shape, low-client}
 
--- the client that 32 bytes say
+-- the client that 64 bytes say
 abbrev pub clientIn : List ℕ → Client
-clientIn st = clientOf (wordAt st)
+clientIn st = clientOf (numberAt st)
 
 -- A request, turn, completion or collect: st is the state handed in, st′ the state handed back
 pub record Exported (a : Ask) (st m tape b : List ℕ) (u : ℕ) (st′ m′ b′ : List ℕ) : Type 0 where
-  pub meets : length st ≡ 32 → Meets (clientIn st) (stateOf (clientIn st) m) a m tape b (answerOf u (clientIn st′)) m′ b′
+  pub meets : length st ≡ stateLength → Meets (clientIn st) (stateOf (clientIn st) m) a m tape b (answerOf u (clientIn st′)) m′ b′
   pub refused : (u % 256 ≡ 0 → ⊥) → st′ ≡ st
   -- a state of another length: 2, and nothing is written
-  pub other : (length st ≡ 32 → ⊥) → (u ≡ 2) × (st′ ≡ st) × (m′ ≡ m) × (b′ ≡ b)
+  pub other : (length st ≡ stateLength → ⊥) → (u ≡ 2) × (st′ ≡ st) × (m′ ≡ m) × (b′ ≡ b)
 
 -- An open: a refused one hands back a closed state, all zeros
 pub record Opened (h : Shape) (st m tape : List ℕ) (u : ℕ) (st′ m′ : List ℕ) : Type 0 where
-  pub meets : length st ≡ 32 → Meets clearedClient closed (opening h) m tape [] (answerOf u (clientIn st′)) m′ []
-  pub refused : length st ≡ 32 → (u % 256 ≡ 0 → ⊥) → st′ ≡ replicate 32 0
-  pub other : (length st ≡ 32 → ⊥) → (u ≡ 2) × (st′ ≡ st) × (m′ ≡ m)
+  pub meets : length st ≡ stateLength → Meets clearedClient closed (opening h) m tape [] (answerOf u (clientIn st′)) m′ []
+  pub refused : length st ≡ stateLength → (u % 256 ≡ 0 → ⊥) → st′ ≡ replicate stateLength 0
+  pub other : (length st ≡ stateLength → ⊥) → (u ≡ 2) × (st′ ≡ st) × (m′ ≡ m)
 
 -- ---- Packed answers
 
@@ -146,6 +150,16 @@ module _ (c : Client) (s : State) (a : Ask) (m tape b : List ℕ) (r : Answer) (
   pub meets-accepted : r .number ≡ 0 → (x : Client) → x ≡ lowClient (r .client) → Meets c s a m tape b (answerOf (packed r) x) m′ b′
   meets-accepted z x e = repacked (accepted-fits z) x (ap (λ y. stateOf y m′) e ∙ low-client (r .client) m′ (left-in z)) (λ n. absurd (n z))
 
+  -- a call that does not open keeps the shape
+  pub shape-kept : r .number ≡ 0 → opens a ≡ false → shapeOf (r .client .shape) ≡ s .shape
+  unfolding accepted stateOf view
+  shape-kept z four =
+      let e : number s asked ≡ 0 = sym is-number ∙ z in
+      ap (λ (x : State). x .shape) (k .state ∙ ap (λ (x : State × Outcome). x .0) (step-accepted s asked e)) ∙ act-shape s a (numbersOf (draws (bounds s a) (wordsOf tape))) four
+
+  pub left-within : r .number ≡ 0 → within (shapeOf (r .client .shape)) ≡ true
+  left-within z = unfold stateOf view in left-in z .shape
+
   pub number-packed : packed r % 256 ≡ r .number
   number-packed = omega (arith, is-number, number-le s asked)
 
@@ -153,32 +167,40 @@ module _ (c : Client) (s : State) (a : Ask) (m tape b : List ℕ) (r : Answer) (
 
 pub record HandedBack (r : Answer) (u : ℕ) (st st′ : List ℕ) : Type 0 where
   pub answer : u ≡ packed r
-  pub accepted : r .number ≡ 0 → clientIn st′ ≡ lowClient (r .client)
+  pub accepted : r .number ≡ 0 → clientIn st′ ≡ reshaped (clientIn st .shape) (lowClient (r .client))
   pub refused : (r .number ≡ 0 → ⊥) → st′ ≡ st
 
 pub record HandedBackOpened (r : Answer) (u : ℕ) (st′ : List ℕ) : Type 0 where
   pub answer : u ≡ packed r
   pub accepted : r .number ≡ 0 → clientIn st′ ≡ lowClient (r .client)
-  pub refused : (r .number ≡ 0 → ⊥) → st′ ≡ replicate 32 0
+  pub refused : (r .number ≡ 0 → ⊥) → st′ ≡ replicate stateLength 0
 
 abbrev pub numbers : ℕ → ℕ → ℕ → ℕ → ℕ → ℕ → Shape
 numbers n p l b e w = record { N = n; P = p; L = l; B = b; E = e; W = w }
 
+shape-same : (g h : M.Shape) → shapeOf g ≡ shapeOf h → g ≡ h
+shape-same g h e = λ k. record { n = e k .N; p = e k .P; l = e k .L; b = e k .B; e = e k .E; w = e k .W }
+
 -- a call that meets the rules, handed back
-pub exported : (a : Ask) (st m tape b : List ℕ) (r : Answer) (u : ℕ) (st′ m′ b′ : List ℕ) → length st ≡ 32
+pub exported : (a : Ask) → opens a ≡ false → (st m tape b : List ℕ) (r : Answer) (u : ℕ) (st′ m′ b′ : List ℕ) → length st ≡ stateLength
     → Meets (clientIn st) (stateOf (clientIn st) m) a m tape b r m′ b′ → HandedBack r u st st′ → Exported a st m tape b u st′ m′ b′
-exported a st m tape b r u st′ m′ b′ l k h = record {
+exported a four st m tape b r u st′ m′ b′ l k h = record {
   meets = λ _. rw (h .answer) (go (ℕ-discrete (r .number) 0));
   refused = λ n. h .refused (λ z. n (rw (h .answer) (number-packed (clientIn st) (stateOf (clientIn st) m) a m tape b r m′ b′ k ∙ z)));
   other = λ n. absurd (n l);
 }
   where
     go : Dec (r .number ≡ 0) → Meets (clientIn st) (stateOf (clientIn st) m) a m tape b (answerOf (packed r) (clientIn st′)) m′ b′
-    go (yes z) = meets-accepted (clientIn st) (stateOf (clientIn st) m) a m tape b r m′ b′ k z (clientIn st′) (h .accepted z)
+    go (yes z) = meets-accepted (clientIn st) (stateOf (clientIn st) m) a m tape b r m′ b′ k z (clientIn st′) (h .accepted z ∙ ap (λ x. reshaped x (lowClient (r .client))) (same z))
+      where
+        same : r .number ≡ 0 → clientIn st .shape ≡ lowShape (r .client .shape)
+        same z =
+            sym (shape-same (r .client .shape) (clientIn st .shape) (unfold stateOf view in shape-kept (clientIn st) (stateOf (clientIn st) m) a m tape b r m′ b′ k z four))
+            ∙ sym (low-shape (r .client .shape) (left-within (clientIn st) (stateOf (clientIn st) m) a m tape b r m′ b′ k z))
     go (no n) = rw (h .refused n) (meets-refused (clientIn st) (stateOf (clientIn st) m) a m tape b r m′ b′ k n)
 
 -- an open
-pub exported-open : (h : Shape) (st m tape : List ℕ) (r : Answer) (u : ℕ) (st′ m′ : List ℕ) → length st ≡ 32
+pub exported-open : (h : Shape) (st m tape : List ℕ) (r : Answer) (u : ℕ) (st′ m′ : List ℕ) → length st ≡ stateLength
     → Meets clearedClient closed (opening h) m tape [] r m′ [] → HandedBackOpened r u st′ → Opened h st m tape u st′ m′
 exported-open h st m tape r u st′ m′ l k b = record {
   meets = λ _. rw (b .answer) (go (ℕ-discrete (r .number) 0));
@@ -186,7 +208,7 @@ exported-open h st m tape r u st′ m′ l k b = record {
   other = λ n. absurd (n l);
 }
   where
-    zeros-say : clientIn (replicate 32 0) ≡ clearedClient
+    zeros-say : clientIn (replicate stateLength 0) ≡ clearedClient
     zeros-say = unfold wordAt in refl
 
     go : Dec (r .number ≡ 0) → Meets clearedClient closed (opening h) m tape [] (answerOf (packed r) (clientIn st′)) m′ []

@@ -32,7 +32,8 @@ use Rattle.client.specs.declared.Client.{Client}
 use Rattle.client.specs.declared.Request.{Request}
 use Rattle.client.specs.View.{stateOf, view, requestOf, commandOf, rows}
 use Rattle.client.specs.Rows.{length-rows}
-use Rattle.codec.specs.Codec.{lowClient}
+use Rattle.memory.specs.declared.Shape as M
+use Rattle.codec.specs.Codec.{lowShape, lowClient}
 
 -- ---- Counts of words and commands
 
@@ -132,6 +133,16 @@ others-le h w =
 jobs-le : (qs : List ℕ) (o : Option R.Request) → JobsIn qs o → length qs ≤ 64
 jobs-le qs none h = h
 jobs-le qs (some r) h = omega arith
+
+-- the numbers of a shape within bounds are small
+pub low-shape : (h : M.Shape) → within (shapeOf h) ≡ true → lowShape h ≡ h
+low-shape h f =
+    let g = shapeOf h in
+    let n : h .n ≤ 4096 = blocks-le g f in
+    let p : h .p ≤ 64 = partitions-le g f in
+    let l : h .l ≤ 8 = levels-le g f in
+    let y : (h .b ≤ 512) × (h .e ≤ h .n) × (h .w ≤ 32) = others-le g f in
+    rw (low (h .n) (omega arith), low (h .p) (omega arith), low (h .l) (omega arith), low (h .b) (omega arith), low (h .e) (omega arith), low (h .w) (omega arith))
 
 -- a client that stands for a state in range stands for the same with its numbers modulo 2^16
 pub low-client : (c : Client) (m : List ℕ) → InRange (stateOf c m) → stateOf (lowClient c) m ≡ stateOf c m

@@ -1,4 +1,4 @@
-// The five calls for a host program: numbers and byte slices. The state is 32 bytes, the tape pairs of bytes, low byte first; the answer is one
+// The five calls for a host program: numbers and byte slices. The state is 64 bytes, the tape pairs of bytes, low byte first; the answer is one
 // number (see codec::pack). Every value of every number is answered; nothing is required.
 use meets::Answer;
 use memory::Shape;
@@ -7,23 +7,24 @@ ghost use mathlib.Core.List.{[]};
 ghost use lib.ListN.{length};
 ghost use Rattle.rules.specs.State.{cmd};
 ghost use Rattle.rules.specs.Questions.{request, turn, completion as completionOf, collect};
+ghost use Rattle.codec.specs.Codec.{stateLength};
 ghost use Rattle.exports.specs.Exported.{Opened, Exported, HandedBack, HandedBackOpened, numbers};
 
-// The next state is handed back where the call was accepted.
+// The next state is handed back where the call was accepted. No call but an open changes the shape.
 fn hand_back(state: &mut [u8], r: Answer) -> u64
-    requires { ⌜ length (now state) ≡ 32 ⌝ }
+    requires { ⌜ length (now state) ≡ stateLength ⌝ }
     ensures { λ u. ⌜ HandedBack r u (now (state .entry)) (now (state .exit)) ⌝ }
 {
     if r.number != 0 {
         return codec::pack(r);
     }
-    codec::encode(state, r.client);
+    codec::encode_rest(state, r.client);
     codec::pack(r)
 }
 
 // A refused open hands back zeros.
 fn hand_back_opened(state: &mut [u8], r: Answer) -> u64
-    requires { ⌜ length (now state) ≡ 32 ⌝ }
+    requires { ⌜ length (now state) ≡ stateLength ⌝ }
     ensures { λ u. ⌜ HandedBackOpened r u (now (state .exit)) ⌝ }
 {
     if r.number != 0 {
@@ -48,7 +49,7 @@ pub extern "C" fn rinwolfedd_open(
 ) -> u64
     ensures { λ u. ⌜ Opened (numbers n p l b e w) (now (state .entry)) (now (memory .entry)) (now (tape .entry)) u (now (state .exit)) (now (memory .exit)) ⌝ }
 {
-    if state.len() != 32 {
+    if state.len() != 64 {
         return 2;
     }
     let r = opening::open(Shape { n, p, l, b, e, w }, memory, tape);
@@ -66,7 +67,7 @@ pub extern "C" fn rinwolfedd_request(
 ) -> u64
     ensures { λ u. ⌜ Exported (request kind block (now (contents .entry))) (now (state .entry)) (now (memory .entry)) (now (tape .entry)) [] u (now (state .exit)) (now (memory .exit)) [] ⌝ }
 {
-    if state.len() != 32 {
+    if state.len() != 64 {
         return 2;
     }
     let c = codec::decode(state);
@@ -83,7 +84,7 @@ pub extern "C" fn rinwolfedd_turn(
 ) -> u64
     ensures { λ u. ⌜ Exported turn (now (state .entry)) (now (memory .entry)) (now (tape .entry)) (now (buffer .entry)) u (now (state .exit)) (now (memory .exit)) (now (buffer .exit)) ⌝ }
 {
-    if state.len() != 32 {
+    if state.len() != 64 {
         return 2;
     }
     let c = codec::decode(state);
@@ -103,7 +104,7 @@ pub extern "C" fn rinwolfedd_completion(
 ) -> u64
     ensures { λ u. ⌜ Exported (completionOf (cmd kind partition level slot) (now (bytes .entry))) (now (state .entry)) (now (memory .entry)) [] [] u (now (state .exit)) (now (memory .exit)) [] ⌝ }
 {
-    if state.len() != 32 {
+    if state.len() != 64 {
         return 2;
     }
     let c = codec::decode(state);
@@ -115,7 +116,7 @@ pub extern "C" fn rinwolfedd_completion(
 pub extern "C" fn rinwolfedd_collect(state: &mut [u8], memory: &mut [u8], buffer: &mut [u8]) -> u64
     ensures { λ u. ⌜ Exported collect (now (state .entry)) (now (memory .entry)) [] (now (buffer .entry)) u (now (state .exit)) (now (memory .exit)) (now (buffer .exit)) ⌝ }
 {
-    if state.len() != 32 {
+    if state.len() != 64 {
         return 2;
     }
     let c = codec::decode(state);

@@ -9,15 +9,11 @@ use Rattle.lists.specs.Tests.{if_then_else_}
 use Rattle.rules.specs.Open.{fresh}
 use Rattle.rules.specs.Completion
 use Rattle.rules.specs.Completion.{complete}
-use Rattle.rules.specs.Collect
-use Rattle.rules.specs.Collect.{collected}
 use Rattle.rules.specs.Run.{act}
+use Rattle.rules.specs.Laws.Answers.{opens}
+use Rattle.rules.specs.Laws.Shapes
 use Rattle.rules.specs.State.{State, Command, Place, Request}
-use Rattle.rules.specs.Turn
-use Rattle.rules.specs.Turn.{Step, idle, noDummy, readForRequest, readForJob, rebuild, writeNext, decide, doStep}
-use Rattle.rules.specs.Rebuild
 use Rattle.rules.specs.Blocks
-use Rattle.rules.specs.Request.{accept}
 use Rattle.rules.specs.Shape.{Shape}
 use Rattle.hiding.specs.Machines.Public.{Later, later-request, later-turn, later-completion, later-collect, ask}
 
@@ -65,26 +61,15 @@ complete-rest s c bs = go (eqb (c .kind) 1) (Blocks.holder s (c .partition) (c .
 
 -- ---- no later call changes the shape
 
-step-shape : (s : State) (x : Step) (js : List ℕ) → (doStep x js s) .shape ≡ s .shape
-unfolding doStep Turn.markRead Turn.send Rebuild.doRebuild
-step-shape s idle js = refl
-step-shape s noDummy js = refl
-step-shape s (readForRequest q ℓ x) js = refl
-step-shape s (readForJob q ℓ x) js = refl
-step-shape s (rebuild q t) js = refl
-step-shape s (writeNext q t x) js = refl
-
-collect-shape : (s : State) (o : Option Request) → (collected o s) .shape ≡ s .shape
-unfolding collected Collect.finish
-collect-shape s none = refl
-collect-shape s (some r) = refl
+later-opens : (l : Later) → opens (ask l) ≡ false
+unfolding opens
+later-opens (later-request k b bs) = refl
+later-opens later-turn = refl
+later-opens (later-completion c bs) = refl
+later-opens later-collect = refl
 
 pub act-shape : (s : State) (l : Later) (js : List ℕ) → (act s (ask l) js) .shape ≡ s .shape
-unfolding act accept
-act-shape s (later-request k b bs) js = refl
-act-shape s later-turn js = step-shape s (decide s) js
-act-shape s (later-completion c bs) js = ap (λ (x : Rest). x .shape) (complete-rest s c bs)
-act-shape s later-collect js = collect-shape s (s .request)
+act-shape s l js = Shapes.act-shape s (ask l) js (later-opens l)
 
 pub fresh-shape : (h : Shape) (js : List ℕ) → (fresh h js) .shape ≡ h
 unfolding fresh

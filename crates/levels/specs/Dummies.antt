@@ -1,6 +1,6 @@
 -- The search of a level's items for an unread dummy.
 use mathlib.Core.Path.{_≡_, ap, _∙_}
-use mathlib.Core.Bool.{Bool, true, false, _&&_}
+use mathlib.Core.Bool.{Bool, true, false, _&&_, and-comm}
 use mathlib.Core.List.{List, [], append-nil}
 use mathlib.Core.Option.{Option, none, some}
 use Prim.Native.Nat.{ℕ, _+_, _≤_, _<_}
@@ -50,13 +50,13 @@ module _ (c : Client) (m : List ℕ) (q ℓ n base k i mark holds : ℕ) (r : It
   slot-is : slotOf (stateOf c m) q ℓ k ≡ i
   slot-is = order-is c m q ℓ base k i (r .start) n (r .size) (r .level) (omega (arith, r .size, r .item)) (r .slot)
 
-  test-is : isDummy (stateOf c m) q ℓ (slotOf (stateOf c m) q ℓ k) ≡ (eqb mark 1 && eqb holds 0)
-  test-is = rw (slot-is, unread-is c m q ℓ base i mark (r .start) (r .marked), dummy-is c m q ℓ base i holds (r .start) (r .held))
+  test-is : isDummy (stateOf c m) q ℓ (slotOf (stateOf c m) q ℓ k) ≡ (eqb holds 0 && eqb mark 1)
+  test-is = rw (slot-is, unread-is c m q ℓ base i mark (r .start) (r .marked), dummy-is c m q ℓ base i holds (r .start) (r .held)) (and-comm (eqb mark 1) (eqb holds 0))
 
-  pub items-hit : (eqb mark 1 && eqb holds 0) ≡ true → itemsFrom (stateOf c m) q ℓ n k ≡ some i
+  pub items-hit : (eqb holds 0 && eqb mark 1) ≡ true → itemsFrom (stateOf c m) q ℓ n k ≡ some i
   unfolding itemsFrom
   items-hit e = first-hit (isDummy (stateOf c m) q ℓ) (slotOf (stateOf c m) q ℓ) [] n k (r .item) (test-is ∙ e) ∙ ap some slot-is
 
-  pub items-miss : (eqb mark 1 && eqb holds 0) ≡ false → itemsFrom (stateOf c m) q ℓ n k ≡ itemsFrom (stateOf c m) q ℓ n (k + 1)
+  pub items-miss : (eqb holds 0 && eqb mark 1) ≡ false → itemsFrom (stateOf c m) q ℓ n k ≡ itemsFrom (stateOf c m) q ℓ n (k + 1)
   unfolding itemsFrom
   items-miss e = first-miss (isDummy (stateOf c m) q ℓ) (slotOf (stateOf c m) q ℓ) [] n k (r .item) (test-is ∙ e)

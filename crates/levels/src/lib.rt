@@ -54,8 +54,8 @@ pub fn dummy(c: Client, m: &[u8], q: usize, l: usize) -> Found
     let mut k = 0;
     while k < n {
         let i = memory::tables::order(c.shape, m, n, base + k);
-        if (memory::tables::mark(c.shape, m, base + i) == 1)
-            & (memory::tables::holds(c.shape, m, base + i) == 0)
+        if (memory::tables::holds(c.shape, m, base + i) == 0)
+            & (memory::tables::mark(c.shape, m, base + i) == 1)
         {
             return Found::At(i);
         }
@@ -85,20 +85,20 @@ pub fn unread(c: Client, m: &[u8], q: usize, sources: usize) -> Spot
     found
 }
 
-// How many slots of partition q hold a block.
+// How many slots of partition q hold a block. The count has 16 bits, as the numbers in the table have, so that the compiler counts eight at a time.
 pub fn stored(c: Client, m: &[u8], q: usize) -> usize
     requires { ⌜ Room c (now m) × (q < c .shape .p) ⌝ }
     ensures { λ r. ⌜ (r ≡ blocksIn (stateOf c (now (m .entry))) q (c .shape .l)) × (r ≤ 512) ⌝ }
 {
     let top = bits::pow2(c.shape.l + 1) - 2;
     let base = cell(c.shape, q, 0, 0);
-    let mut k = 0;
+    let mut k: u16 = 0;
     let mut j = 0;
     while j < top {
-        k += (memory::tables::holds(c.shape, m, base + j) != 0) as usize;
+        k += (memory::tables::holds(c.shape, m, base + j) != 0) as u16;
         j += 1;
     }
-    k
+    k as usize
 }
 
 // A slot counts as read once its read is sent.

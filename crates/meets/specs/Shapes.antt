@@ -1,10 +1,13 @@
 -- The bounds of a shape, as the code tests them: first the numbers, and the product once they are small.
 use mathlib.Core.Path.{_≡_, refl, sym, _∙_}
-use mathlib.Core.Bool.{Bool, true, false, _&&_, _||_}
-use mathlib.Core.List.{[], _∷_}
-use Prim.Native.Nat.{ℕ, _-_, _*_, _^_, _≤_}
+use mathlib.Core.Bool.{Bool, true, false, not, _&&_}
+use mathlib.Core.List.{List, [], _∷_}
+use Prim.Native.Nat.{ℕ, zero, suc, _-_, _*_, _^_, _≤_, _<_}
+use native.Mathlib.Omega.{arith}
+use native.Mathlib.Decide.{ℕ-discrete, decLe}
+use lib.Bits.{bitAnd}
 use lib.Dec.{eqb, leb}
-use borrow.Author.Tests.{leb-true}
+use borrow.Author.Tests.{leb-true, lt-leb, ne-eqb}
 use Rattle.lists.specs.Tests.{every, between, and-l, and-r}
 use Rattle.lists.specs.Search.{any, member}
 use Rattle.rules.specs.Shape.{within}
@@ -19,20 +22,63 @@ and-yes : (a : Bool) → (a && true) ≡ a
 and-yes true = refl
 and-yes false = refl
 
-or-assoc : (a b c : Bool) → ((a || b) || c) ≡ (a || (b || c))
-or-assoc true b c = refl
-or-assoc false b c = refl
+-- the bit of a power of two is gone from the number before it; up to 64 this is computed
+abbrev oneBit : ℕ → Bool
+oneBit p = leb p 64 && eqb (bitAnd p (p - 1)) 0
 
-or-no : (a : Bool) → (a || false) ≡ a
-or-no true = refl
-or-no false = refl
+abbrev powers : List ℕ
+powers = 1 ∷ 2 ∷ 4 ∷ 8 ∷ 16 ∷ 32 ∷ 64 ∷ []
 
-abbrev pub power : ℕ → Bool
-power p = (((((eqb p 1 || eqb p 2) || eqb p 4) || eqb p 8) || eqb p 16) || eqb p 32) || eqb p 64
+same : Bool → Bool → Bool
+same true b = b
+same false b = not b
 
-pub power-is : (p : ℕ) → power p ≡ member p (1 ∷ 2 ∷ 4 ∷ 8 ∷ 16 ∷ 32 ∷ 64 ∷ [])
+-- the two tests agree on 1 .. n
+agree : ℕ → Bool
+agree zero = true
+agree (suc n) = same (oneBit (suc n)) (member (suc n) powers) && agree n
+
+same-is : (a b : Bool) → same a b ≡ true → a ≡ b
+unfolding same
+same-is true b e = sym e
+same-is false false e = refl
+same-is false true e = e
+
+agree-at : (n p : ℕ) → agree n ≡ true → 1 ≤ p → p ≤ n → oneBit p ≡ member p powers
+unfolding agree
+agree-at zero p e l k = absurd (omega arith)
+agree-at (suc n) p e l k = go (ℕ-discrete p (suc n)) (λ r. agree-at n p (and-r (same (oneBit (suc n)) (member (suc n) powers)) (agree n) e) l r)
+  where
+    go : Dec (p ≡ suc n) → (p ≤ n → oneBit p ≡ member p powers) → oneBit p ≡ member p powers
+    go (yes d) rest = rw d (same-is (oneBit (suc n)) (member (suc n) powers) (and-l (same (oneBit (suc n)) (member (suc n) powers)) (agree n) e))
+    go (no d) rest = rest (omega arith)
+
+agree-all : agree 64 ≡ true
+unfolding agree same member any
+agree-all = refl
+
+over : (p : ℕ) → 64 < p → member p powers ≡ false
 unfolding member any
-power-is p = simp (or-assoc, or-no)
+over p l = rw (
+  ne-eqb p 1 (λ e. omega arith),
+  ne-eqb p 2 (λ e. omega arith),
+  ne-eqb p 4 (λ e. omega arith),
+  ne-eqb p 8 (λ e. omega arith),
+  ne-eqb p 16 (λ e. omega arith),
+  ne-eqb p 32 (λ e. omega arith),
+  ne-eqb p 64 (λ e. omega arith),
+)
+
+pub power-is : (p : ℕ) → (p ≡ 0 → ⊥) → (leb p 64 && eqb (bitAnd p (p - 1)) 0) ≡ member p (1 ∷ 2 ∷ 4 ∷ 8 ∷ 16 ∷ 32 ∷ 64 ∷ [])
+power-is p n = go (decLe p 64)
+  where
+    go : Dec (p ≤ 64) → oneBit p ≡ member p powers
+    go (yes l) = agree-at 64 p agree-all (omega (arith, n)) l
+    go (no l) = rw (lt-leb p 64 (omega arith)) (sym (over p (omega arith)))
+
+pub power-zero : (p : ℕ) → p ≡ 0 → false ≡ member p (1 ∷ 2 ∷ 4 ∷ 8 ∷ 16 ∷ 32 ∷ 64 ∷ [])
+unfolding member any
+power-zero p e = rw e
 
 abbrev pub small : Shape → Bool
 small h = (((((((((leb 1 (h .n) && leb (h .n) 4096) && member (h .p) (1 ∷ 2 ∷ 4 ∷ 8 ∷ 16 ∷ 32 ∷ 64 ∷ [])) && leb 1 (h .l)) && leb (h .l) 8) && leb 1 (h .b)) && leb (h .b) 512) && leb 1 (h .e)) && leb (h .e) (h .n)) && leb 1 (h .w)) && leb (h .w) 32

@@ -66,11 +66,14 @@ pub fn closed() -> Client
     }
 }
 
-// Whether P is 1, 2, 4, .. 64.
+// Whether P is 1, 2, 4, .. 64: up to 64, and its one bit is gone from the number before it.
 fn is_power(p: usize) -> bool
     ensures { λ r. ⌜ r ≡ member p (1 ∷ 2 ∷ 4 ∷ 8 ∷ 16 ∷ 32 ∷ 64 ∷ []) ⌝ }
 {
-    (p == 1) | (p == 2) | (p == 4) | (p == 8) | (p == 16) | (p == 32) | (p == 64)
+    if p == 0 {
+        return false;
+    }
+    (p <= 64) & (p & (p - 1) == 0)
 }
 
 // Whether the shape is within bounds.

@@ -6,7 +6,7 @@ use Prim.Native.Nat.{ℕ, _≤_, _<_}
 use native.Mathlib.Omega.{arith}
 use lib.ListN.{length, drop, length-drop, length-take}
 use lib.Dec.{eqb, leb, ltb}
-use borrow.Author.Tests.{leb-true, le-leb, lt-leb, eqb-true}
+use borrow.Author.Tests.{leb-true, leb-false, le-leb, lt-leb, eqb-true}
 use Rattle.lists.specs.Tests.{if_then_else_, and-l, and-r, every, every-yes, between}
 use Rattle.rules.specs.Shape.{Shape, within}
 use Rattle.rules.specs.Ranges.{inRange, ranges}
@@ -30,6 +30,10 @@ pub record Usable (c : Client) (m : List ℕ) : Type 0 where
   pub window : c .shape .w ≤ 32
   pub jobs : c .jobs ≤ 64
   pub asked : (c .request .kind ≡ 0 → ⊥) → Asked (shapeOf (c .shape)) (c .request) × (c .jobs ≤ 62)
+
+-- the first part of the question: what is asked of the shape, and of the memory's length
+unfoldable pub shapeFits : Shape → ℕ → Bool
+shapeFits h len = within h && leb (needed h) len
 
 -- the contents of a request lie whole in a memory that is long enough
 asked-length : (h : Shape) (m : List ℕ) → needed h ≤ length m → length (tablesOf h m .blocks (h .N)) ≡ h .B
@@ -69,6 +73,24 @@ module _ (c : Client) (m : List ℕ) where
   pub unready-memory : length m < needed h → ready (stateOf c m) (length m) ≡ false
   unfolding ready stateOf view
   unready-memory l = ap (λ b. b && inRange (view c t)) (lt-leb (needed h) (length m) l)
+
+  -- that part by itself
+  pub unready-part : shapeFits h (length m) ≡ false → ready (stateOf c m) (length m) ≡ false
+  unfolding shapeFits
+  unready-part e = go (within h) (leb (needed h) (length m)) refl refl e
+    where
+      go : (a b : Bool) → within h ≡ a → leb (needed h) (length m) ≡ b → (a && b) ≡ false → ready (stateOf c m) (length m) ≡ false
+      go true true u v e = absurd (true≢false e)
+      go true false u v e = unready-memory (leb-false (needed h) (length m) v)
+      go false b u v e = unready-shape u
+
+  pub part-within : shapeFits h (length m) ≡ true → within h ≡ true
+  unfolding shapeFits
+  part-within e = and-l (within h) (leb (needed h) (length m)) e
+
+  pub part-long : shapeFits h (length m) ≡ true → needed h ≤ length m
+  unfolding shapeFits
+  part-long e = leb-true (needed h) (length m) (and-r (within h) (leb (needed h) (length m)) e)
 
   long : ready (stateOf c m) (length m) ≡ true → needed h ≤ length m
   unfolding ready stateOf view

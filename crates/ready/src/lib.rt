@@ -3,6 +3,7 @@ use client::Client;
 use client::Request;
 use memory::Shape;
 ghost use mathlib.Core.Path.{_≡_};
+ghost use mathlib.Core.Bool.{true};
 ghost use Prim.Native.Nat.{_≤_};
 ghost use lib.ListN.{length};
 ghost use Rattle.rules.specs.Questions.{ready};
@@ -11,6 +12,7 @@ ghost use Rattle.memory.specs.Tables.{tablesOf};
 ghost use Rattle.client.specs.View.{stateOf};
 ghost use Rattle.client.specs.Ready.{requestFits, countsFit, handFits, ownWaits};
 ghost use Rattle.client.specs.Moves.{Room};
+ghost use Rattle.ready.specs.Usable.{shapeFits};
 
 // Each number of the request in hand is in its range.
 fn request_fits(h: Shape, r: Request) -> bool
@@ -52,17 +54,33 @@ fn hand_fits(c: Client, m: &[u8]) -> bool
     cache::is_waiting(c, m, r.block)
 }
 
-pub fn is_ready(c: Client, m: &[u8]) -> bool
+// The shape is within bounds, and the memory is long enough for it.
+pub fn shape_fits(h: Shape, len: usize) -> bool
+    ensures { λ a. ⌜ a ≡ shapeFits (shapeOf h) len ⌝ }
+{
+    if !meets::is_within(h) {
+        return false;
+    }
+    meets::needed(h) <= len
+}
+
+// With such a shape: each number of the state is in its range.
+pub fn numbers_fit(c: Client, m: &[u8]) -> bool
+    requires { ⌜ shapeFits (shapeOf (c .shape)) (length (now m)) ≡ true ⌝ }
     ensures { λ a. ⌜ a ≡ ready (stateOf c (now (m .entry))) (length (now (m .entry))) ⌝ }
 {
-    if !meets::is_within(c.shape) {
-        return false;
-    }
-    if m.len() < meets::needed(c.shape) {
-        return false;
-    }
     if !counts_fit(c) {
         return false;
     }
     hand_fits(c, m)
+}
+
+// Both. Turn and completion, of which a look-up takes many, ask the two parts themselves: each is small enough for the compiler to put it in place.
+pub fn is_ready(c: Client, m: &[u8]) -> bool
+    ensures { λ a. ⌜ a ≡ ready (stateOf c (now (m .entry))) (length (now (m .entry))) ⌝ }
+{
+    if !shape_fits(c.shape, m.len()) {
+        return false;
+    }
+    numbers_fit(c, m)
 }

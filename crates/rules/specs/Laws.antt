@@ -7,3 +7,4 @@ pub mod Range
 pub mod RangeSetters
 pub mod Decided
 pub mod Kept
+pub mod Shapes

@@ -72,6 +72,14 @@ module _ (s : State) (q : ℕ) where
       is-found : chosen s q ≡ find (λ b. eqb (s .partition b) q) (s .waiting)
       is-found = unfold chosen in (rw (lt-ltb (blocksIn s q (s .shape .L)) (2 ^ (s .shape .L - 1)) l))
 
+  -- no block waits for it
+  pub nobody-waits : Longest s q Nothing → Chosen s q Nothing
+  nobody-waits k = go (decLt (blocksIn s q (s .shape .L)) (2 ^ (s .shape .L - 1)))
+    where
+      go : Dec (blocksIn s q (s .shape .L) < 2 ^ (s .shape .L - 1)) → Chosen s q Nothing
+      go (yes l) = longest-is l Nothing k
+      go (no l) = full-none (omega arith)
+
 -- the gathered blocks are blocks, each once
 pub gathered-once : (s : State) (q : ℕ) → NoDup (gathered s q)
 unfolding gathered

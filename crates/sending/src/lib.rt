@@ -17,6 +17,7 @@ ghost use Rattle.rules.specs.Run.{numbersOf};
 ghost use Rattle.client.specs.View.{stateOf};
 ghost use Rattle.client.specs.Moves.{Room, Stands};
 ghost use Rattle.tape.specs.Tape.{wordsOf};
+ghost use Rattle.cache.specs.Longest.{LongestAt};
 ghost use Rattle.gather.specs.Gathered.{Gathers};
 ghost use Rattle.ready.specs.Usable.{Usable};
 ghost use Rattle.meets.specs.Meets.{Meets};
@@ -117,15 +118,28 @@ pub fn write_next(
     sent(e, 0, 2, q, t, i)
 }
 
-// The place in the cache of the block that has waited longest for q, if one waits and q stores fewer than 2^(L-1) blocks.
-fn chosen(c: Client, m: &[u8], q: usize) -> Found
-    requires { ⌜ Usable c (now m) × (q < c .shape .p) ⌝ }
+// The block at place j of the cache, which has waited longest for q, is chosen if q stores fewer than 2^(L-1) blocks.
+fn with_room(c: Client, m: &[u8], q: usize, j: usize) -> Found
+    requires { ⌜ Usable c (now m) × (q < c .shape .p) × LongestAt (stateOf c (now m)) q j ⌝ }
     ensures { λ r. ⌜ Chosen (stateOf c (now (m .entry))) q r ⌝ }
 {
     if bits::pow2(c.shape.l - 1) <= levels::stored(c, m, q) {
         return Found::Nothing;
     }
-    cache::longest(c, m, q)
+    Found::At(j)
+}
+
+// The place in the cache of the block that has waited longest for q, if one waits and q stores fewer than 2^(L-1) blocks. Those are counted
+// only where a block waits.
+fn chosen(c: Client, m: &[u8], q: usize) -> Found
+    requires { ⌜ Usable c (now m) × (q < c .shape .p) ⌝ }
+    ensures { λ r. ⌜ Chosen (stateOf c (now (m .entry))) q r ⌝ }
+{
+    let x = cache::longest(c, m, q);
+    match x {
+        Found::At(j) => with_room(c, m, q, j),
+        Found::Nothing => Found::Nothing,
+    }
 }
 
 // That block as a number: 0 for none, b + 1 for block b.

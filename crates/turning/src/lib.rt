@@ -9,7 +9,10 @@ ghost use Rattle.meets.specs.Meets.{Meets};
 pub fn turn(c: Client, m: &mut [u8], tape: &[u8], buffer: &mut [u8]) -> Answer
     ensures { λ r. ⌜ Meets c (stateOf c (now (m .entry))) turnOf (now (m .entry)) (now (tape .entry)) (now (buffer .entry)) r (now (m .exit)) (now (buffer .exit)) ⌝ }
 {
-    if !ready::is_ready(c, m) {
+    if !ready::shape_fits(c.shape, m.len()) {
+        return meets::refused(2, c);
+    }
+    if !ready::numbers_fit(c, m) {
         return meets::refused(2, c);
     }
     if c.shape.w <= c.out {

@@ -1,68 +1,26 @@
 use mathlib.Core.Path.{ap, _∙_}
-use Prim.Native.Nat.{_%_}
 use native.Mathlib.Omega.{arith}
-use Rattle.lists.specs.Tables.{put}
-use Rattle.memory.specs.Words.{wordAt}
-use Rattle.codec.specs.Codec.{clientOf, withRequest, stored-is}
+use Rattle.codec.specs.Codec.{numberAt, clientOf, withRest, stored-is}
 use Rattle.codec.proofs.encode.Statement.{statement}
 use Rattle.codec.proofs.encode.Tie as tie
-use Rattle.codec.proofs.put_request.Reads as put-request-reads
+use Rattle.codec.proofs.encode_rest.Reads as encode-rest-reads
 use Rattle.codec.proofs.put_shape.Reads as put-shape-reads
-use Rattle.codec.proofs.set_number.Reads as set-number-reads
 
 put-shape-requires : tie.Need-put-shape-requires
 put-shape-requires c κs = omega arith
 
-put-request-requires : tie.Need-put-request-requires
-put-request-requires c κs = omega arith
-
-set-number-requires : tie.Need-set-number-requires
-set-number-requires c κs = omega arith
-
-set-number-requires-2 : tie.Need-set-number-requires-2
-set-number-requires-2 c κs = omega arith
-
-set-number-requires-3 : tie.Need-set-number-requires-3
-set-number-requires-3 c κs = omega arith
-
-set-number-requires-4 : tie.Need-set-number-requires-4
-set-number-requires-4 c κs = omega arith
-
-set-number-requires-5 : tie.Need-set-number-requires-5
-set-number-requires-5 c κs = omega arith
+encode-rest-requires : tie.Need-encode-rest-requires
+encode-rest-requires c κs = omega arith
 
 same-length : tie.Need-same-length
 same-length c = omega arith
 
 returns : tie.Need-returns
 returns c =
-    let d5 = c .before .before in
-    let d4 = d5 .before .before .before .before in
-    let d3 = d4 .before .before .before .before in
-    let d2 = d3 .before .before .before .before in
-    let d1 = d2 .before .before .before .before in
-    let r = d1 .before .before .before .before in
+    let r = c .before .before in
     let h = r .before .before .before .before in
     let a = h .before .before .before .args in
-    let shape = h .put-shape .ensures in
-    let request = r .put-request .ensures ∙ ap (withRequest (a .c .request)) shape in
-    let jobs = d1 .set-number .ensures ∙ ap (put 11 (a .c .jobs % 65536)) request in
-    let cursor = d2 .set-number2 .ensures ∙ ap (put 12 (a .c .cursor % 65536)) jobs in
-    let sent = d3 .set-number3 .ensures ∙ ap (put 13 (a .c .sent % 65536)) cursor in
-    let waiting = d4 .set-number4 .ensures ∙ ap (put 14 (a .c .waiting % 65536)) sent in
-    let out = d5 .set-number5 .ensures ∙ ap (put 15 (a .c .out % 65536)) waiting in
-    ap clientOf out ∙ stored-is (a .c) (wordAt (a .s .now))
+    ap clientOf (r .encode-rest .ensures ∙ ap (withRest (a .c)) (h .put-shape .ensures)) ∙ stored-is (a .c) (numberAt (a .s .now))
 
 pub encode-spec : {M : Type 1} → statement M
-encode-spec =
-    tie.close
-    (tie.spec
-    put-shape-requires
-    put-request-requires
-    set-number-requires
-    set-number-requires-2
-    set-number-requires-3
-    set-number-requires-4
-    set-number-requires-5
-    same-length
-    returns)
+encode-spec = tie.close (tie.spec put-shape-requires encode-rest-requires same-length returns)

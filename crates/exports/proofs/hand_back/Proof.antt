@@ -1,8 +1,9 @@
-use mathlib.Core.Path.{refl}
+use mathlib.Core.Path.{refl, ap, _∙_}
+use Rattle.codec.specs.Codec.{clientOf, numberAt, rest-is}
 use native.Mathlib.Omega.{arith}
 use Rattle.exports.proofs.hand_back.Statement.{statement}
 use Rattle.exports.proofs.hand_back.Tie as tie
-use Rattle.codec.proofs.encode.Reads as encode-reads
+use Rattle.codec.proofs.encode_rest.Reads as encode-rest-reads
 use Rattle.codec.proofs.pack.Reads as pack-reads
 
 pack-requires : tie.Need-pack-requires
@@ -11,8 +12,8 @@ pack-requires c κs = omega arith
 returns : tie.Need-returns
 returns c = record { answer = c .pack .ensures; accepted = λ z. absurd (c .before .if1 .taken z); refused = λ n. refl }
 
-encode-requires : tie.Need-encode-requires
-encode-requires c κs = omega arith
+encode-rest-requires : tie.Need-encode-rest-requires
+encode-rest-requires c κs = omega arith
 
 pack-requires-2 : tie.Need-pack-requires-2
 pack-requires-2 c κs = omega arith
@@ -21,9 +22,10 @@ same-length : tie.Need-same-length
 same-length c = omega arith
 
 returns-2 : tie.Need-returns-2
-returns-2 c = let z = c .before .before .before .before .before .if1 .left in record { answer = c .pack2 .ensures; accepted = λ _. c .before .before .before .encode .ensures; refused = λ n. absurd (n (omega arith)) }
+returns-2 c = let a = c .before .before .before .before .before .before .before .before .args in
+    let z = c .before .before .before .before .before .if1 .left in record { answer = c .pack2 .ensures; accepted = λ _. ap clientOf (c .before .before .before .encode-rest .ensures) ∙ rest-is (a .r .client) (numberAt (a .state .now)); refused = λ n. absurd (n (omega arith)) }
 
 pub hand-back-spec : {M : Type 1} → statement M
 hand-back-spec =
     tie.close
-    (tie.spec pack-requires returns encode-requires pack-requires-2 same-length returns-2)
+    (tie.spec pack-requires returns encode-rest-requires pack-requires-2 same-length returns-2)

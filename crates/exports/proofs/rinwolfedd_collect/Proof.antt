@@ -2,6 +2,7 @@ use mathlib.Core.Path.{refl}
 use mathlib.Core.List.{[]}
 use native.Mathlib.Omega.{arith}
 use Rattle.rules.specs.Questions.{collect}
+use Rattle.rules.specs.Laws.Answers.{opens}
 use Rattle.exports.specs.Exported.{exported}
 use Rattle.exports.proofs.rinwolfedd_collect.Statement.{statement}
 use Rattle.exports.proofs.rinwolfedd_collect.Tie as tie
@@ -33,7 +34,7 @@ returns-2 c =
     let r = c .before .before .before .before .before .before .before .before .collect in
     let d = c .before .before .before .before .before .before .before .before .before .before .before .decode in
     let a = c .before .before .before .before .before .before .before .before .before .before .before .before .before .before .before .before .before .args in
-    exported (collect) (a .state .now) (a .memory .now) [] (a .buffer .now) (r .result) (h .result) _ _ _ (c .before .before .before .before .before .before .before .before .before .before .before .before .before .if1 .left) (rw (← d .ensures) (r .ensures)) (h .ensures)
+    exported (collect) (unfold opens in refl) (a .state .now) (a .memory .now) [] (a .buffer .now) (r .result) (h .result) _ _ _ (c .before .before .before .before .before .before .before .before .before .before .before .before .before .if1 .left) (rw (← d .ensures) (r .ensures)) (h .ensures)
 
 pub rinwolfedd-collect-spec : {M : Type 1} → statement M
 rinwolfedd-collect-spec =

@@ -3,6 +3,7 @@ use mathlib.Core.List.{[]}
 use native.Mathlib.Omega.{arith}
 use Rattle.rules.specs.State.{cmd}
 use Rattle.rules.specs.Questions.{completion}
+use Rattle.rules.specs.Laws.Answers.{opens}
 use Rattle.exports.specs.Exported.{exported}
 use Rattle.exports.proofs.rinwolfedd_completion.Statement.{statement}
 use Rattle.exports.proofs.rinwolfedd_completion.Tie as tie
@@ -31,7 +32,7 @@ returns-2 c =
     let r = c .before .before .before .before .before .before .completion in
     let d = c .before .before .before .before .before .before .before .before .decode in
     let a = c .before .before .before .before .before .before .before .before .before .before .before .before .before .before .args in
-    exported (completion (cmd (a .kind) (a .partition) (a .level) (a .slot)) (a .bytes .now)) (a .state .now) (a .memory .now) [] [] (r .result) (h .result) _ _ _ (c .before .before .before .before .before .before .before .before .before .before .if1 .left) (rw (← d .ensures) (r .ensures)) (h .ensures)
+    exported (completion (cmd (a .kind) (a .partition) (a .level) (a .slot)) (a .bytes .now)) (unfold opens in refl) (a .state .now) (a .memory .now) [] [] (r .result) (h .result) _ _ _ (c .before .before .before .before .before .before .before .before .before .before .if1 .left) (rw (← d .ensures) (r .ensures)) (h .ensures)
 
 pub rinwolfedd-completion-spec : {M : Type 1} → statement M
 rinwolfedd-completion-spec =

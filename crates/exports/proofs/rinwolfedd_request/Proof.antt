@@ -2,6 +2,7 @@ use mathlib.Core.Path.{refl}
 use mathlib.Core.List.{[]}
 use native.Mathlib.Omega.{arith}
 use Rattle.rules.specs.Questions.{request}
+use Rattle.rules.specs.Laws.Answers.{opens}
 use Rattle.exports.specs.Exported.{exported}
 use Rattle.exports.proofs.rinwolfedd_request.Statement.{statement}
 use Rattle.exports.proofs.rinwolfedd_request.Tie as tie
@@ -30,7 +31,7 @@ returns-2 c =
     let r = c .before .before .before .before .before .before .request in
     let d = c .before .before .before .before .before .before .before .before .decode in
     let a = c .before .before .before .before .before .before .before .before .before .before .before .before .before .before .before .args in
-    exported (request (a .kind) (a .block) (a .contents .now)) (a .state .now) (a .memory .now) (a .tape .now) [] (r .result) (h .result) _ _ _ (c .before .before .before .before .before .before .before .before .before .before .if1 .left) (rw (← d .ensures) (r .ensures)) (h .ensures)
+    exported (request (a .kind) (a .block) (a .contents .now)) (unfold opens in refl) (a .state .now) (a .memory .now) (a .tape .now) [] (r .result) (h .result) _ _ _ (c .before .before .before .before .before .before .before .before .before .before .if1 .left) (rw (← d .ensures) (r .ensures)) (h .ensures)
 
 pub rinwolfedd-request-spec : {M : Type 1} → statement M
 rinwolfedd-request-spec =

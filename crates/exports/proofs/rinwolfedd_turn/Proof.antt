@@ -1,6 +1,7 @@
 use mathlib.Core.Path.{refl}
 use native.Mathlib.Omega.{arith}
 use Rattle.rules.specs.Questions.{turn}
+use Rattle.rules.specs.Laws.Answers.{opens}
 use Rattle.exports.specs.Exported.{exported}
 use Rattle.exports.proofs.rinwolfedd_turn.Statement.{statement}
 use Rattle.exports.proofs.rinwolfedd_turn.Tie as tie
@@ -32,7 +33,7 @@ returns-2 c =
     let r = c .before .before .before .before .before .before .before .before .turn in
     let d = c .before .before .before .before .before .before .before .before .before .before .before .decode in
     let a = c .before .before .before .before .before .before .before .before .before .before .before .before .before .before .before .before .before .before .args in
-    exported (turn) (a .state .now) (a .memory .now) (a .tape .now) (a .buffer .now) (r .result) (h .result) _ _ _ (c .before .before .before .before .before .before .before .before .before .before .before .before .before .if1 .left) (rw (← d .ensures) (r .ensures)) (h .ensures)
+    exported (turn) (unfold opens in refl) (a .state .now) (a .memory .now) (a .tape .now) (a .buffer .now) (r .result) (h .result) _ _ _ (c .before .before .before .before .before .before .before .before .before .before .before .before .before .if1 .left) (rw (← d .ensures) (r .ensures)) (h .ensures)
 
 pub rinwolfedd-turn-spec : {M : Type 1} → statement M
 rinwolfedd-turn-spec =

@@ -24,7 +24,7 @@ slot-cell c =
     cell-lt (shapeOf (a .args .c .shape)) _ _ (b .cell .result) (c .order .result) (b .cell .ensures .0) (a .pre .1) (a .pre .2) (slot-lt _ _ _ _ (b .before .pow2 .ensures .0) (c .order .ensures))
 
 -- what was read in a turn of the loop
-item : (c : tie.After-holds Inv-loop μ-loop) → let o = c .before .before in let b = o .before .before .before in let a = b .before .before .before in Item (a .args .c) (a .args .m .now) (a .args .q) (a .args .l) (b .before .pow2 .result) (b .cell .result) (o .before .before .loop .k) (o .order .result) (c .before .mark .result) (c .holds .result)
+item : (c : tie.After-mark Inv-loop μ-loop) → let o = c .before .before in let b = o .before .before .before in let a = b .before .before .before in Item (a .args .c) (a .args .m .now) (a .args .q) (a .args .l) (b .before .pow2 .result) (b .cell .result) (o .before .before .loop .k) (o .order .result) (c .mark .result) (c .before .holds .result)
 item c =
     let o = c .before .before in
     let b = o .before .before .before in
@@ -34,8 +34,8 @@ item c =
       level = b .before .before .before .pre .2;
       item = o .before .loop-test .taken;
       slot = o .order .ensures;
-      marked = c .before .mark .ensures;
-      held = c .holds .ensures;
+      marked = c .mark .ensures;
+      held = c .before .holds .ensures;
     }
 
 add-pow2 : tie.Need-add-pow2 Inv-loop μ-loop
@@ -59,17 +59,17 @@ order-requires c κs =
     let a = b .before .before .before in
     (a .pre .0, cell-lt (shapeOf (a .args .c .shape)) _ _ _ _ (b .cell .ensures .0) (a .pre .1) (a .pre .2) (omega arith))
 
-add-mark : tie.Need-add-mark Inv-loop μ-loop
-add-mark c = omega (arith, slot-cell c)
-
-mark-requires : tie.Need-mark-requires Inv-loop μ-loop
-mark-requires c κs = omega (arith, slot-cell c)
-
 add-holds : tie.Need-add-holds Inv-loop μ-loop
-add-holds c = omega (arith, slot-cell (c .before))
+add-holds c = omega (arith, slot-cell c)
 
 holds-requires : tie.Need-holds-requires Inv-loop μ-loop
-holds-requires c κs = omega (arith, slot-cell (c .before))
+holds-requires c κs = omega (arith, slot-cell c)
+
+add-mark : tie.Need-add-mark Inv-loop μ-loop
+add-mark c = omega (arith, slot-cell (c .before))
+
+mark-requires : tie.Need-mark-requires Inv-loop μ-loop
+mark-requires c κs = omega (arith, slot-cell (c .before))
 
 returns : tie.Need-returns Inv-loop μ-loop
 returns c = sym (items-hit _ _ _ _ _ _ _ _ _ _ (item (c .before)) (c .if1 .taken)) ∙ c .before .before .before .before .before .loop .inv
@@ -98,10 +98,10 @@ dummy-spec =
     loop-holds
     add-order
     order-requires
-    add-mark
-    mark-requires
     add-holds
     holds-requires
+    add-mark
+    mark-requires
     returns
     add-k
     loop-less

@@ -65,6 +65,9 @@ loop-again c =
     let t = byte-le (not (eqb (c .holds .result) 0)) in
     (omega arith, omega arith, omega arith)
 
+cast-result : tie.Need-cast-result Inv-loop μ-loop
+cast-result c = omega arith
+
 returns : tie.Need-returns Inv-loop μ-loop
 returns c =
     let a = c .before .before .before .before .before .before .args in
@@ -88,4 +91,5 @@ stored-spec =
     add-j
     loop-less
     loop-again
+    cast-result
     returns)

@@ -1,39 +1,32 @@
-use Rattle.client.specs.View.{stateOf, view}
-use Rattle.sending.specs.Chosen.{full-none, longest-is}
+use Rattle.client.specs.View.{stateOf}
+use Rattle.sending.specs.Chosen.{nobody-waits}
 use native.Mathlib.Omega.{arith}
-use borrow.Author.Needs.{needs}
 use Rattle.sending.proofs.chosen.Statement.{statement}
 use Rattle.sending.proofs.chosen.Tie as tie
-use Rattle.sending.proofs.chosen.Reads as reads
-use Rattle.sending.proofs.chosen.Lts as lts
-use Rattle.bits.proofs.pow2.Reads as pow2-reads
 use Rattle.cache.proofs.longest.Reads as longest-reads
-use Rattle.levels.proofs.stored.Reads as stored-reads
-
-sub-pow2 : tie.Need-sub-pow2
-sub-pow2 c = omega arith
-
-pow2-requires : tie.Need-pow2-requires
-pow2-requires c κs = omega arith
-
-stored-requires : tie.Need-stored-requires
-stored-requires c κs = omega arith
-
-returns : tie.Need-returns
-returns c =
-    let o = c .before .stored in
-    let a = c .before .before .before .before .before .args in
-    full-none (stateOf (a .c) (a .m .now)) (a .q) (unfold stateOf view in omega (arith, c .if1 .taken, o .ensures .0))
+use Rattle.sending.proofs.with_room.Reads as with-room-reads
 
 longest-requires : tie.Need-longest-requires
 longest-requires c κs = omega arith
 
+enum-known-x : tie.Need-enum-known-x
+enum-known-x c = omega arith
+
+with-room-requires : tie.Need-with-room-requires
+with-room-requires c κs =
+    let a = c .before .before .before .before .before in
+    (a .pre .0, a .pre .1, rw (c .before .x .given .1) at (c .before .before .before .longest .ensures))
+
+enum-told : tie.Need-enum-told
+enum-told c = omega arith
+
+returns : tie.Need-returns
+returns c = c .with-room .ensures
+
 returns-2 : tie.Need-returns-2
 returns-2 c =
-    let o = c .before .before .stored in
-    let a = c .before .before .before .before .before .before .args in
-    longest-is (stateOf (a .c) (a .m .now)) (a .q) (unfold stateOf view in omega (arith, c .before .if1 .left, o .ensures .0)) _ (c .longest .ensures)
+    let a = c .before .before .before .before .args in
+    nobody-waits (stateOf (a .c) (a .m .now)) (a .q) (rw (c .enum-told .given .1) at (c .before .before .longest .ensures))
 
 pub chosen-spec : {M : Type 1} → statement M
-chosen-spec =
-    tie.close (tie.spec sub-pow2 pow2-requires stored-requires returns longest-requires returns-2)
+chosen-spec = tie.close (tie.spec longest-requires enum-known-x with-room-requires enum-told returns returns-2)

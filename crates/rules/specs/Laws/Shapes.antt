@@ -1,0 +1,57 @@
+-- No call but an open changes the shape.
+use mathlib.Core.Path.{_≡_, refl}
+use mathlib.Core.Bool.{Bool, true, false, true≢false}
+use mathlib.Core.List.{List, [], _∷_}
+use mathlib.Core.Option.{Option, none, some}
+use Prim.Native.Nat.{ℕ}
+use lib.Dec.{eqb}
+use Rattle.lists.specs.Tests.{if_then_else_}
+use Rattle.rules.specs.Blocks.{holder}
+use Rattle.rules.specs.Collect.{collected, finish}
+use Rattle.rules.specs.Completion.{complete, completeRead, completeWrite, completed, gatherBytes, finishJob, endJob, jobDone}
+use Rattle.rules.specs.Laws.Answers.{opens}
+use Rattle.rules.specs.Questions.{Ask, opening, request, turn, completion, collect}
+use Rattle.rules.specs.Rebuild.{doRebuild}
+use Rattle.rules.specs.Request.{accept}
+use Rattle.rules.specs.Run.{act}
+use Rattle.rules.specs.State.{State, Command, Request}
+use Rattle.rules.specs.Turn.{Step, idle, noDummy, readForRequest, readForJob, rebuild, writeNext, decide, doStep, markRead, send}
+
+turn-shape : (s : State) (x : Step) (js : List ℕ) → doStep x js s .shape ≡ s .shape
+unfolding doStep markRead send doRebuild
+turn-shape s idle js = refl
+turn-shape s noDummy js = refl
+turn-shape s (readForRequest q ℓ i) js = refl
+turn-shape s (readForJob q ℓ i) js = refl
+turn-shape s (rebuild q t) js = refl
+turn-shape s (writeNext q t i) js = refl
+
+complete-shape : (s : State) (c : Command) (bs : List ℕ) → complete c bs s .shape ≡ s .shape
+unfolding complete completeRead completeWrite completed gatherBytes finishJob endJob
+complete-shape s c bs = go (eqb (c .kind) 1) (holder s (c .partition) (c .level) (c .slot)) (s .queue)
+  where
+    s′ : State
+    s′ = completed c s
+
+    ended : (q : ℕ) (qs : List ℕ) (t : Bool) → (if t then endJob q qs s′ else s′) .shape ≡ s .shape
+    ended q qs true = refl
+    ended q qs false = refl
+
+    go : (t : Bool) (b : Option ℕ) (qs : List ℕ) → (if t then gatherBytes b bs s′ else finishJob qs s′) .shape ≡ s .shape
+    go true none qs = refl
+    go true (some b) qs = refl
+    go false b [] = refl
+    go false b (q ∷ qs) = ended q qs (jobDone s′ q)
+
+collect-shape : (s : State) (o : Option Request) → collected o s .shape ≡ s .shape
+unfolding collected finish
+collect-shape s none = refl
+collect-shape s (some r) = refl
+
+pub act-shape : (s : State) (a : Ask) (js : List ℕ) → opens a ≡ false → act s a js .shape ≡ s .shape
+unfolding act accept opens
+act-shape s (opening h) js o = absurd (true≢false o)
+act-shape s (request k b bs) js o = refl
+act-shape s turn js o = turn-shape s (decide s) js
+act-shape s (completion c bs) js o = complete-shape s c bs
+act-shape s collect js o = collect-shape s (s .request)
