@@ -2,25 +2,25 @@
 //! for each shape, nanoseconds per command of both, and their ratio; first
 //! with a host in memory, then with one that does nothing.
 
+#[path = "../tests/common/convert.rs"]
+mod convert;
+
+use convert::tape;
 use plain::fast;
 use plain::lookups::{Client, Host, LookUps, Measure, Memory, Nothing, SHAPES};
 use plain::shape::Shape;
-use rinwolfedd::{Command, Store};
+use rinwolfedd::calls::{self, Answer, STATE};
 
 const LOOK_UPS: usize = 2048;
 const REPEATS: usize = 6;
 
-/// The proved calls behind the same trait. The tape is lent as it lies in
-/// memory, which on a little-endian machine is low byte first.
-struct Proved(Store);
-
-fn bytes(words: &[u16]) -> &[u8] {
-    assert!(cfg!(target_endian = "little"));
-    // Safety: a slice of words is twice as many bytes.
-    unsafe { std::slice::from_raw_parts(words.as_ptr().cast(), 2 * words.len()) }
+/// The proved calls behind the same trait.
+struct Proved {
+    state: [u8; STATE],
+    memory: Vec<u8>,
 }
 
-fn answer(from: rinwolfedd::Answer) -> fast::Answer {
+fn answer(from: Answer) -> fast::Answer {
     fast::Answer {
         number: from.number,
         taken: from.taken,
@@ -34,38 +34,49 @@ fn answer(from: rinwolfedd::Answer) -> fast::Answer {
 }
 
 impl Client for Proved {
-    fn open(h: Shape, words: &[u16]) -> Result<Proved, u8> {
-        let shape = rinwolfedd::Shape {
-            blocks: h.blocks,
-            partitions: h.partitions,
-            levels: h.levels,
-            bytes: h.bytes,
-            places: h.places,
-            window: h.window,
+    fn open(shape: Shape, words: &[u16]) -> Result<Proved, u8> {
+        let mut proved = Proved {
+            state: [0; STATE],
+            memory: vec![0; shape.needed()],
         };
-        Store::open(shape, bytes(words)).map(Proved)
+        let (state, memory) = (&mut proved.state, &mut proved.memory);
+        let answer = calls::open(state, memory, convert::shape(shape), tape(words));
+        match answer.number {
+            0 => Ok(proved),
+            number => Err(number),
+        }
     }
 
+    #[inline]
     fn request(&mut self, kind: u8, block: usize, contents: &[u8], words: &[u16]) -> fast::Answer {
-        answer(self.0.request(kind, block, contents, bytes(words)))
+        let (state, memory) = (&mut self.state, &mut self.memory);
+        let kind = kind.into();
+        answer(calls::request(
+            state,
+            memory,
+            kind,
+            block,
+            contents,
+            tape(words),
+        ))
     }
 
+    #[inline]
     fn turn(&mut self, words: &[u16], buffer: &mut [u8]) -> fast::Answer {
-        answer(self.0.turn(bytes(words), buffer))
+        let (state, memory) = (&mut self.state, &mut self.memory);
+        answer(calls::turn(state, memory, tape(words), buffer))
     }
 
+    #[inline]
     fn completion(&mut self, command: fast::Command, bytes: &[u8]) -> u8 {
-        let command = Command {
-            kind: command.kind,
-            partition: command.partition,
-            level: command.level,
-            slot: command.slot.into(),
-        };
-        self.0.completion(command, bytes).number
+        let (state, memory) = (&mut self.state, &mut self.memory);
+        let slot = [command.partition, command.level, command.slot].map(usize::from);
+        calls::completion(state, memory, command.kind.into(), slot, bytes).number
     }
 
+    #[inline]
     fn collect(&mut self, buffer: &mut [u8]) -> u8 {
-        self.0.collect(buffer).number
+        calls::collect(&mut self.state, &mut self.memory, buffer).number
     }
 }
 

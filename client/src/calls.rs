@@ -4,22 +4,44 @@
 /// The bytes of a client's state.
 pub const STATE: usize = 64;
 
+/// The kind of a read.
 pub const READ: u8 = 1;
+/// The kind of a write.
 pub const WRITE: u8 = 2;
 
-/// N blocks, P partitions, L levels, B bytes a block, E places in the eviction
-/// cache, W commands outstanding at most.
+/// The shape of a store. N is at most P × 2^(L−1).
 #[derive(Clone, Copy, Debug, PartialEq, Eq)]
 pub struct Shape {
+    /// N, the blocks: 1 to 4,096.
     pub blocks: usize,
+    /// P, the partitions: 1, 2, 4, .. 64.
     pub partitions: usize,
+    /// L, the levels of a partition: 1 to 8.
     pub levels: usize,
+    /// B, the bytes of a block: 1 to 512.
     pub bytes: usize,
+    /// E, the places in the eviction cache: 1 to N. With fewer than N the
+    /// refusal 8 tells something of which blocks are asked for.
     pub places: usize,
+    /// W, the commands outstanding at most: 1 to 32.
     pub window: usize,
 }
 
 impl Shape {
+    /// Whether the shape is within bounds. The bounds stand in the proved open
+    /// alone: it asks for them first, and then for memory, of which none is
+    /// lent here.
+    pub fn is_within_bounds(&self) -> bool {
+        open(&mut [0; STATE], &mut [], *self, &[]).number != 1
+    }
+
+    /// The slots that a host keeps for the store, P × (2^(L+1) − 2), or none
+    /// for a shape out of bounds.
+    pub fn slots(&self) -> Option<usize> {
+        self.is_within_bounds()
+            .then(|| self.partitions * ((2 << self.levels) - 2))
+    }
+
     /// The bytes of memory that the shape needs (docs/MEMORY.md), or none for
     /// numbers far out of bounds.
     pub fn needed(&self) -> Option<usize> {
@@ -31,20 +53,27 @@ impl Shape {
     }
 }
 
-/// One command: kind (1 read, 2 write, 0 none), partition, level, slot.
+/// One command as the calls report it.
 #[derive(Clone, Copy, Debug, Default, PartialEq, Eq)]
 pub struct Command {
+    /// [`READ`], [`WRITE`], or 0 for none.
     pub kind: u8,
+    /// The partition.
     pub partition: u8,
+    /// The level of the partition.
     pub level: u8,
+    /// The slot of the level.
     pub slot: u16,
 }
 
-/// The number answered, the words taken and the command sent.
+/// What a call reports.
 #[derive(Clone, Copy, Debug, Default, PartialEq, Eq)]
 pub struct Answer {
+    /// The number answered: 0, or that of a [`Refusal`](crate::Refusal).
     pub number: u8,
+    /// The words taken from the tape.
     pub taken: u16,
+    /// The command that a turn sent, else zeros.
     pub command: Command,
 }
 

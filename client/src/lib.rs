@@ -1,10 +1,52 @@
 //! An oblivious block store whose every call is proved.
 //!
-//! [`calls`] has the five calls over lent bytes, as the proved library exports
-//! them; [`Store`] owns the bytes.
+//! A [`Reader`] looks blocks up at a [`Host`] that must not learn which: with a
+//! place in the eviction cache for every block (E = N), the slots that the host
+//! sees read and written, their order and their number do not tell which block
+//! was asked for, nor whether it was read or written. The bytes are not sealed
+//! here, and time is not hidden.
+//!
+//! ```
+//! use rinwolfedd::{Error, MemoryHost, Reader, Recorded, Shape};
+//!
+//! let shape = Shape { blocks: 64, partitions: 4, levels: 5, bytes: 8, places: 64, window: 16 };
+//! let host = MemoryHost::new(shape, 1).map_err(Error::Host)?;
+//! let mut reader = Reader::open(shape, Recorded::new(host))?;
+//!
+//! reader.write(42, b"genotype")?;
+//! assert_eq!(reader.read(42)?, b"genotype");
+//! assert_eq!(reader.read(7)?, [0; 8]); // never written
+//!
+//! for command in reader.host().commands() {
+//!     println!("{command}"); // all that the host saw, such as "w 3 0 1"
+//! }
+//! # Ok::<(), Error>(())
+//! ```
+//!
+//! Below it are the five calls: [`Store`] owns what they need, [`calls`] has
+//! them as the proved library exports them, over lent bytes and with the
+//! document's numbers, which [`Refusal`] names.
+
+#![deny(missing_docs)]
 
 pub mod calls;
+mod command;
+mod file_host;
+mod host;
+mod memory_host;
+mod progress;
+mod reader;
+mod refusal;
 mod store;
+mod tape;
 
-pub use calls::{Answer, Command, READ, STATE, Shape, WRITE};
-pub use store::Store;
+pub use calls::Shape;
+pub use command::{Command, Kind};
+pub use file_host::FileHost;
+pub use host::{Host, Recorded};
+pub use memory_host::MemoryHost;
+pub use progress::Progress;
+pub use reader::{Error, Reader};
+pub use refusal::Refusal;
+pub use store::{Request, Store};
+pub use tape::Tape;

@@ -1,69 +1,130 @@
 //! A store that owns its state and its memory.
 
-use crate::calls::{self, Answer, Command, STATE, Shape};
+use crate::calls::{self, STATE, Shape};
+use crate::command::{Command, Kind};
+use crate::refusal::Refusal;
+use crate::tape::Tape;
 
-/// The client's state and the memory that its shape needs.
+/// What is asked for.
+#[derive(Clone, Copy, Debug, PartialEq, Eq)]
+pub enum Request<'a> {
+    /// The contents of a block.
+    Read {
+        /// The block, 0 to N−1.
+        block: usize,
+    },
+    /// New contents for a block; its contents before are handed out.
+    Write {
+        /// The block, 0 to N−1.
+        block: usize,
+        /// B bytes.
+        contents: &'a [u8],
+    },
+}
+
+/// The client of one store: its state, and the memory and the buffer that its
+/// shape needs. The five calls of the proved library are [`open`](Store::open),
+/// [`request`](Store::request), [`turn`](Store::turn),
+/// [`completion`](Store::completion) and [`collect`](Store::collect).
+///
+/// [`Reader`](crate::Reader) makes them in turn; whoever calls them himself
+/// decides how many commands are outstanding and when.
+///
+/// ```
+/// use rinwolfedd::{Refusal, Request, Shape, Store, Tape};
+///
+/// let shape = Shape { blocks: 1, partitions: 1, levels: 1, bytes: 1, places: 1, window: 1 };
+/// // This tape is fixed, to show the calls; one that hides anything is random.
+/// let mut tape = Tape::new(&[0; 14]);
+/// let mut store = Store::open(shape, &mut tape)?;
+/// assert_eq!(tape.taken(), 1); // a partition for the one block
+/// store.request(Request::Write { block: 0, contents: &[7] }, &mut tape)?;
+/// assert_eq!(store.collect()?, [0]); // the contents before
+///
+/// // Its jobs are still to be done: their first command is a write.
+/// let (command, bytes) = store.turn(&mut tape)?;
+/// assert_eq!((command.to_string(), bytes.len()), ("w 0 0 0".to_string(), 1));
+/// assert_eq!(store.turn(&mut tape), Err(Refusal::WindowFull));
+/// store.completion(command, &[])?;
+/// # Ok::<(), Refusal>(())
+/// ```
 pub struct Store {
     shape: Shape,
     state: [u8; STATE],
     memory: Vec<u8>,
+    /// The bytes of a turn's write, or what a collect hands out.
+    buffer: Vec<u8>,
 }
 
 impl Store {
-    /// Opens a store of the shape, or answers the number of the refusal.
-    pub fn open(shape: Shape, tape: &[u8]) -> Result<Store, u8> {
+    /// Opens a store of the shape: all blocks are zeros. Takes N words.
+    pub fn open(shape: Shape, tape: &mut Tape<'_>) -> Result<Store, Refusal> {
+        // A shape out of bounds is refused whatever it is lent.
+        let within = shape.is_within_bounds();
+        let memory = shape.needed().filter(|_| within).unwrap_or(0);
         let mut store = Store {
             shape,
             state: [0; STATE],
-            memory: vec![0; shape.needed().filter(|n| *n <= 1 << 24).unwrap_or(0)],
+            memory: vec![0; memory],
+            buffer: vec![0; if within { shape.bytes } else { 0 }],
         };
-        let answer = calls::open(&mut store.state, &mut store.memory, shape, tape);
-        if answer.number == 0 {
-            Ok(store)
-        } else {
-            Err(answer.number)
-        }
+        let answer = calls::open(&mut store.state, &mut store.memory, shape, tape.rest());
+        Refusal::unless_accepted(answer.number)?;
+        tape.take(answer.taken);
+        Ok(store)
     }
 
+    /// The shape with which it was opened.
     pub fn shape(&self) -> Shape {
         self.shape
     }
 
-    #[inline]
-    pub fn request(&mut self, kind: u8, block: usize, contents: &[u8], tape: &[u8]) -> Answer {
-        calls::request(
-            &mut self.state,
-            &mut self.memory,
-            kind.into(),
-            block,
-            contents,
-            tape,
-        )
+    /// Takes a request in hand. Takes two words.
+    pub fn request(&mut self, request: Request<'_>, tape: &mut Tape<'_>) -> Result<(), Refusal> {
+        let (kind, block, contents) = match request {
+            Request::Read { block } => (calls::READ, block, &[][..]),
+            Request::Write { block, contents } => (calls::WRITE, block, contents),
+        };
+        let (state, memory) = (&mut self.state, &mut self.memory);
+        let answer = calls::request(state, memory, kind.into(), block, contents, tape.rest());
+        Refusal::unless_accepted(answer.number)?;
+        tape.take(answer.taken);
+        Ok(())
     }
 
-    #[inline]
-    pub fn turn(&mut self, tape: &[u8], buffer: &mut [u8]) -> Answer {
-        calls::turn(&mut self.state, &mut self.memory, tape, buffer)
+    /// Sends one command, with the bytes of a write; those of a read are
+    /// empty. A turn that draws an order takes up to 255 words.
+    pub fn turn(&mut self, tape: &mut Tape<'_>) -> Result<(Command, &[u8]), Refusal> {
+        let (state, memory) = (&mut self.state, &mut self.memory);
+        let answer = calls::turn(state, memory, tape.rest(), &mut self.buffer);
+        Refusal::unless_accepted(answer.number)?;
+        tape.take(answer.taken);
+        let command = Command::sent(answer.command);
+        let bytes = match command.kind {
+            Kind::Read => &[],
+            Kind::Write => &self.buffer[..],
+        };
+        Ok((command, bytes))
     }
 
-    #[inline]
-    pub fn completion(&mut self, command: Command, bytes: &[u8]) -> Answer {
+    /// Says that the host has completed a command: a read with the B bytes
+    /// that it brought, a write with none. Commands may complete in any order.
+    pub fn completion(&mut self, command: Command, bytes: &[u8]) -> Result<(), Refusal> {
         let slot = [
             command.partition.into(),
             command.level.into(),
             command.slot.into(),
         ];
-        calls::completion(
-            &mut self.state,
-            &mut self.memory,
-            command.kind.into(),
-            slot,
-            bytes,
-        )
+        let kind = command.number().into();
+        let (state, memory) = (&mut self.state, &mut self.memory);
+        Refusal::unless_accepted(calls::completion(state, memory, kind, slot, bytes).number)
     }
 
-    #[inline]
-    pub fn collect(&mut self, buffer: &mut [u8]) -> Answer {
-        calls::collect(&mut self.state, &mut self.memory, buffer)
+    /// Hands out the block's contents before the request, once all its reads
+    /// have completed, and queues its two jobs.
+    pub fn collect(&mut self) -> Result<&[u8], Refusal> {
+        let answer = calls::collect(&mut self.state, &mut self.memory, &mut self.buffer);
+        Refusal::unless_accepted(answer.number)?;
+        Ok(&self.buffer)
     }
 }

@@ -1,12 +1,12 @@
 //! Every length and random contents: each call answers one of its numbers, and
 //! nothing outside what is lent changes. A refusal changes no lent byte.
 
+#[path = "common/lent.rs"]
 mod lent;
 
 use lent::Lent;
 use plain::rng::Rng;
-use rinwolfedd::calls;
-use rinwolfedd::{Answer, STATE, Shape};
+use rinwolfedd::calls::{self, Answer, STATE, Shape};
 
 const SHAPE: Shape = Shape {
     blocks: 3,

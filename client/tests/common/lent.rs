@@ -21,7 +21,13 @@ impl Lent {
     }
 
     pub fn lend(&mut self) -> &mut [u8] {
-        &mut self.all[SIDE..SIDE + self.len]
+        self.lend_first(self.len)
+    }
+
+    /// Lends the first bytes only; those after them are for the lender to
+    /// watch.
+    pub fn lend_first(&mut self, len: usize) -> &mut [u8] {
+        &mut self.all[SIDE..SIDE + self.len][..len]
     }
 
     pub fn bytes(&self) -> &[u8] {

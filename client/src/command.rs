@@ -1,0 +1,114 @@
+//! What the host is asked to do.
+
+use crate::calls::{self, READ, Shape, WRITE};
+use std::fmt;
+
+/// Read or write.
+#[derive(Clone, Copy, Debug, PartialEq, Eq, Hash, PartialOrd, Ord)]
+pub enum Kind {
+    /// The host brings the bytes of the slot.
+    Read,
+    /// The host keeps the bytes in the slot.
+    Write,
+}
+
+/// One command for the host: to read or write one slot of a level of a
+/// partition. It is all that the host learns; it prints as `r 3 0 1`.
+#[derive(Clone, Copy, Debug, PartialEq, Eq, Hash, PartialOrd, Ord)]
+pub struct Command {
+    /// Read or write.
+    pub kind: Kind,
+    /// The partition, 0 to P−1.
+    pub partition: u8,
+    /// The level of the partition, 0 to L−1.
+    pub level: u8,
+    /// The slot of the level, 0 to 2^(level+1)−1.
+    pub slot: u16,
+}
+
+impl Command {
+    /// Where its slot stands among all slots of a store of this shape:
+    /// partitions, levels and slots ascending. None if the shape has no such
+    /// slot.
+    pub fn index(&self, shape: Shape) -> Option<usize> {
+        let (partition, level) = (usize::from(self.partition), usize::from(self.level));
+        let slot = usize::from(self.slot);
+        if !shape.is_within_bounds() || partition >= shape.partitions || level >= shape.levels {
+            return None;
+        }
+        let first = (2 << level) - 2; // the slots of the levels below
+        (slot < 2 << level).then_some(partition * ((2 << shape.levels) - 2) + first + slot)
+    }
+
+    /// The command of an accepted turn, whose kind is a read or a write.
+    pub(crate) fn sent(raw: calls::Command) -> Command {
+        Command {
+            kind: if raw.kind == WRITE {
+                Kind::Write
+            } else {
+                Kind::Read
+            },
+            partition: raw.partition,
+            level: raw.level,
+            slot: raw.slot,
+        }
+    }
+
+    /// The kind's number.
+    pub(crate) fn number(self) -> u8 {
+        match self.kind {
+            Kind::Read => READ,
+            Kind::Write => WRITE,
+        }
+    }
+}
+
+impl fmt::Display for Command {
+    fn fmt(&self, f: &mut fmt::Formatter<'_>) -> fmt::Result {
+        let letter = match self.kind {
+            Kind::Read => 'r',
+            Kind::Write => 'w',
+        };
+        write!(
+            f,
+            "{letter} {} {} {}",
+            self.partition, self.level, self.slot
+        )
+    }
+}
+
+#[cfg(test)]
+mod tests {
+    use super::{Command, Kind};
+    use crate::calls::Shape;
+
+    const SHAPE: Shape = Shape {
+        blocks: 8,
+        partitions: 2,
+        levels: 3,
+        bytes: 1,
+        places: 8,
+        window: 1,
+    };
+
+    #[test]
+    fn each_slot_has_an_index_of_its_own() {
+        let mut next = 0;
+        for partition in 0..=2 {
+            for level in 0..=3 {
+                for slot in 0..=16 {
+                    let command = Command {
+                        kind: Kind::Read,
+                        partition,
+                        level,
+                        slot,
+                    };
+                    let exists = partition < 2 && level < 3 && slot < 2 << level;
+                    assert_eq!(command.index(SHAPE), exists.then_some(next), "{command}");
+                    next += usize::from(exists);
+                }
+            }
+        }
+        assert_eq!(SHAPE.slots(), Some(next));
+    }
+}

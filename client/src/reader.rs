@@ -1,0 +1,230 @@
+//! Whole look-ups: a store, its host and its tape.
+
+use crate::calls::Shape;
+use crate::command::Kind;
+use crate::host::Host;
+use crate::refusal::Refusal;
+use crate::store::{Request, Store};
+use crate::tape::Supply;
+use std::fmt;
+use std::fs::File;
+use std::io::{self, Read};
+
+/// Where the operating system hands out random bytes.
+const RANDOM: &str = "/dev/urandom";
+
+/// The most words that a turn takes: an order of 256 slots.
+const TURN_WORDS: usize = 255;
+
+/// Why a look-up came to nothing.
+#[derive(Debug)]
+pub enum Error {
+    /// A call was refused. A block or a length that is none of the store's is
+    /// refused before anything is sent; the reader goes on.
+    Refused(Refusal),
+    /// The host failed.
+    Host(io::Error),
+    /// The source of random words failed.
+    Words(io::Error),
+    /// An earlier look-up failed midway, and what the host has done of it is
+    /// not known: the reader makes no more.
+    Unfinished,
+}
+
+impl fmt::Display for Error {
+    fn fmt(&self, f: &mut fmt::Formatter<'_>) -> fmt::Result {
+        match self {
+            Error::Refused(refusal) => write!(f, "refused: {refusal}"),
+            Error::Host(error) => write!(f, "the host: {error}"),
+            Error::Words(error) => write!(f, "the random words: {error}"),
+            Error::Unfinished => write!(f, "an earlier look-up failed midway"),
+        }
+    }
+}
+
+impl std::error::Error for Error {
+    fn source(&self) -> Option<&(dyn std::error::Error + 'static)> {
+        match self {
+            Error::Refused(refusal) => Some(refusal),
+            Error::Host(error) | Error::Words(error) => Some(error),
+            Error::Unfinished => None,
+        }
+    }
+}
+
+impl From<Refusal> for Error {
+    fn from(refusal: Refusal) -> Error {
+        Error::Refused(refusal)
+    }
+}
+
+/// Reads and writes blocks by whole look-ups. Each is a request, its reads,
+/// the collect, and both its jobs to the end, with up to W commands
+/// outstanding; so the next look-up finds nothing in its way.
+///
+/// With E = N the commands do not tell which block was looked up, nor whether
+/// it was read or written. With a smaller cache a look-up may be refused with
+/// [`Refusal::CacheFull`], and that does depend on the blocks.
+///
+/// Words come from `/dev/urandom`, or from any other source with
+/// [`with_words`](Reader::with_words). If a look-up fails midway, all later
+/// ones answer [`Error::Unfinished`].
+pub struct Reader<H, R = File> {
+    store: Store,
+    host: H,
+    words: Supply<R>,
+    /// What a completed read brought.
+    arrived: Vec<u8>,
+    outstanding: usize,
+    /// Whether a look-up has begun and not come to its end.
+    unfinished: bool,
+}
+
+impl<H: Host> Reader<H> {
+    /// Opens a store at the host, with the operating system's randomness. All
+    /// blocks are zeros, whatever the host's slots hold.
+    pub fn open(shape: Shape, host: H) -> Result<Reader<H>, Error> {
+        let random = File::open(RANDOM).map_err(Error::Words)?;
+        Reader::with_words(shape, host, random)
+    }
+}
+
+impl<H: Host, R: Read> Reader<H, R> {
+    /// Opens a store whose words are the bytes of this source, low byte first.
+    /// For a store that is to hide anything, nobody else may know them, and no
+    /// other store may have them.
+    pub fn with_words(shape: Shape, host: H, words: R) -> Result<Reader<H, R>, Error> {
+        let mut words = Supply::new(words);
+        // A shape with more blocks is out of bounds, for which no word is read.
+        let wanted = if shape.is_within_bounds() {
+            shape.blocks
+        } else {
+            0
+        };
+        let mut tape = words.lend(wanted).map_err(Error::Words)?;
+        let store = Store::open(shape, &mut tape)?;
+        let taken = tape.taken();
+        words.take(taken);
+        Ok(Reader {
+            store,
+            host,
+            words,
+            arrived: vec![0; shape.bytes],
+            outstanding: 0,
+            unfinished: false,
+        })
+    }
+
+    /// The shape of the store.
+    pub fn shape(&self) -> Shape {
+        self.store.shape()
+    }
+
+    /// The host.
+    pub fn host(&self) -> &H {
+        &self.host
+    }
+
+    /// The host, to be changed. A slot that is written behind the store's back
+    /// brings other contents than those that were stored.
+    pub fn host_mut(&mut self) -> &mut H {
+        &mut self.host
+    }
+
+    /// Gives the host back; the store is lost.
+    pub fn into_host(self) -> H {
+        self.host
+    }
+
+    /// Looks a block up.
+    pub fn read(&mut self, block: usize) -> Result<Vec<u8>, Error> {
+        let mut contents = vec![0; self.shape().bytes];
+        self.read_into(block, &mut contents)?;
+        Ok(contents)
+    }
+
+    /// Looks a block up and puts its contents into the buffer, which has B
+    /// bytes.
+    pub fn read_into(&mut self, block: usize, buffer: &mut [u8]) -> Result<(), Error> {
+        self.look_up(Request::Read { block }, buffer)
+    }
+
+    /// Gives a block new contents of B bytes, and hands out those before.
+    pub fn write(&mut self, block: usize, contents: &[u8]) -> Result<Vec<u8>, Error> {
+        let mut before = vec![0; self.shape().bytes];
+        self.look_up(Request::Write { block, contents }, &mut before)?;
+        Ok(before)
+    }
+
+    /// Writes block 0, 1, 2, .. as long as there are contents, and says after
+    /// each how many are stored. Hands back their number.
+    ///
+    /// [`Progress`](crate::Progress) makes a line of it.
+    pub fn write_all<C: AsRef<[u8]>>(
+        &mut self,
+        contents: impl IntoIterator<Item = C>,
+        mut stored: impl FnMut(usize),
+    ) -> Result<usize, Error> {
+        let mut count = 0;
+        for contents in contents {
+            self.write(count, contents.as_ref())?;
+            count += 1;
+            stored(count);
+        }
+        Ok(count)
+    }
+
+    /// One whole look-up; the contents before it go into the buffer.
+    fn look_up(&mut self, request: Request<'_>, before: &mut [u8]) -> Result<(), Error> {
+        if self.unfinished {
+            return Err(Error::Unfinished);
+        }
+        if before.len() != self.shape().bytes {
+            return Err(Refusal::BufferLength.into());
+        }
+        let mut tape = self.words.lend(2).map_err(Error::Words)?;
+        self.store.request(request, &mut tape)?;
+        let taken = tape.taken();
+        self.words.take(taken);
+        self.unfinished = true;
+        self.run()?;
+        before.copy_from_slice(self.store.collect()?);
+        self.run()?;
+        self.unfinished = false;
+        Ok(())
+    }
+
+    /// Turns and completions until nothing is left to send or to complete. It
+    /// waits for the host only where no command can be sent.
+    fn run(&mut self) -> Result<(), Error> {
+        loop {
+            let mut tape = self.words.lend(TURN_WORDS).map_err(Error::Words)?;
+            let sent = self.store.turn(&mut tape);
+            let taken = tape.taken();
+            self.words.take(taken);
+            match sent {
+                Ok((command, bytes)) => {
+                    self.host.submit(command, bytes).map_err(Error::Host)?;
+                    self.outstanding += 1;
+                }
+                Err(Refusal::WindowFull | Refusal::NothingToSend) if self.outstanding > 0 => {
+                    self.complete()?;
+                }
+                Err(Refusal::NothingToSend) => return Ok(()),
+                Err(refusal) => return Err(refusal.into()),
+            }
+        }
+    }
+
+    fn complete(&mut self) -> Result<(), Error> {
+        let command = self.host.next_completed(&mut self.arrived);
+        let command = command.map_err(Error::Host)?;
+        let bytes = match command.kind {
+            Kind::Read => &self.arrived[..],
+            Kind::Write => &[],
+        };
+        self.store.completion(command, bytes)?;
+        self.outstanding -= 1;
+        Ok(())
+    }
+}

@@ -1,0 +1,137 @@
+//! Why a call was refused.
+
+use std::fmt;
+
+/// The question to which the reply was no. Its number is that of the document
+/// that sets the rules; 0 is no refusal. A refused call changes nothing.
+#[derive(Clone, Copy, Debug, PartialEq, Eq, Hash)]
+#[repr(u8)]
+pub enum Refusal {
+    /// Open: is the shape within bounds?
+    ShapeOutOfBounds = 1,
+    /// Is the memory long enough, is each number of the state in its range?
+    NotReady = 2,
+    /// Are enough words of the tape left?
+    TooFewWords = 3,
+    /// Request: is no request in hand?
+    RequestInHand = 4,
+    /// Request: is the block below N?
+    NoSuchBlock = 5,
+    /// Request: has a write contents of B bytes?
+    ContentsLength = 6,
+    /// Request: are at most 62 jobs queued?
+    QueueFull = 7,
+    /// Request: has the eviction cache a place for the block?
+    CacheFull = 8,
+    /// Turn: are fewer than W commands outstanding?
+    WindowFull = 9,
+    /// Turn: is there a command to send?
+    NothingToSend = 10,
+    /// Completion: is the command outstanding?
+    NotOutstanding = 11,
+    /// Completion: has a read B bytes, and a write none?
+    CompletionLength = 12,
+    /// Collect: is a request in hand?
+    NoRequest = 13,
+    /// Collect: is the request finished?
+    NotFinished = 14,
+    /// Has the buffer B bytes?
+    BufferLength = 15,
+}
+
+impl Refusal {
+    /// All refusals, number 1 first.
+    pub const ALL: [Refusal; 15] = [
+        Refusal::ShapeOutOfBounds,
+        Refusal::NotReady,
+        Refusal::TooFewWords,
+        Refusal::RequestInHand,
+        Refusal::NoSuchBlock,
+        Refusal::ContentsLength,
+        Refusal::QueueFull,
+        Refusal::CacheFull,
+        Refusal::WindowFull,
+        Refusal::NothingToSend,
+        Refusal::NotOutstanding,
+        Refusal::CompletionLength,
+        Refusal::NoRequest,
+        Refusal::NotFinished,
+        Refusal::BufferLength,
+    ];
+
+    /// The document's number, 1 to 15.
+    pub fn number(self) -> u8 {
+        self as u8
+    }
+
+    /// What the number that a call answered says. Every number is at most 15
+    /// (theorem `number-le`), so nothing else comes to `NotReady`.
+    pub(crate) fn unless_accepted(number: u8) -> Result<(), Refusal> {
+        match number {
+            0 => Ok(()),
+            _ => Err(Refusal::try_from(number).unwrap_or(Refusal::NotReady)),
+        }
+    }
+
+    fn text(self) -> &'static str {
+        match self {
+            Refusal::ShapeOutOfBounds => "the shape is out of bounds",
+            Refusal::NotReady => "the store is closed, or a number of its state is out of range",
+            Refusal::TooFewWords => "too few random words are left",
+            Refusal::RequestInHand => "a request is in hand",
+            Refusal::NoSuchBlock => "there is no such block",
+            Refusal::ContentsLength => "the contents are not as long as a block",
+            Refusal::QueueFull => "the queue of jobs is full",
+            Refusal::CacheFull => "the eviction cache is full",
+            Refusal::WindowFull => "as many commands are outstanding as may be",
+            Refusal::NothingToSend => "there is no command to send",
+            Refusal::NotOutstanding => "no such command is outstanding",
+            Refusal::CompletionLength => "the completed bytes are not as long as a block",
+            Refusal::NoRequest => "no request is in hand",
+            Refusal::NotFinished => "the request is not finished",
+            Refusal::BufferLength => "the buffer is not as long as a block",
+        }
+    }
+}
+
+impl fmt::Display for Refusal {
+    fn fmt(&self, f: &mut fmt::Formatter<'_>) -> fmt::Result {
+        write!(f, "{} (number {})", self.text(), self.number())
+    }
+}
+
+impl std::error::Error for Refusal {}
+
+impl TryFrom<u8> for Refusal {
+    type Error = u8;
+
+    /// The refusal with this number; 0 and numbers above 15 are handed back.
+    fn try_from(number: u8) -> Result<Refusal, u8> {
+        let index = usize::from(number).wrapping_sub(1);
+        Refusal::ALL.get(index).copied().ok_or(number)
+    }
+}
+
+#[cfg(test)]
+mod tests {
+    use super::Refusal;
+
+    #[test]
+    fn numbers_and_refusals_are_one_to_one() {
+        for number in 0..=255 {
+            match Refusal::try_from(number) {
+                Ok(refusal) => assert_eq!(refusal.number(), number),
+                Err(other) => assert!(other == number && !(1..=15).contains(&number)),
+            }
+        }
+        assert_eq!(Refusal::try_from(8), Ok(Refusal::CacheFull));
+        assert_eq!(Refusal::unless_accepted(0), Ok(()));
+        assert_eq!(Refusal::unless_accepted(15), Err(Refusal::BufferLength));
+    }
+
+    #[test]
+    fn a_refusal_says_its_number() {
+        let text = Refusal::CacheFull.to_string();
+        assert_eq!(text, "the eviction cache is full (number 8)");
+    }
+}

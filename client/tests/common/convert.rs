@@ -1,0 +1,22 @@
+//! The plain implementation's shapes and words as the linked calls take them.
+
+use plain::shape::Shape;
+
+pub fn shape(h: Shape) -> rinwolfedd::Shape {
+    rinwolfedd::Shape {
+        blocks: h.blocks,
+        partitions: h.partitions,
+        levels: h.levels,
+        bytes: h.bytes,
+        places: h.places,
+        window: h.window,
+    }
+}
+
+/// A tape as it lies in memory, which on a little-endian machine is low byte
+/// first.
+pub fn tape(words: &[u16]) -> &[u8] {
+    const { assert!(cfg!(target_endian = "little")) };
+    // Safety: a slice of words is twice as many bytes.
+    unsafe { std::slice::from_raw_parts(words.as_ptr().cast(), 2 * words.len()) }
+}

@@ -1,0 +1,224 @@
+//! Whole look-ups through the reader: an array's contents with hosts that
+//! complete in any order, W commands outstanding, and the commands that a
+//! plain client sends from the same words.
+
+use plain::rng::Rng;
+use rinwolfedd::{Command, FileHost, Host, Kind, MemoryHost, Reader, Recorded, Shape};
+use std::collections::HashSet;
+use std::io;
+
+const fn shape(n: usize, p: usize, l: usize, b: usize, w: usize) -> Shape {
+    Shape {
+        blocks: n,
+        partitions: p,
+        levels: l,
+        bytes: b,
+        places: n,
+        window: w,
+    }
+}
+
+const SHAPES: [Shape; 6] = [
+    shape(1, 1, 1, 1, 1),
+    shape(4, 2, 2, 3, 2),
+    shape(31, 8, 4, 16, 7),
+    shape(64, 4, 5, 64, 32),
+    shape(128, 1, 8, 4, 32),
+    shape(256, 16, 5, 512, 32),
+];
+
+/// Random reads and writes, held to an array.
+fn look_ups<H: Host>(shape: Shape, host: H, seed: u64, count: usize) -> H {
+    let mut reader = Reader::open(shape, host).unwrap();
+    let mut array = vec![vec![0; shape.bytes]; shape.blocks];
+    let mut rng = Rng::new(seed);
+    let mut buffer = vec![0; shape.bytes];
+    for _ in 0..count {
+        let block = rng.below(shape.blocks);
+        match rng.below(3) {
+            0 => assert_eq!(reader.read(block).unwrap(), array[block]),
+            1 => {
+                reader.read_into(block, &mut buffer).unwrap();
+                assert_eq!(buffer, array[block]);
+            }
+            _ => {
+                let contents = rng.bytes(shape.bytes);
+                assert_eq!(reader.write(block, &contents).unwrap(), array[block]);
+                array[block] = contents;
+            }
+        }
+    }
+    reader.into_host()
+}
+
+#[test]
+fn an_array_with_a_host_in_memory() {
+    for (seed, shape) in SHAPES.into_iter().enumerate() {
+        let seed = seed as u64;
+        look_ups(shape, MemoryHost::new(shape, seed).unwrap(), seed, 700);
+    }
+}
+
+/// A host that watches what is outstanding at the host below.
+struct Watched<H> {
+    host: H,
+    outstanding: HashSet<(u8, u8, u16)>,
+    most: usize,
+    /// Completions that were not of the command submitted first.
+    overtook: usize,
+    submitted: Vec<Command>,
+}
+
+impl<H> Watched<H> {
+    fn new(host: H) -> Watched<H> {
+        Watched {
+            host,
+            outstanding: HashSet::new(),
+            most: 0,
+            overtook: 0,
+            submitted: Vec::new(),
+        }
+    }
+}
+
+fn place(command: Command) -> (u8, u8, u16) {
+    (command.partition, command.level, command.slot)
+}
+
+impl<H: Host> Host for Watched<H> {
+    fn submit(&mut self, command: Command, bytes: &[u8]) -> io::Result<()> {
+        assert!(self.outstanding.insert(place(command)), "two in one slot");
+        self.most = self.most.max(self.outstanding.len());
+        self.submitted.push(command);
+        self.host.submit(command, bytes)
+    }
+
+    fn next_completed(&mut self, buffer: &mut [u8]) -> io::Result<Command> {
+        let command = self.host.next_completed(buffer)?;
+        assert!(self.outstanding.remove(&place(command)));
+        self.overtook += usize::from(self.submitted[0] != command);
+        self.submitted.retain(|submitted| *submitted != command);
+        Ok(command)
+    }
+}
+
+#[test]
+fn the_window_fills_and_completions_overtake() {
+    for window in [1, 2, 5, 32] {
+        let shape = shape(64, 2, 6, 8, window);
+        let host = Watched::new(MemoryHost::new(shape, 9).unwrap());
+        let host = look_ups(shape, host, 3, 300);
+        assert_eq!(host.most, window);
+        assert!(host.outstanding.is_empty(), "a look-up runs to its end");
+        assert_eq!(host.overtook > 100, window > 1);
+    }
+}
+
+/// A host that brings what it likes.
+struct Forgetful(MemoryHost);
+
+impl Host for Forgetful {
+    fn submit(&mut self, command: Command, bytes: &[u8]) -> io::Result<()> {
+        self.0.submit(command, bytes)
+    }
+
+    fn next_completed(&mut self, buffer: &mut [u8]) -> io::Result<Command> {
+        let command = self.0.next_completed(buffer);
+        buffer.reverse();
+        command
+    }
+}
+
+#[test]
+#[should_panic(expected = "left == right")]
+fn a_host_that_brings_other_bytes_is_noticed_here() {
+    let shape = SHAPES[2];
+    let host = Forgetful(MemoryHost::new(shape, 1).unwrap());
+    look_ups(shape, host, 1, 700);
+}
+
+/// What is sent next does not wait for what happens to complete first.
+#[test]
+fn the_order_of_completion_leaves_the_commands_alone() {
+    let shape = shape(16, 4, 3, 4, 8);
+    let mut rng = Rng::new(5);
+    let tape = rng.bytes(60_000);
+    let seen = [1, 2].map(|seed| {
+        let host = Recorded::new(MemoryHost::new(shape, seed).unwrap());
+        let mut reader = Reader::with_words(shape, host, &tape[..]).unwrap();
+        for block in 0..16 {
+            reader.write(block, &[block as u8; 4]).unwrap();
+        }
+        reader.host_mut().take()
+    });
+    assert!(seen[0].len() > 100);
+    assert_eq!(seen[0], seen[1]);
+}
+
+#[test]
+fn a_recorded_host_has_all_commands_in_order() {
+    let shape = shape(1, 1, 1, 1, 1);
+    // the worked session of the document: its words, and what its host sees
+    let words = [0, 0, 0, 1, 0, 0, 0, 0, 0, 0, 0]
+        .map(u16::to_le_bytes)
+        .concat();
+    let host = Recorded::new(MemoryHost::new(shape, 1).unwrap());
+    let mut reader = Reader::with_words(shape, host, &words[..]).unwrap();
+    assert_eq!(reader.write(0, &[7]).unwrap(), [0]);
+    let text: Vec<String> = reader
+        .host_mut()
+        .take()
+        .iter()
+        .map(Command::to_string)
+        .collect();
+    let first = [
+        "w 0 0 0", "w 0 0 1", "r 0 0 0", "r 0 0 1", "w 0 0 0", "w 0 0 1",
+    ];
+    assert_eq!(text, first);
+    assert_eq!(reader.read(0).unwrap(), [7]);
+    assert_eq!(reader.host().commands()[0].to_string(), "r 0 0 1");
+    assert_eq!(reader.host().commands()[0].kind, Kind::Read);
+}
+
+#[test]
+fn an_array_with_a_host_in_a_file() {
+    for (seed, shape) in SHAPES.into_iter().enumerate() {
+        let file = Temporary::new(&format!("array-{seed}"));
+        let host = FileHost::create(&file.0, shape).unwrap();
+        let host = look_ups(shape, host, seed as u64, 300);
+        host.sync().unwrap();
+        // another store in the same file begins with zeros
+        drop(host);
+        let length = shape.slots().unwrap() * shape.bytes;
+        assert_eq!(std::fs::metadata(&file.0).unwrap().len(), length as u64);
+        look_ups(shape, FileHost::open(&file.0, shape).unwrap(), 1, 100);
+    }
+}
+
+/// A path in the folder for temporary files, removed in the end.
+struct Temporary(std::path::PathBuf);
+
+impl Temporary {
+    fn new(name: &str) -> Temporary {
+        let name = format!("rinwolfedd-{}-{name}", std::process::id());
+        Temporary(std::env::temp_dir().join(name))
+    }
+}
+
+impl Drop for Temporary {
+    fn drop(&mut self) {
+        let _ = std::fs::remove_file(&self.0);
+    }
+}
+
+#[test]
+fn write_all_says_how_many_are_stored() {
+    let shape = shape(64, 4, 5, 2, 8);
+    let mut reader = Reader::open(shape, MemoryHost::new(shape, 1).unwrap()).unwrap();
+    let mut said = Vec::new();
+    let contents = (0..50u8).map(|tag| [tag, 1]);
+    assert_eq!(reader.write_all(contents, |n| said.push(n)).unwrap(), 50);
+    assert_eq!(said, (1..=50).collect::<Vec<usize>>());
+    assert_eq!(reader.read(49).unwrap(), [49, 1]);
+    assert_eq!(reader.read(50).unwrap(), [0, 0]);
+}
