@@ -1,0 +1,242 @@
+//! Random calls to the independent model, with an honest host that completes
+//! in random order: calls that get on, and refused ones of every number.
+
+use plain::calls::{Ask, Call, Outcome, Store};
+use plain::host::Host;
+use plain::mistakes::Mistake;
+use plain::rng::Rng;
+use plain::shape::Shape;
+use plain::state::{Command, READ, Step, WRITE};
+
+pub struct Random {
+    shape: Shape,
+    pub rng: Rng,
+    model: Store,
+    host: Host,
+    /// Whether jobs are left alone, so that they fill the queue.
+    hoards: bool,
+    /// Whether the host waits until no command can be sent, so that they fill
+    /// the window.
+    waits: bool,
+}
+
+/// The bytes of memory that may be lent beyond those needed.
+pub const SLACK: usize = 8;
+
+impl Random {
+    pub fn new(shape: Shape, seed: u64) -> Random {
+        Random {
+            shape,
+            rng: Rng::new(seed),
+            model: Store::new(Mistake::None),
+            host: Host::default(),
+            hoards: false,
+            waits: false,
+        }
+    }
+
+    /// The next call, and what the model answers to it.
+    pub fn next(&mut self) -> (Call, Outcome) {
+        if self.rng.below(400) == 0 {
+            self.hoards = self.rng.chance(40);
+            self.waits = self.rng.chance(40);
+        }
+        let call = self.call();
+        let outcome = self.model.call(&call);
+        if outcome.number == 0 {
+            match &call.ask {
+                Ask::Open(_) => self.host.pending.clear(),
+                Ask::Turn => self.host.send(outcome.command, outcome.bytes.clone()),
+                Ask::Completion { command, .. } => self.host.done(*command),
+                Ask::Request { .. } | Ask::Collect => {}
+            }
+        }
+        (call, outcome)
+    }
+
+    /// A random call, which is not made.
+    pub fn call(&mut self) -> Call {
+        match self.rng.below(1000) {
+            0..4 => self.odd_open(),
+            4 => self.open(),
+            5..15 => self.short(),
+            15..50 => self.odd_request(),
+            50..90 => self.odd_turn(),
+            90..130 => self.odd_completion(),
+            130..150 => self.odd_collect(),
+            150..170 => self.request(),
+            170..190 => self.collect(),
+            190..210 => self.turn(),
+            _ => self.good(),
+        }
+    }
+
+    /// A call that mostly brings the store on.
+    fn good(&mut self) -> Call {
+        let Some(state) = &self.model.state else {
+            return self.open();
+        };
+        let pending = self.host.pending.len();
+        let left_alone = self.hoards && !matches!(state.step(), Some(Step::RequestRead(_)));
+        let sends = state.step().is_some() && pending < self.shape.window && !left_alone;
+        let collects = state.request.as_ref().is_some_and(|r| state.finished(r));
+        let asks = state.request.is_none();
+        let completes = pending > 0 && !(self.waits && sends);
+        let weights = [asks, collects, completes, sends].map(usize::from);
+        let choice = self.rng.below(weights.iter().sum::<usize>().max(1));
+        if choice < weights[0] {
+            self.request()
+        } else if choice < weights[..2].iter().sum() {
+            self.collect()
+        } else if choice < weights[..3].iter().sum() {
+            self.completion()
+        } else {
+            // With nothing to send, jobs are left alone no longer.
+            self.hoards &= sends;
+            self.turn()
+        }
+    }
+
+    fn lend(&mut self, ask: Ask, words: usize, buffer: usize) -> Call {
+        let slack = [0, 0, 0, self.rng.below(SLACK + 1)][self.rng.below(4)];
+        Call {
+            ask,
+            memory: self.shape.needed() + slack,
+            words: self.rng.words(words),
+            buffer,
+        }
+    }
+
+    fn open(&mut self) -> Call {
+        let words = self.shape.blocks + self.rng.below(2);
+        self.lend(Ask::Open(self.shape), words, 0)
+    }
+
+    fn odd_open(&mut self) -> Call {
+        let (mut shape, mut words) = (self.shape, self.shape.blocks);
+        match self.rng.below(8) {
+            0 => shape.partitions = 3,
+            1 => shape.blocks = shape.partitions * shape.capacity() + 1,
+            2 => shape.levels = 9,
+            3 => shape.places = shape.blocks + 1,
+            4 => shape.window = [0, 33][self.rng.below(2)],
+            5 => shape.bytes = [0, 513][self.rng.below(2)],
+            _ => words = self.rng.below(words),
+        }
+        self.lend(Ask::Open(shape), words, 0)
+    }
+
+    /// Any call with one byte of memory too few, or many.
+    fn short(&mut self) -> Call {
+        let mut call = match self.rng.below(5) {
+            0 => self.open(),
+            1 => self.request(),
+            2 => self.collect(),
+            3 => self.odd_completion(),
+            _ => self.odd_turn(),
+        };
+        let less = [1, 1, 2, self.shape.needed()][self.rng.below(4)];
+        call.memory = self.shape.needed() - less;
+        call
+    }
+
+    fn request(&mut self) -> Call {
+        let mut block = self.rng.below(self.shape.blocks);
+        if let (true, Some(state)) = (self.hoards, &self.model.state) {
+            // A block that no job holds back, if there is one.
+            let free = |b: &usize| !state.queue.contains(&state.partition[*b]);
+            let all = (block..self.shape.blocks).chain(0..block);
+            block = { all }.find(free).unwrap_or(block);
+        }
+        let (kind, length) = match self.rng.chance(50) {
+            true => (WRITE, self.shape.bytes),
+            false => (READ, 0),
+        };
+        let words = 2 + self.rng.below(2);
+        self.ask_for(kind, block, length, words)
+    }
+
+    fn ask_for(&mut self, kind: usize, block: usize, length: usize, words: usize) -> Call {
+        let contents = self.rng.bytes(length);
+        let ask = Ask::Request {
+            kind,
+            block,
+            contents,
+        };
+        self.lend(ask, words, 0)
+    }
+
+    fn odd_request(&mut self) -> Call {
+        let block = self.rng.below(self.shape.blocks);
+        let far = [self.shape.blocks, usize::MAX, 1 << 32][self.rng.below(3)];
+        let (kind, block, length) = match self.rng.below(5) {
+            0 => (READ, far, 0),
+            1 => (READ, block, self.shape.bytes),
+            2 => (WRITE, block, self.shape.bytes - 1),
+            3 => ([0, 3, 257][self.rng.below(3)], block, self.shape.bytes),
+            _ => (READ, block, 0),
+        };
+        let words = self.rng.below(2);
+        self.ask_for(kind, block, length, words)
+    }
+
+    fn turn(&mut self) -> Call {
+        self.lend(Ask::Turn, (1 << self.shape.levels) - 1, self.shape.bytes)
+    }
+
+    /// Too few words or a buffer too long or short, which a read accepts.
+    fn odd_turn(&mut self) -> Call {
+        let words = self.rng.below(1 << self.shape.levels);
+        let buffer = self.shape.bytes + 1 - self.rng.below(3);
+        self.lend(Ask::Turn, words, buffer)
+    }
+
+    /// Completes a command, now and then with false bytes.
+    fn completion(&mut self) -> Call {
+        let index = self.rng.below(self.host.pending.len());
+        let (command, mut bytes) = self.host.answer(index);
+        if self.rng.chance(2) {
+            bytes = self.rng.bytes(bytes.len());
+        }
+        self.lend(Ask::Completion { command, bytes }, 0, 0)
+    }
+
+    fn odd_completion(&mut self) -> Call {
+        let random = Command {
+            kind: self.rng.below(4),
+            partition: self.rng.below(self.shape.partitions + 2),
+            level: self.rng.below(self.shape.levels + 1),
+            slot: self.rng.below(5),
+        };
+        let pending = self.host.pending.last().map(|(command, _)| *command);
+        let command = match (pending, self.rng.below(6)) {
+            (Some(c), 0) => Command { kind: 0, ..c },
+            (Some(c), 1) => Command {
+                kind: 3 - c.kind,
+                ..c
+            },
+            (Some(c), 2) => Command {
+                slot: c.slot ^ 1,
+                ..c
+            },
+            (Some(c), 3) => Command {
+                level: usize::MAX,
+                ..c
+            },
+            (Some(c), 4) => c,
+            _ => random,
+        };
+        let length = [0, self.shape.bytes, self.shape.bytes + 1][self.rng.below(3)];
+        let bytes = self.rng.bytes(length);
+        self.lend(Ask::Completion { command, bytes }, 0, 0)
+    }
+
+    fn collect(&mut self) -> Call {
+        self.lend(Ask::Collect, 0, self.shape.bytes)
+    }
+
+    fn odd_collect(&mut self) -> Call {
+        let buffer = self.shape.bytes + 1 - self.rng.below(3);
+        self.lend(Ask::Collect, 0, buffer)
+    }
+}
