@@ -14,6 +14,7 @@ mod linked;
 mod random;
 
 use linked::Linked;
+use plain::mistakes::Mistake;
 use plain::shape::Shape;
 use random::{Random, SLACK};
 use std::time::Instant;
@@ -41,44 +42,52 @@ const SHAPES: [(Shape, usize); 16] = [
 /// The calls made where nothing else is said.
 const FEW: usize = 200_000;
 
-fn calls() -> usize {
-    let asked = std::env::var("RINWOLFEDD_CALLS");
-    asked.map_or(FEW, |text| {
-        text.parse().expect("RINWOLFEDD_CALLS is a number")
-    })
-}
-
-/// Makes so many calls and adds up how often each number was answered.
-fn compare(shape: Shape, seed: u64, calls: usize, numbers: &mut [usize; 16]) {
-    let mut random = Random::new(shape, seed);
+/// Makes so many calls, counts how often each number was answered, and says
+/// where the linked calls first depart from the model.
+fn compare(
+    shape: Shape,
+    mistake: Mistake,
+    seed: u64,
+    calls: usize,
+    numbers: &mut [usize; 16],
+) -> Result<(), String> {
+    let mut random = Random::new(shape, mistake, seed);
     let mut linked = Linked::new(shape.needed() + SLACK);
     for index in 0..calls {
         let (call, outcome) = random.next();
-        let told = std::panic::AssertUnwindSafe(|| linked.compare(&call, &outcome));
-        if let Err(cause) = std::panic::catch_unwind(told) {
-            eprintln!("{shape:?}, seed {seed}, call {index}: {call:?}");
-            std::panic::resume_unwind(cause);
-        }
+        let told = linked.compare(&call, &outcome);
+        told.map_err(|told| format!("{shape:?}, seed {seed}, call {index}: {told}"))?;
         numbers[usize::from(outcome.number)] += 1;
     }
+    Ok(())
 }
 
 #[test]
 fn random_calls_answer_as_the_model_does() {
-    let (start, calls) = (Instant::now(), calls());
+    let (start, calls) = (Instant::now(), random::calls(FEW));
     let mut numbers = [0; 16];
     for (seed, (shape, share)) in SHAPES.into_iter().enumerate() {
         let length = (calls * share).div_ceil(100);
-        compare(shape, seed as u64, length, &mut numbers);
+        let told = compare(shape, Mistake::None, seed as u64, length, &mut numbers);
+        told.unwrap_or_else(|told| panic!("{told}"));
     }
     let made: usize = numbers.iter().sum();
     let seconds = start.elapsed().as_secs_f64();
     println!("{made} calls in {seconds:.1} s");
-    for (number, count) in numbers.iter().enumerate() {
-        println!("  number {number:2}: {count}");
-    }
+    println!("  numbers 0 to 15: {numbers:?}");
     assert!(made >= calls);
     for (number, count) in numbers.iter().enumerate() {
         assert!(*count > calls / 20_000, "{number} is answered too rarely");
+    }
+}
+
+/// The comparison can fail: it tells a model with any planted mistake.
+#[test]
+fn every_mistake_of_a_model_is_told() {
+    for mistake in Mistake::ALL {
+        let small = SHAPES.iter().filter(|(shape, _)| shape.blocks <= 64);
+        let told =
+            { small }.any(|(shape, _)| compare(*shape, mistake, 1, 20_000, &mut [0; 16]).is_err());
+        assert!(told, "{mistake:?} is not told");
     }
 }

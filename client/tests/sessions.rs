@@ -19,7 +19,8 @@ fn compare(first: Shape, second: Option<Shape>, seed: u64, length: usize) -> [us
     let mut linked = Linked::new(most);
     let mut numbers = [0; 16];
     for (call, outcome) in script.calls.iter().zip(&script.outcomes) {
-        linked.compare(call, outcome);
+        let told = linked.compare(call, outcome);
+        told.unwrap_or_else(|told| panic!("seed {seed}: {told}"));
         numbers[usize::from(outcome.number)] += 1;
     }
     numbers

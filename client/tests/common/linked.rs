@@ -4,6 +4,7 @@
 use crate::convert;
 use crate::lent::Lent;
 use plain::calls::{Ask, Call, Outcome};
+use plain::state::Command;
 use rinwolfedd::calls::{self, Answer, STATE};
 
 /// What the buffer lent to a call holds before it.
@@ -49,39 +50,51 @@ impl Linked {
         (answer, buffer.bytes().to_vec())
     }
 
-    /// Makes the call and holds it to the model's outcome. A call that is to
-    /// be refused must leave state and memory as they were, but for a refused
-    /// open, which leaves a closed state; none may touch what it is not lent.
-    pub fn compare(&mut self, call: &Call, outcome: &Outcome) {
+    /// Makes the call and says where it departs from the model's outcome. A
+    /// call that is to be refused must leave state and memory as they were, but
+    /// for a refused open, which leaves a closed state; none may touch what it
+    /// is not lent.
+    pub fn compare(&mut self, call: &Call, outcome: &Outcome) -> Result<(), String> {
         let refused = outcome.number != 0;
         let state = self.state.bytes().to_vec();
-        let memory = if refused {
-            self.memory.bytes().to_vec()
-        } else {
-            Vec::new()
+        let memory = match refused {
+            true => self.memory.bytes().to_vec(),
+            false => Vec::new(),
         };
         let past = self.memory.bytes()[call.memory..].to_vec();
         let (answer, buffer) = self.call(call);
-        same(&answer, outcome);
-        assert_eq!(buffer, filled(call, outcome), "the buffer after the call");
-        assert_eq!(self.memory.bytes()[call.memory..], past, "what is not lent");
-        if refused {
-            assert!(self.memory.bytes() == memory, "a refusal writes to memory");
-            let opens = matches!(call.ask, Ask::Open(_));
-            let after = if opens { vec![0; STATE] } else { state };
-            assert_eq!(self.state.bytes(), after, "the state after a refusal");
+        let opens = matches!(call.ask, Ask::Open(_));
+        let kept = if opens { vec![0; STATE] } else { state };
+        let same = [
+            ("answer", reported(&answer, outcome) == *outcome),
+            ("buffer", buffer == filled(call, outcome)),
+            ("unlent memory", self.memory.bytes()[call.memory..] == past),
+            ("memory", !refused || self.memory.bytes() == memory),
+            ("state", !refused || self.state.bytes() == kept),
+        ];
+        match same.iter().find(|(_, same)| !same) {
+            None => Ok(()),
+            Some((what, _)) => Err(format!(
+                "the {what} departs: {answer:?} for {outcome:?}, after {call:?}"
+            )),
         }
     }
 }
 
-fn same(answer: &Answer, outcome: &Outcome) {
-    assert_eq!(answer.number, outcome.number, "numbers");
-    assert_eq!(usize::from(answer.taken), outcome.taken, "words taken");
-    let (sent, command) = (answer.command, outcome.command);
-    assert_eq!(usize::from(sent.kind), command.kind, "kinds");
-    assert_eq!(usize::from(sent.partition), command.partition, "partitions");
-    assert_eq!(usize::from(sent.level), command.level, "levels");
-    assert_eq!(usize::from(sent.slot), command.slot, "slots");
+/// The answer as an outcome. The bytes are the buffer's to compare.
+fn reported(answer: &Answer, outcome: &Outcome) -> Outcome {
+    let sent = answer.command;
+    Outcome {
+        number: answer.number,
+        taken: answer.taken.into(),
+        command: Command {
+            kind: sent.kind.into(),
+            partition: sent.partition.into(),
+            level: sent.level.into(),
+            slot: sent.slot.into(),
+        },
+        bytes: outcome.bytes.clone(),
+    }
 }
 
 /// The buffer after a call by the model: what it hands out, or as it was.

@@ -23,12 +23,20 @@ pub struct Random {
 /// The bytes of memory that may be lent beyond those needed.
 pub const SLACK: usize = 8;
 
+/// How many calls to make: RINWOLFEDD_CALLS, or few enough for every day.
+pub fn calls(few: usize) -> usize {
+    let asked = std::env::var("RINWOLFEDD_CALLS");
+    asked.map_or(few, |text| {
+        text.parse().expect("RINWOLFEDD_CALLS is a number")
+    })
+}
+
 impl Random {
-    pub fn new(shape: Shape, seed: u64) -> Random {
+    pub fn new(shape: Shape, mistake: Mistake, seed: u64) -> Random {
         Random {
             shape,
             rng: Rng::new(seed),
-            model: Store::new(Mistake::None),
+            model: Store::new(mistake),
             host: Host::default(),
             hoards: false,
             waits: false,

@@ -1,0 +1,232 @@
+//! The state that 32 bytes and a memory stand for, by the layout in
+//! docs/MEMORY.md: every content stands for one, as an entry out of its range
+//! reads as 0. `step` has what the rules say of it, also of states that no
+//! call left (docs/DECISIONS.md).
+
+mod step;
+
+pub use step::step;
+
+use plain::shape::Shape;
+use plain::state::{Command, READ, WRITE};
+
+/// A request in hand; a read has no bytes.
+#[derive(Clone, Debug, PartialEq, Eq)]
+pub struct Request {
+    pub kind: usize,
+    pub block: usize,
+    pub bytes: Vec<u8>,
+    pub next: usize,
+    pub evict: usize,
+    /// The level from which its reads are still to be sent.
+    pub level: usize,
+}
+
+/// A state in range.
+#[derive(Clone, Debug, PartialEq, Eq)]
+pub struct View {
+    pub shape: Shape,
+    /// By block: its partition, its level and slot if it has one, its bytes.
+    pub partition: Vec<usize>,
+    pub place: Vec<Option<(usize, usize)>>,
+    pub bytes: Vec<Vec<u8>>,
+    /// The blocks that wait, longest waiting first.
+    pub waiting: Vec<usize>,
+    pub counter: Vec<usize>,
+    /// By cell: the slot of an item; 0 for a dummy and b + 1 for block b; 1 for
+    /// a slot that was written and not read since.
+    pub order: Vec<usize>,
+    pub holds: Vec<usize>,
+    pub mark: Vec<usize>,
+    pub queue: Vec<usize>,
+    /// The slots of its sources that the front job has gone over, and the
+    /// writes that it has sent.
+    pub cursor: usize,
+    pub sent: usize,
+    pub outstanding: Vec<Command>,
+    pub request: Option<Request>,
+}
+
+/// 2^(level+1), the slots of a level.
+pub fn slots(level: usize) -> usize {
+    2 << level
+}
+
+/// A number that is out of range reads as 0.
+fn fit(bound: usize, number: usize) -> usize {
+    if number < bound { number } else { 0 }
+}
+
+/// Where slot i of a level stands in a partition, 2^(level+1) + i, taken apart.
+fn apart(levels: usize, spot: usize) -> (usize, usize) {
+    let level = (0..levels).rev().find(|l| slots(*l) <= spot).unwrap_or(0);
+    (level, spot.saturating_sub(slots(level)))
+}
+
+/// Number k of the bytes, low byte first.
+fn word(bytes: &[u8], k: usize) -> usize {
+    usize::from(u16::from_le_bytes([bytes[2 * k], bytes[2 * k + 1]]))
+}
+
+/// The tables of a memory, and where each begins.
+struct Tables<'a> {
+    shape: Shape,
+    memory: &'a [u8],
+}
+
+/// The cells of a shape: 2^(L+1) for each partition.
+pub fn cells(shape: Shape) -> usize {
+    shape.partitions * slots(shape.levels)
+}
+
+impl Tables<'_> {
+    /// The numbers of a table, each by `read` of its place and what it says.
+    fn table<T>(&self, first: usize, count: usize, read: impl Fn(usize, usize) -> T) -> Vec<T> {
+        (0..count)
+            .map(|i| read(i, word(self.memory, first + i)))
+            .collect()
+    }
+
+    fn place(&self, number: usize) -> Option<(usize, usize)> {
+        let number = fit(slots(self.shape.levels), number);
+        (number >= 2).then(|| apart(self.shape.levels, number))
+    }
+
+    fn outstanding(&self, count: usize) -> Vec<Command> {
+        let command = |i, kind: usize| {
+            let spot = fit(slots(self.shape.levels), word(self.memory, 96 + i));
+            let (level, slot) = apart(self.shape.levels, spot.max(2));
+            Command {
+                kind: if kind < 64 { READ } else { WRITE },
+                partition: fit(self.shape.partitions, kind % 64),
+                level,
+                slot,
+            }
+        };
+        self.table(64, count, command)
+    }
+
+    fn block(&self, block: usize) -> Vec<u8> {
+        let first = 384 + 6 * self.shape.blocks + 6 * cells(self.shape);
+        let at = first + block * self.shape.bytes;
+        self.memory[at..at + self.shape.bytes].to_vec()
+    }
+}
+
+/// The sixteen numbers of a state.
+pub fn numbers(state: &[u8]) -> [usize; 16] {
+    std::array::from_fn(|k| word(state, k))
+}
+
+/// The state for which these bytes stand; none if the memory is too short or a
+/// number of the state is out of its range, to which four calls answer 2.
+pub fn decode(state: &[u8], memory: &[u8]) -> Option<View> {
+    let c = numbers(state);
+    let shape = Shape::new(c[0], c[1], c[2], c[3], c[4], c[5]);
+    if !shape.in_bounds() || memory.len() < shape.needed() {
+        return None;
+    }
+    let (jobs, cursor, sent, waiting, out) = (c[11], c[12], c[13], c[14], c[15]);
+    let counts = cursor <= slots(shape.levels) - 2 && sent <= 1 << shape.levels;
+    if !counts || jobs > 64 || waiting > shape.places || out > shape.window {
+        return None;
+    }
+    let tables = Tables { shape, memory };
+    let view = tables.view(jobs, waiting, out, cursor, sent, &c[6..11]);
+    view.hand_in_range().then_some(view)
+}
+
+impl Tables<'_> {
+    fn view(
+        &self,
+        jobs: usize,
+        waiting: usize,
+        out: usize,
+        cursor: usize,
+        sent: usize,
+        hand: &[usize],
+    ) -> View {
+        let Shape {
+            blocks: n,
+            partitions,
+            levels,
+            ..
+        } = self.shape;
+        let all = cells(self.shape);
+        let order = |cell, number| {
+            let (level, _) = apart(levels, cell % slots(levels));
+            fit(slots(level), number)
+        };
+        View {
+            shape: self.shape,
+            queue: self.table(0, jobs, |_, q| fit(partitions, q)),
+            outstanding: self.outstanding(out),
+            counter: self.table(128, partitions, |_, c| fit(1 << levels, c)),
+            partition: self.table(192, n, |_, p| fit(partitions, p)),
+            place: self.table(192 + n, n, |_, number| self.place(number)),
+            waiting: self.table(192 + 2 * n, waiting, |_, b| fit(n, b)),
+            order: self.table(192 + 3 * n, all, order),
+            holds: self.table(192 + 3 * n + all, all, |_, b| fit(n + 1, b)),
+            mark: self.table(192 + 3 * n + 2 * all, all, |_, mark| fit(2, mark)),
+            bytes: (0..n).map(|b| self.block(b)).collect(),
+            cursor,
+            sent,
+            request: (hand[0] != 0).then(|| Request {
+                kind: hand[0],
+                block: hand[1],
+                bytes: if hand[0] == WRITE {
+                    self.block(n)
+                } else {
+                    Vec::new()
+                },
+                next: hand[2],
+                evict: hand[3],
+                level: hand[4],
+            }),
+        }
+    }
+}
+
+impl View {
+    /// Each number of a request in hand is in its range; with one, at most 62
+    /// jobs, and fewer than E blocks waiting besides its own.
+    fn hand_in_range(&self) -> bool {
+        let Some(r) = &self.request else {
+            return true;
+        };
+        let others = self.waiting.iter().filter(|b| **b != r.block).count();
+        (READ..=WRITE).contains(&r.kind)
+            && r.block < self.shape.blocks
+            && r.next < self.shape.partitions
+            && r.evict < self.shape.partitions
+            && r.level <= self.shape.levels
+            && self.queue.len() <= 62
+            && others < self.shape.places
+    }
+
+    /// The cell of slot i of a level of partition q.
+    fn cell(&self, q: usize, level: usize, i: usize) -> usize {
+        q * slots(self.shape.levels) + slots(level) + i
+    }
+
+    /// The block in a slot.
+    fn holder(&self, q: usize, level: usize, i: usize) -> Option<usize> {
+        self.holds[self.cell(q, level, i)].checked_sub(1)
+    }
+
+    /// The blocks that slots of q hold, in levels below `top`, one for each
+    /// slot.
+    fn held_in(&self, q: usize, top: usize) -> impl Iterator<Item = usize> {
+        let first = self.cell(q, 0, 0);
+        let cells = &self.holds[first..first + slots(top) - slots(0)];
+        cells.iter().filter_map(|held| held.checked_sub(1))
+    }
+
+    /// A block that is nowhere reads as zeros.
+    fn contents(&self, block: usize) -> Vec<u8> {
+        match self.place[block].is_none() && !self.waiting.contains(&block) {
+            true => vec![0; self.shape.bytes],
+            false => self.bytes[block].clone(),
+        }
+    }
+}
