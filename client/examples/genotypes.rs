@@ -1,0 +1,170 @@
+//! Genotypes of 4,096 salmon in a file, looked up without the file's host
+//! learning whose.
+//!
+//! Each block is the record of one fish: who it is, and its genotypes at 1,904
+//! SNPs, two bits each. The example stores them, looks two fish up, and shows
+//! side by side what the host saw of either look-up.
+//!
+//! ```text
+//! cargo run --offline --example genotypes            in a temporary file
+//! cargo run --offline --example genotypes -- PATH    in a new file, which stays
+//! ```
+
+use rinwolfedd::{Command, FileHost, Kind, Progress, Reader, Recorded, Shape};
+use std::error::Error;
+use std::io::{self, Write};
+use std::path::{Path, PathBuf};
+use std::process::ExitCode;
+
+/// 4,096 blocks of 512 bytes, with a place in the cache for each.
+const SHAPE: Shape = Shape {
+    blocks: 4096,
+    partitions: 64,
+    levels: 8,
+    bytes: 512,
+    places: 4096,
+    window: 32,
+};
+
+/// A record's bytes before its genotypes: the name, sex, year class, family.
+const HEAD: usize = 36;
+const SNPS: usize = 4 * (SHAPE.bytes - HEAD);
+
+/// A small generator (splitmix64): the fish are made up, and the same each
+/// time. What is hidden does not rest on it.
+struct Rng(u64);
+
+impl Rng {
+    fn next(&mut self) -> u64 {
+        self.0 = self.0.wrapping_add(0x9E37_79B9_7F4A_7C15);
+        let mut z = self.0;
+        z = (z ^ (z >> 30)).wrapping_mul(0xBF58_476D_1CE4_E5B9);
+        z = (z ^ (z >> 27)).wrapping_mul(0x94D0_49BB_1331_11EB);
+        z ^ (z >> 31)
+    }
+
+    fn chance(&mut self, percent: u64) -> bool {
+        self.next() % 100 < percent
+    }
+}
+
+/// How common allele B is at a SNP, in percent: from 5 to 50.
+fn frequency(snp: usize) -> u64 {
+    5 + Rng(snp as u64).next() % 46
+}
+
+/// The record of a fish. A genotype is how many alleles are B, 0 to 2, or 3
+/// where the chip gave no call, which one in a hundred does.
+fn record(fish: usize) -> Vec<u8> {
+    let mut rng = Rng(1 << 32 | fish as u64);
+    let name = format!("SSA-{}-{fish:05}", 2021 + fish % 4);
+    let mut bytes = vec![0; SHAPE.bytes];
+    bytes[..name.len()].copy_from_slice(name.as_bytes());
+    bytes[32] = b"FM"[(rng.next() % 2) as usize];
+    bytes[33] = (21 + fish % 4) as u8;
+    bytes[34..HEAD].copy_from_slice(&(fish as u16 / 16).to_le_bytes());
+    for snp in 0..SNPS {
+        let alleles = [(); 2].map(|()| u8::from(rng.chance(frequency(snp))));
+        let missing = rng.chance(1);
+        let genotype = if missing { 3 } else { alleles[0] + alleles[1] };
+        bytes[HEAD + snp / 4] |= genotype << (2 * (snp % 4));
+    }
+    bytes
+}
+
+/// A record as a line: who the fish is, its call rate, its first genotypes.
+fn described(record: &[u8]) -> String {
+    let name = String::from_utf8_lossy(&record[..32]);
+    let name = name.trim_end_matches('\0');
+    let genotypes = (0..SNPS).map(|snp| record[HEAD + snp / 4] >> (2 * (snp % 4)) & 3);
+    let genotypes: Vec<u8> = genotypes.collect();
+    let calls = genotypes.iter().filter(|genotype| **genotype != 3).count();
+    let some = |genotype: &u8| ["AA", "AB", "BB", "--"][usize::from(*genotype)];
+    let first: Vec<&str> = genotypes[..10].iter().map(some).collect();
+    let sex = if record[32] == b'F' { "female" } else { "male" };
+    let family = u16::from_le_bytes([record[34], record[35]]);
+    format!(
+        "{name}, {sex}, family {family}, call rate {:.1} %: {} ..",
+        100.0 * calls as f64 / SNPS as f64,
+        first.join(" ")
+    )
+}
+
+/// One line of two look-ups side by side. Only slots are seen, whoever's they
+/// are.
+fn beside(left: Option<&Command>, right: Option<&Command>) -> String {
+    let text = |command: Option<&Command>| {
+        command.map_or(String::new(), |c| {
+            let kind = match c.kind {
+                Kind::Read => "read ",
+                Kind::Write => "write",
+            };
+            let (p, level, slot) = (c.partition, c.level, c.slot);
+            format!("{kind} partition {p:>2} level {level} slot {slot:>3}")
+        })
+    };
+    format!("  {:<40}{}", text(left), text(right))
+        .trim_end()
+        .into()
+}
+
+/// Shows what the host saw of two look-ups, the long ones cut.
+fn show(out: &mut impl Write, fish: [usize; 2], seen: &[Vec<Command>; 2]) -> io::Result<()> {
+    const MOST: usize = 24;
+    let [left, right] = seen;
+    let title = |i: usize| format!("look-up of fish {} ({} commands)", fish[i], seen[i].len());
+    writeln!(out, "\nWhat the host saw:\n")?;
+    writeln!(out, "  {:<40}{}", title(0), title(1))?;
+    let lines = left.len().max(right.len());
+    for line in 0..lines.min(MOST) {
+        writeln!(out, "{}", beside(left.get(line), right.get(line)))?;
+    }
+    if lines > MOST {
+        writeln!(out, "  .. and {} lines more", lines - MOST)?;
+    }
+    writeln!(
+        out,
+        "\nPartitions and slots are drawn anew for each look-up; how many there\n\
+         are comes from how full the partitions happen to be, not from the fish."
+    )
+}
+
+fn run(path: &Path, out: &mut impl Write) -> Result<(), Box<dyn Error>> {
+    let host = FileHost::create(path, SHAPE).map_err(|e| format!("{}: {e}", path.display()))?;
+    let mut reader = Reader::open(SHAPE, Recorded::new(host))?;
+    let mut progress = Progress::to_stderr("storing fish", SHAPE.blocks);
+    reader.write_all((0..SHAPE.blocks).map(record), |done| progress.at(done))?;
+    let commands = reader.host_mut().take().len();
+    let count = SHAPE.blocks;
+    writeln!(out, "{count} fish stored with {commands} commands")?;
+
+    let fish = [1234, 17];
+    let mut seen = [Vec::new(), Vec::new()];
+    for (fish, seen) in fish.into_iter().zip(&mut seen) {
+        let found = reader.read(fish)?;
+        assert_eq!(found, record(fish), "the host brings what was written");
+        writeln!(out, "fish {fish}: {}", described(&found))?;
+        *seen = reader.host_mut().take();
+    }
+    show(out, fish, &seen)?;
+    Ok(())
+}
+
+fn main() -> ExitCode {
+    let asked = std::env::args_os().nth(1).map(PathBuf::from);
+    let name = format!("rinwolfedd-genotypes-{}", std::process::id());
+    let path = asked
+        .clone()
+        .unwrap_or_else(|| std::env::temp_dir().join(name));
+    let result = run(&path, &mut io::stdout());
+    if asked.is_none() {
+        let _ = std::fs::remove_file(&path);
+    }
+    match result {
+        Ok(()) => ExitCode::SUCCESS,
+        Err(error) => {
+            eprintln!("{error}");
+            ExitCode::FAILURE
+        }
+    }
+}
