@@ -1,0 +1,122 @@
+//! What whole look-ups cost beside the plain implementation, in the same run:
+//! for each shape the commands of a look-up, nanoseconds per command of both,
+//! and their ratio; with a host in memory, and with one that does nothing.
+//!
+//! `cargo bench` prints the tables. `cargo bench -- --docs ../docs` also puts
+//! them into MEASUREMENTS.md there, between its two marks, and writes the plot
+//! measurements.svg.
+
+#[path = "../../tests/common/convert.rs"]
+mod convert;
+mod plot;
+mod proved;
+mod reader;
+mod report;
+
+use plain::fast;
+use plain::lookups::{Client, Host, LookUps, Measure, Memory, Nothing, SHAPES};
+use plain::shape::Shape;
+use proved::Proved;
+use reader::Look;
+use std::error::Error;
+use std::path::Path;
+use std::process::ExitCode;
+
+const LOOK_UPS: usize = 2048;
+const REPEATS: usize = 10;
+
+/// N alone grows, or nearly: the blocks are of 64 bytes throughout.
+const GROWING: [Shape; 4] = [
+    Shape::new(64, 4, 5, 64, 64, 32),
+    Shape::new(256, 8, 6, 64, 256, 32),
+    Shape::new(1024, 16, 7, 64, 1024, 32),
+    Shape::new(4096, 64, 8, 64, 4096, 32),
+];
+
+/// Nanoseconds per command.
+#[derive(Clone, Copy)]
+pub struct Times {
+    pub proved: f64,
+    pub plain: f64,
+}
+
+impl Times {
+    pub fn ratio(&self) -> f64 {
+        self.proved / self.plain
+    }
+}
+
+pub struct Row {
+    pub shape: Shape,
+    /// Commands of a look-up, on average.
+    pub commands: f64,
+    /// With a host in memory, and with one that does nothing.
+    pub memory: Times,
+    pub nothing: Times,
+}
+
+fn measure<C: Client, H: Host>(shape: Shape) -> Measure {
+    let mut look_ups = LookUps::<C, H>::open(shape, 1).expect("the shape is in bounds");
+    look_ups
+        .warm_up()
+        .expect("the answers are those of an array");
+    look_ups.measure(LOOK_UPS).expect("no look-up is refused")
+}
+
+/// Times both, which take turns, and counts the commands of a look-up.
+fn compare<H: Host>(shape: Shape) -> (Times, f64) {
+    let mut proved = measure::<Proved, H>(shape);
+    let mut plain = measure::<fast::Store, H>(shape);
+    for _ in 1..REPEATS {
+        proved = proved.best(&measure::<Proved, H>(shape));
+        plain = plain.best(&measure::<fast::Store, H>(shape));
+    }
+    assert_eq!(proved.commands, plain.commands);
+    let commands = proved.commands as f64;
+    let times = Times {
+        proved: proved.nanoseconds() / commands,
+        plain: plain.nanoseconds() / commands,
+    };
+    (times, commands / LOOK_UPS as f64)
+}
+
+fn row(shape: Shape) -> Row {
+    let (memory, commands) = compare::<Memory>(shape);
+    let (nothing, _) = compare::<Nothing>(shape);
+    Row {
+        shape,
+        commands,
+        memory,
+        nothing,
+    }
+}
+
+/// The folder named after `--docs`.
+fn docs() -> Option<String> {
+    let mut arguments = std::env::args().skip_while(|argument| argument != "--docs");
+    arguments.nth(1)
+}
+
+fn run() -> Result<(), Box<dyn Error>> {
+    let shapes: Vec<Row> = SHAPES.into_iter().map(row).collect();
+    let growing: Vec<Row> = GROWING.into_iter().map(row).collect();
+    let looks: Result<Vec<Look>, _> = SHAPES.into_iter().map(reader::look).collect();
+    let text = report::text(&shapes, &growing, &looks?);
+    print!("{text}");
+    if let Some(docs) = docs() {
+        let docs = Path::new(&docs);
+        report::put(&docs.join("MEASUREMENTS.md"), &text)?;
+        std::fs::write(docs.join("measurements.svg"), plot::svg(&shapes))?;
+    }
+    Ok(())
+}
+
+fn main() -> ExitCode {
+    match run() {
+        Ok(()) => ExitCode::SUCCESS,
+        Err(error) => {
+            eprintln!("{error}");
+            ExitCode::FAILURE
+        }
+    }
+}

@@ -1,0 +1,72 @@
+//! The proved calls behind the trait by which look-ups are timed.
+
+use crate::convert::{self, tape};
+use plain::fast;
+use plain::lookups::Client;
+use plain::shape::Shape;
+use rinwolfedd::calls::{self, Answer, STATE};
+
+pub struct Proved {
+    state: [u8; STATE],
+    memory: Vec<u8>,
+}
+
+fn answer(from: Answer) -> fast::Answer {
+    fast::Answer {
+        number: from.number,
+        taken: from.taken,
+        command: fast::Command {
+            kind: from.command.kind,
+            partition: from.command.partition,
+            level: from.command.level,
+            slot: from.command.slot as u8,
+        },
+    }
+}
+
+impl Client for Proved {
+    fn open(shape: Shape, words: &[u16]) -> Result<Proved, u8> {
+        let mut proved = Proved {
+            state: [0; STATE],
+            memory: vec![0; shape.needed()],
+        };
+        let (state, memory) = (&mut proved.state, &mut proved.memory);
+        let answer = calls::open(state, memory, convert::shape(shape), tape(words));
+        match answer.number {
+            0 => Ok(proved),
+            number => Err(number),
+        }
+    }
+
+    #[inline]
+    fn request(&mut self, kind: u8, block: usize, contents: &[u8], words: &[u16]) -> fast::Answer {
+        let (state, memory) = (&mut self.state, &mut self.memory);
+        let words = tape(words);
+        answer(calls::request(
+            state,
+            memory,
+            kind.into(),
+            block,
+            contents,
+            words,
+        ))
+    }
+
+    #[inline]
+    fn turn(&mut self, words: &[u16], buffer: &mut [u8]) -> fast::Answer {
+        let (state, memory) = (&mut self.state, &mut self.memory);
+        answer(calls::turn(state, memory, tape(words), buffer))
+    }
+
+    #[inline]
+    fn completion(&mut self, command: fast::Command, bytes: &[u8]) -> u8 {
+        let (state, memory) = (&mut self.state, &mut self.memory);
+        let slot = [command.partition, command.level, command.slot].map(usize::from);
+        calls::completion(state, memory, command.kind.into(), slot, bytes).number
+    }
+
+    #[inline]
+    fn collect(&mut self, buffer: &mut [u8]) -> u8 {
+        calls::collect(&mut self.state, &mut self.memory, buffer).number
+    }
+}

@@ -1,0 +1,103 @@
+//! The tables, and their place in docs/MEASUREMENTS.md.
+
+use crate::Row;
+use crate::reader::Look;
+use std::io;
+use std::path::Path;
+
+/// The lines between which the tables stand.
+const BEGIN: &str = "<!-- written by cargo bench: begin -->\n";
+const END: &str = "<!-- written by cargo bench: end -->\n";
+
+/// The processor's name and how many cores there are.
+fn machine() -> String {
+    let info = std::fs::read_to_string("/proc/cpuinfo").unwrap_or_default();
+    let line = info.lines().find(|line| line.starts_with("model name"));
+    let name = line.and_then(|line| line.split(':').nth(1));
+    let cores = std::thread::available_parallelism().map_or(1, |cores| cores.get());
+    let name = name.unwrap_or("unknown processor").trim();
+    let system = format!("{}, {}", std::env::consts::ARCH, std::env::consts::OS);
+    format!("{name}, {cores} cores, {system}")
+}
+
+fn table(rows: &[Row]) -> String {
+    let mut text = String::new();
+    text += "| N | P | L | B | commands | memory: proved | plain | ratio | nothing: proved | plain | ratio |\n";
+    text += "|--:|--:|--:|--:|--:|--:|--:|--:|--:|--:|--:|\n";
+    for row in rows {
+        let (h, a, b) = (row.shape, row.memory, row.nothing);
+        text += &format!(
+            "| {} | {} | {} | {} | {:.1} | {:.1} | {:.1} | {:.2} | {:.1} | {:.1} | {:.2} |\n",
+            h.blocks,
+            h.partitions,
+            h.levels,
+            h.bytes,
+            row.commands,
+            a.proved,
+            a.plain,
+            a.ratio(),
+            b.proved,
+            b.plain,
+            b.ratio(),
+        );
+    }
+    text
+}
+
+/// How the ratio and the commands go from the first row to the last.
+fn growth(rows: &[Row]) -> String {
+    let (Some(first), Some(last)) = (rows.first(), rows.last()) else {
+        return String::new();
+    };
+    format!(
+        "From N = {} to N = {}: the ratio goes from {:.2} to {:.2} (host in memory) and from {:.2} to {:.2} (host that does nothing), the commands of a look-up from {:.1} to {:.1}.\n",
+        first.shape.blocks,
+        last.shape.blocks,
+        first.memory.ratio(),
+        last.memory.ratio(),
+        first.nothing.ratio(),
+        last.nothing.ratio(),
+        first.commands,
+        last.commands,
+    )
+}
+
+/// Look-ups through the reader.
+fn reader(looks: &[Look]) -> String {
+    let mut text = String::from("| N | P | L | B | host in memory | host in a file |\n");
+    text += "|--:|--:|--:|--:|--:|--:|\n";
+    for look in looks {
+        let h = look.shape;
+        text += &format!(
+            "| {} | {} | {} | {} | {:.1} | {:.1} |\n",
+            h.blocks, h.partitions, h.levels, h.bytes, look.memory, look.file
+        );
+    }
+    text
+}
+
+pub fn text(shapes: &[Row], growing: &[Row], looks: &[Look]) -> String {
+    format!(
+        "Machine: {}.\n\n{}\n{}\nBlocks of 64 bytes throughout:\n\n{}\n{}\n\
+         Look-ups through the reader, in microseconds each:\n\n{}",
+        machine(),
+        table(shapes),
+        growth(shapes),
+        table(growing),
+        growth(growing),
+        reader(looks),
+    )
+}
+
+/// Puts the text between the file's marks.
+pub fn put(path: &Path, text: &str) -> io::Result<()> {
+    let all = std::fs::read_to_string(path)?;
+    let parts = all
+        .split_once(BEGIN)
+        .and_then(|(before, rest)| Some((before, rest.split_once(END)?.1)));
+    let Some((before, after)) = parts else {
+        let what = format!("{} lacks the marks of the tables", path.display());
+        return Err(io::Error::new(io::ErrorKind::InvalidData, what));
+    };
+    std::fs::write(path, format!("{before}{BEGIN}\n{text}\n{END}{after}"))
+}
