@@ -129,7 +129,8 @@ fn show(out: &mut impl Write, fish: [usize; 2], seen: &[Vec<Command>; 2]) -> io:
     )
 }
 
-fn run(path: &Path, out: &mut impl Write) -> Result<(), Box<dyn Error>> {
+/// Stores the fish in a new file and looks two of them up.
+pub fn run(path: &Path, out: &mut impl Write) -> Result<(), Box<dyn Error>> {
     let host = FileHost::create(path, SHAPE).map_err(|e| format!("{}: {e}", path.display()))?;
     let mut reader = Reader::open(SHAPE, Recorded::new(host))?;
     let mut progress = Progress::to_stderr("storing fish", SHAPE.blocks);

@@ -64,7 +64,8 @@ impl From<Refusal> for Error {
 ///
 /// With E = N the commands do not tell which block was looked up, nor whether
 /// it was read or written. With a smaller cache a look-up may be refused with
-/// [`Refusal::CacheFull`], and that does depend on the blocks.
+/// [`Refusal::CacheFull`], and that does depend on the blocks: then only those
+/// that wait in the cache can be looked up, until a job has taken one of them.
 ///
 /// Words come from `/dev/urandom`, or from any other source with
 /// [`with_words`](Reader::with_words). If a look-up fails midway, all later
@@ -78,6 +79,15 @@ pub struct Reader<H, R = File> {
     outstanding: usize,
     /// Whether a look-up has begun and not come to its end.
     unfinished: bool,
+}
+
+/// The store's shape and the host.
+impl<H: fmt::Debug, R> fmt::Debug for Reader<H, R> {
+    fn fmt(&self, f: &mut fmt::Formatter<'_>) -> fmt::Result {
+        let mut fields = f.debug_struct("Reader");
+        fields.field("store", &self.store).field("host", &self.host);
+        fields.finish_non_exhaustive()
+    }
 }
 
 impl<H: Host> Reader<H> {

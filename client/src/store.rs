@@ -4,6 +4,7 @@ use crate::calls::{self, STATE, Shape};
 use crate::command::{Command, Kind};
 use crate::refusal::Refusal;
 use crate::tape::Tape;
+use std::fmt;
 
 /// What is asked for.
 #[derive(Clone, Copy, Debug, PartialEq, Eq)]
@@ -54,6 +55,14 @@ pub struct Store {
     memory: Vec<u8>,
     /// The bytes of a turn's write, or what a collect hands out.
     buffer: Vec<u8>,
+}
+
+/// Only the shape: the rest tells which block is where.
+impl fmt::Debug for Store {
+    fn fmt(&self, f: &mut fmt::Formatter<'_>) -> fmt::Result {
+        let mut fields = f.debug_struct("Store");
+        fields.field("shape", &self.shape).finish_non_exhaustive()
+    }
 }
 
 impl Store {

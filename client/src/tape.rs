@@ -5,7 +5,7 @@ use std::io::{self, Read};
 /// Random words lent to a call: pairs of bytes, low byte first. A call takes
 /// words from the front, and the tape moves on, so that no word is drawn from
 /// twice. A refused call takes none.
-#[derive(Clone, Debug)]
+#[derive(Debug)]
 pub struct Tape<'a> {
     bytes: &'a [u8],
     taken: usize,
@@ -40,7 +40,6 @@ impl<'a> Tape<'a> {
 const AHEAD: usize = 8192;
 
 /// A tape that goes on: bytes of a source, read many at a time.
-#[derive(Debug)]
 pub(crate) struct Supply<R> {
     source: R,
     bytes: Vec<u8>,

@@ -3,7 +3,8 @@
 //! plain client sends from the same words.
 
 use plain::rng::Rng;
-use rinwolfedd::{Command, FileHost, Host, Kind, MemoryHost, Reader, Recorded, Shape};
+use rinwolfedd::{Command, Error, FileHost, Host, Kind, MemoryHost};
+use rinwolfedd::{Reader, Recorded, Refusal, Shape};
 use std::collections::HashSet;
 use std::io;
 
@@ -221,4 +222,35 @@ fn write_all_says_how_many_are_stored() {
     assert_eq!(said, (1..=50).collect::<Vec<usize>>());
     assert_eq!(reader.read(49).unwrap(), [49, 1]);
     assert_eq!(reader.read(50).unwrap(), [0, 0]);
+}
+
+/// With E below N a request may be refused for want of a place in the cache;
+/// nothing is sent for it, and the reader goes on.
+#[test]
+fn a_small_cache_refuses_and_goes_on() {
+    let shape = Shape {
+        places: 2,
+        ..shape(64, 16, 4, 4, 8)
+    };
+    let host = Recorded::new(MemoryHost::new(shape, 1).unwrap());
+    let tape = Rng::new(2).bytes(400_000);
+    let mut reader = Reader::with_words(shape, host, &tape[..]).unwrap();
+    let mut stored = vec![[0; 4]; 64];
+    let (mut rng, mut full) = (Rng::new(1), 0);
+    for tag in 0..2000u32 {
+        let block = rng.below(64);
+        let before = reader.host().commands().len();
+        match reader.write(block, &tag.to_le_bytes()) {
+            Ok(old) => {
+                assert_eq!(old, stored[block]);
+                stored[block] = tag.to_le_bytes();
+            }
+            Err(Error::Refused(Refusal::CacheFull)) => {
+                assert_eq!(reader.host().commands().len(), before);
+                full += 1;
+            }
+            Err(error) => panic!("{error}"),
+        }
+    }
+    assert!((100..1980).contains(&full), "{full} of 2000 refused");
 }

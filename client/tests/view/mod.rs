@@ -126,26 +126,18 @@ pub fn decode(state: &[u8], memory: &[u8]) -> Option<View> {
     if !shape.in_bounds() || memory.len() < shape.needed() {
         return None;
     }
-    let (jobs, cursor, sent, waiting, out) = (c[11], c[12], c[13], c[14], c[15]);
-    let counts = cursor <= slots(shape.levels) - 2 && sent <= 1 << shape.levels;
-    if !counts || jobs > 64 || waiting > shape.places || out > shape.window {
+    let [jobs, cursor, sent, waiting, out] = [c[11], c[12], c[13], c[14], c[15]];
+    let job = cursor <= slots(shape.levels) - 2 && sent <= 1 << shape.levels;
+    if !job || jobs > 64 || waiting > shape.places || out > shape.window {
         return None;
     }
-    let tables = Tables { shape, memory };
-    let view = tables.view(jobs, waiting, out, cursor, sent, &c[6..11]);
+    let view = Tables { shape, memory }.view(&c);
     view.hand_in_range().then_some(view)
 }
 
 impl Tables<'_> {
-    fn view(
-        &self,
-        jobs: usize,
-        waiting: usize,
-        out: usize,
-        cursor: usize,
-        sent: usize,
-        hand: &[usize],
-    ) -> View {
+    /// The view, by the sixteen numbers, whose counts are in range.
+    fn view(&self, c: &[usize; 16]) -> View {
         let Shape {
             blocks: n,
             partitions,
@@ -159,30 +151,35 @@ impl Tables<'_> {
         };
         View {
             shape: self.shape,
-            queue: self.table(0, jobs, |_, q| fit(partitions, q)),
-            outstanding: self.outstanding(out),
+            queue: self.table(0, c[11], |_, q| fit(partitions, q)),
+            outstanding: self.outstanding(c[15]),
             counter: self.table(128, partitions, |_, c| fit(1 << levels, c)),
             partition: self.table(192, n, |_, p| fit(partitions, p)),
             place: self.table(192 + n, n, |_, number| self.place(number)),
-            waiting: self.table(192 + 2 * n, waiting, |_, b| fit(n, b)),
+            waiting: self.table(192 + 2 * n, c[14], |_, b| fit(n, b)),
             order: self.table(192 + 3 * n, all, order),
             holds: self.table(192 + 3 * n + all, all, |_, b| fit(n + 1, b)),
             mark: self.table(192 + 3 * n + 2 * all, all, |_, mark| fit(2, mark)),
             bytes: (0..n).map(|b| self.block(b)).collect(),
-            cursor,
-            sent,
-            request: (hand[0] != 0).then(|| Request {
-                kind: hand[0],
-                block: hand[1],
-                bytes: if hand[0] == WRITE {
-                    self.block(n)
-                } else {
-                    Vec::new()
-                },
-                next: hand[2],
-                evict: hand[3],
-                level: hand[4],
-            }),
+            cursor: c[12],
+            sent: c[13],
+            request: (c[6] != 0).then(|| self.request(c)),
+        }
+    }
+
+    fn request(&self, c: &[usize; 16]) -> Request {
+        let writes = c[6] == WRITE;
+        Request {
+            kind: c[6],
+            block: c[7],
+            bytes: if writes {
+                self.block(self.shape.blocks)
+            } else {
+                Vec::new()
+            },
+            next: c[8],
+            evict: c[9],
+            level: c[10],
         }
     }
 }

@@ -1,0 +1,28 @@
+//! The example does what it says.
+
+#[path = "../examples/genotypes.rs"]
+#[allow(dead_code)] // its main
+mod genotypes;
+
+#[test]
+fn the_example_stores_fish_and_shows_two_look_ups() {
+    let name = format!("rinwolfedd-example-{}", std::process::id());
+    let path = std::env::temp_dir().join(name);
+    let mut out = Vec::new();
+    let result = genotypes::run(&path, &mut out);
+    let length = std::fs::metadata(&path).map(|file| file.len());
+    std::fs::remove_file(&path).unwrap();
+    result.unwrap();
+    assert_eq!(length.unwrap(), 64 * 510 * 512);
+    let text = String::from_utf8(out).unwrap();
+    assert!(text.starts_with("4096 fish stored with "));
+    assert!(text.contains("\nfish 1234: SSA-2023-01234, female, family 77, call rate 98.8 %"));
+    assert!(text.contains("\nfish 17: SSA-2022-00017, male, family 1, "));
+    let seen = text.split("What the host saw:").nth(1).unwrap();
+    // each look-up begins with reads, one to each filled level
+    let first = seen
+        .lines()
+        .find(|line| line.contains("partition"))
+        .unwrap();
+    assert_eq!(first.matches("read  partition").count(), 2, "{first}");
+}
