@@ -3,17 +3,18 @@
 use std::path::PathBuf;
 
 fn main() {
-    let here = PathBuf::from(std::env::var("CARGO_MANIFEST_DIR").unwrap());
-    let dir = here.parent().unwrap().join("target/staticlib");
-    let file = dir.join("libexports.a");
-    if !file.exists() {
-        panic!(
-            "{} is missing: run `rt staticlib exports` first",
-            file.display()
+    let here = PathBuf::from(std::env::var_os("CARGO_MANIFEST_DIR").unwrap_or_default());
+    let folder = here.join("../target/staticlib");
+    let archive = folder.join("libexports.a");
+    println!("cargo::rerun-if-changed=build.rs");
+    println!("cargo::rerun-if-changed={}", archive.display());
+    if !archive.exists() {
+        println!(
+            "cargo::error={} is missing: run `rt staticlib exports` in the repository first",
+            archive.display()
         );
+        return;
     }
-    println!("cargo:rerun-if-changed={}", file.display());
-    println!("cargo:rerun-if-changed=build.rs");
-    println!("cargo:rustc-link-search=native={}", dir.display());
-    println!("cargo:rustc-link-lib=static=exports");
+    println!("cargo::rustc-link-search=native={}", folder.display());
+    println!("cargo::rustc-link-lib=static=exports");
 }
