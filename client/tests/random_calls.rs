@@ -42,14 +42,24 @@ const SHAPES: [(Shape, usize); 16] = [
 /// The calls made where nothing else is said.
 const FEW: usize = 200_000;
 
-/// Makes so many calls, counts how often each number was answered, and says
-/// where the linked calls first depart from the model.
+/// What was met: how often each number was answered, the most jobs queued, the
+/// rebuilds of a full partition, and those with all levels filled.
+#[derive(Default)]
+struct Met {
+    numbers: [usize; 16],
+    most_jobs: usize,
+    full: usize,
+    wraps: usize,
+}
+
+/// Makes so many calls and says where the linked calls first depart from the
+/// model.
 fn compare(
     shape: Shape,
     mistake: Mistake,
     seed: u64,
     calls: usize,
-    numbers: &mut [usize; 16],
+    met: &mut Met,
 ) -> Result<(), String> {
     let mut random = Random::new(shape, mistake, seed);
     let mut linked = Linked::new(shape.needed() + SLACK);
@@ -57,25 +67,36 @@ fn compare(
         let (call, outcome) = random.next();
         let told = linked.compare(&call, &outcome);
         told.map_err(|told| format!("{shape:?}, seed {seed}, call {index}: {told}"))?;
-        numbers[usize::from(outcome.number)] += 1;
+        met.numbers[usize::from(outcome.number)] += 1;
     }
+    met.most_jobs = met.most_jobs.max(random.most_jobs);
+    met.full += random.full;
+    met.wraps += random.wraps;
     Ok(())
 }
 
 #[test]
 fn random_calls_answer_as_the_model_does() {
     let (start, calls) = (Instant::now(), random::calls(FEW));
-    let mut numbers = [0; 16];
+    let mut met = Met::default();
     for (seed, (shape, share)) in SHAPES.into_iter().enumerate() {
         let length = (calls * share).div_ceil(100);
-        let told = compare(shape, Mistake::None, seed as u64, length, &mut numbers);
+        let told = compare(shape, Mistake::None, seed as u64, length, &mut met);
         told.unwrap_or_else(|told| panic!("{told}"));
     }
+    let Met {
+        numbers,
+        most_jobs,
+        full,
+        wraps,
+    } = met;
     let made: usize = numbers.iter().sum();
     let seconds = start.elapsed().as_secs_f64();
     println!("{made} calls in {seconds:.1} s");
     println!("  numbers 0 to 15: {numbers:?}");
-    assert!(made >= calls);
+    println!("  rebuilds: {full} of a full partition, {wraps} with all levels filled");
+    assert!(made >= calls && most_jobs == 64);
+    assert!(full > calls / 2000 && wraps > calls / 2000);
     for (number, count) in numbers.iter().enumerate() {
         assert!(*count > calls / 20_000, "{number} is answered too rarely");
     }
@@ -86,8 +107,8 @@ fn random_calls_answer_as_the_model_does() {
 fn every_mistake_of_a_model_is_told() {
     for mistake in Mistake::ALL {
         let small = SHAPES.iter().filter(|(shape, _)| shape.blocks <= 64);
-        let told =
-            { small }.any(|(shape, _)| compare(*shape, mistake, 1, 20_000, &mut [0; 16]).is_err());
+        let told = { small }
+            .any(|(shape, _)| compare(*shape, mistake, 1, 20_000, &mut Met::default()).is_err());
         assert!(told, "{mistake:?} is not told");
     }
 }

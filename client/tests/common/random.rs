@@ -18,6 +18,11 @@ pub struct Random {
     /// Whether the host waits until no command can be sent, so that they fill
     /// the window.
     waits: bool,
+    /// The most jobs queued; the rebuilds of a partition that stores all it
+    /// may, and those of one with all levels filled.
+    pub most_jobs: usize,
+    pub full: usize,
+    pub wraps: usize,
 }
 
 /// The bytes of memory that may be lent beyond those needed.
@@ -40,6 +45,9 @@ impl Random {
             host: Host::default(),
             hoards: false,
             waits: false,
+            most_jobs: 0,
+            full: 0,
+            wraps: 0,
         }
     }
 
@@ -50,8 +58,11 @@ impl Random {
             self.waits = self.rng.chance(40);
         }
         let call = self.call();
+        let (full, wraps) = self.rebuilds(&call);
         let outcome = self.model.call(&call);
         if outcome.number == 0 {
+            self.full += usize::from(full);
+            self.wraps += usize::from(wraps);
             match &call.ask {
                 Ask::Open(_) => self.host.pending.clear(),
                 Ask::Turn => self.host.send(outcome.command, outcome.bytes.clone()),
@@ -59,16 +70,36 @@ impl Random {
                 Ask::Request { .. } | Ask::Collect => {}
             }
         }
+        let jobs = self.model.state.as_ref().map_or(0, |s| s.queue.len());
+        self.most_jobs = self.most_jobs.max(jobs);
         (call, outcome)
     }
 
-    /// A random call, which is not made.
+    /// Whether the call rebuilds a partition that stores all it may, and one
+    /// with all levels filled.
+    fn rebuilds(&self, call: &Call) -> (bool, bool) {
+        match &self.model.state {
+            Some(state) if call.ask == Ask::Turn && state.step() == Some(Step::FirstWrite) => {
+                let (q, levels) = (state.queue[0], self.shape.levels);
+                let stored = state.stored(q, levels).count();
+                (stored == self.shape.capacity(), state.sources(q) == levels)
+            }
+            _ => (false, false),
+        }
+    }
+
+    /// A random call, which is not made. Opens are so rare that the counters
+    /// of small and middling shapes wrap in between.
     pub fn call(&mut self) -> Call {
+        let jobs = self.shape.partitions << self.shape.levels;
+        match self.rng.below(100 * jobs) {
+            0 => return self.open(),
+            1 | 2 => return self.odd_open(),
+            _ => {}
+        }
         match self.rng.below(1000) {
-            0..4 => self.odd_open(),
-            4 => self.open(),
-            5..15 => self.short(),
-            15..50 => self.odd_request(),
+            0..10 => self.short(),
+            10..50 => self.odd_request(),
             50..90 => self.odd_turn(),
             90..130 => self.odd_completion(),
             130..150 => self.odd_collect(),
@@ -209,31 +240,26 @@ impl Random {
         self.lend(Ask::Completion { command, bytes }, 0, 0)
     }
 
+    /// A command that may be outstanding, often with one number changed, and
+    /// bytes that may be too many or too few.
     fn odd_completion(&mut self) -> Call {
-        let random = Command {
+        let mut command = Command {
             kind: self.rng.below(4),
             partition: self.rng.below(self.shape.partitions + 2),
             level: self.rng.below(self.shape.levels + 1),
             slot: self.rng.below(5),
         };
-        let pending = self.host.pending.last().map(|(command, _)| *command);
-        let command = match (pending, self.rng.below(6)) {
-            (Some(c), 0) => Command { kind: 0, ..c },
-            (Some(c), 1) => Command {
-                kind: 3 - c.kind,
-                ..c
-            },
-            (Some(c), 2) => Command {
-                slot: c.slot ^ 1,
-                ..c
-            },
-            (Some(c), 3) => Command {
-                level: usize::MAX,
-                ..c
-            },
-            (Some(c), 4) => c,
-            _ => random,
-        };
+        if let Some((pending, _)) = self.host.pending.last() {
+            command = *pending;
+        }
+        match self.rng.below(6) {
+            0 => command.kind = 3 * self.rng.below(2),
+            1 => command.kind = 3 - command.kind,
+            2 => command.slot ^= 1,
+            3 => command.level = usize::MAX,
+            4 => command.partition += 64 * self.rng.below(5),
+            _ => {}
+        }
         let length = [0, self.shape.bytes, self.shape.bytes + 1][self.rng.below(3)];
         let bytes = self.rng.bytes(length);
         self.lend(Ask::Completion { command, bytes }, 0, 0)
