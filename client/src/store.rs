@@ -28,8 +28,8 @@ pub enum Request<'a> {
 /// [`request`](Store::request), [`turn`](Store::turn),
 /// [`completion`](Store::completion) and [`collect`](Store::collect).
 ///
-/// [`Reader`](crate::Reader) makes them in turn; whoever calls them himself
-/// decides how many commands are outstanding and when.
+/// [`Reader`](crate::Reader) makes whole look-ups of them; a program that makes
+/// them itself decides when a command is sent and when jobs are done.
 ///
 /// ```
 /// use rinwolfedd::{Refusal, Request, Shape, Store, Tape};

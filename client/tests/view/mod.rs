@@ -113,15 +113,10 @@ impl Tables<'_> {
     }
 }
 
-/// The sixteen numbers of a state.
-pub fn numbers(state: &[u8]) -> [usize; 16] {
-    std::array::from_fn(|k| word(state, k))
-}
-
 /// The state for which these bytes stand; none if the memory is too short or a
 /// number of the state is out of its range, to which four calls answer 2.
 pub fn decode(state: &[u8], memory: &[u8]) -> Option<View> {
-    let c = numbers(state);
+    let c: [usize; 16] = std::array::from_fn(|k| word(state, k));
     let shape = Shape::new(c[0], c[1], c[2], c[3], c[4], c[5]);
     if !shape.in_bounds() || memory.len() < shape.needed() {
         return None;
