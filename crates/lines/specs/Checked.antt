@@ -1,11 +1,10 @@
 -- Lines of document 01's worked session, and malformed lines, as the checker computes them.
 use mathlib.Core.Path.{_≡_, refl}
 use mathlib.Core.List.{List, [], _∷_, map}
-use mathlib.Core.Option.{Option, none, some}
+use mathlib.Core.Option.{none, some}
 use Prim.Native.Nat.{ℕ}
 use Rattle.lists.specs.Tests.{between}
-use Rattle.rules.specs.Shape.{Shape}
-use Rattle.lines.specs.Lines.{Line, opens, reads, writes, turns, collects, malformed, front, fields, letter, others, atMost, digit, digits, begins, number, also, numbers, upTo, hexDigit, pair, pairs, contents, opened, read, stored, written, bare, byLetter, lineOf, tapeOf}
+use Rattle.lines.specs.Lines.{opens, reads, writes, turns, collects, malformed, front, fields, letter, others, atMost, digit, digits, begins, number, also, numbers, upTo, hexDigit, pair, pairs, contents, opened, read, stored, written, bare, byLetter, lineOf, tapeOf}
 
 -- one name under which all definitions unfold
 unfoldable lines : Unit {0}

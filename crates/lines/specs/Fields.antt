@@ -1,7 +1,7 @@
 -- The fields of a line, by the places where they end.
 use mathlib.Core.Path.{_≡_, refl, ap, sym, _∙_}
 use mathlib.Core.Bool.{Bool, true, false}
-use mathlib.Core.List.{List, [], _∷_}
+use mathlib.Core.List.{List, [], _∷_, _++_}
 use Prim.Native.Nat.{ℕ, zero, suc, _+_, _-_, _≤_, _<_}
 use native.Mathlib.Numerals.{add-one}
 use native.Mathlib.Omega.{arith}
@@ -10,7 +10,8 @@ use lib.ListN.{length, getD, take, drop, length-drop, drop-of-length-le}
 use lib.Seq.{drop-cons, getD-drop, drop-drop}
 use lib.Dec.{eqb}
 use borrow.Author.Tests.{eq-eqb, ne-eqb, eqb-true, eqb-false}
-use Rattle.lines.specs.Lines.{Line, malformed, front, fields, letter, others, written, bare}
+use Rattle.lists.specs.Search.{any, member}
+use Rattle.lines.specs.Lines.{Line, malformed, front, fields, letter, others, bare}
 
 -- the fields behind the place where one ends: none at the line's end, else those behind the blank
 unfoldable pub after : List ℕ → List (List ℕ)
@@ -64,6 +65,7 @@ after-end l k h = rw (drop-of-length-le l h)
 
 -- ---- The first letter
 
+-- the letter of a line is x, and if that is no blank, the other fields stand behind its place
 pub record Led (l : List ℕ) (x : ℕ) : Type 0 where
   pub is : letter (fields l) ≡ x
   pub rest : (x ≡ 32 → ⊥) → others (fields l) ≡ after (drop 1 l)
@@ -111,24 +113,57 @@ led-alone (x ∷ xs) h f = go (eqb x 32) refl
 -- ---- Fields behind the letter
 
 -- what is so of every list with a field is so of a line's fields
-pub some-field : (q : List (List ℕ) → Line) (m : Line) → ((f : List ℕ) (fs : List (List ℕ)) → q (f ∷ fs) ≡ m) → (xs : List ℕ) → q (fields xs) ≡ m
+pub some-field : (P : List (List ℕ) → Type 0) → ((f : List ℕ) (fs : List (List ℕ)) → P (f ∷ fs)) → (xs : List ℕ) → P (fields xs)
 unfolding fields front
-some-field q m h [] = h [] []
-some-field q m h (x ∷ xs) = go (eqb x 32) refl
+some-field P h [] = h [] []
+some-field P h (x ∷ xs) = go (eqb x 32) refl
   where
-    more : (fs : List (List ℕ)) → q (front x fs) ≡ m
+    more : (fs : List (List ℕ)) → P (front x fs)
     more [] = h (x ∷ []) []
     more (f ∷ fs) = h (x ∷ f) fs
 
-    go : (t : Bool) → eqb x 32 ≡ t → q (fields (x ∷ xs)) ≡ m
+    go : (t : Bool) → eqb x 32 ≡ t → P (fields (x ∷ xs))
     go true e = rw (e, fields) (h [] (fields xs))
     go false e = rw (e, fields) (more (fields xs))
 
--- a letter with more behind it, and one alone
+-- a letter with more behind it
 pub bare-more : (r : Line) (l : List ℕ) → 1 < length l → bare r (after (drop 1 l)) ≡ malformed
 unfolding bare
-bare-more r l h = rw (after-blank l 1 h) (some-field (bare r) malformed (λ f fs. refl) (drop 2 l))
+bare-more r l h = rw (after-blank l 1 h) (some-field (λ fs. bare r fs ≡ malformed) (λ f fs. refl) (drop 2 l))
 
+-- a letter alone
 pub bare-none : (r : Line) (l : List ℕ) → length l ≤ 1 → bare r (after (drop 1 l)) ≡ r
 unfolding bare
 bare-none r l h = rw (after-end l 1 h)
+
+-- ---- The fields are the line's
+
+-- the line that fields make, with one blank between two
+unfoldable pub parted : List (List ℕ) → List ℕ
+parted [] = []
+parted (f ∷ []) = f
+parted (f ∷ g ∷ gs) = f ++ (32 ∷ parted (g ∷ gs))
+
+-- a line's fields make the line
+pub fields-parted : (l : List ℕ) → parted (fields l) ≡ l
+unfolding fields parted front
+fields-parted [] = refl
+fields-parted (x ∷ xs) = go (eqb x 32) refl (fields-parted xs)
+  where
+    inner : (f : List ℕ) (fs : List (List ℕ)) → parted (front x (f ∷ fs)) ≡ x ∷ parted (f ∷ fs)
+    inner f [] = refl
+    inner f (g ∷ gs) = refl
+
+    go : (t : Bool) → eqb x 32 ≡ t → parted (fields xs) ≡ xs → parted (fields (x ∷ xs)) ≡ x ∷ xs
+    go true e ih = rw (e, fields) (some-field (λ fs. parted ([] ∷ fs) ≡ 32 ∷ parted fs) (λ f fs. refl) xs ∙ rw (ih, eqb-true x 32 e))
+    go false e ih = rw (e, fields) (some-field (λ fs. parted (front x fs) ≡ x ∷ parted fs) inner xs ∙ ap (λ r. x ∷ r) ih)
+
+-- none of them has a blank
+pub fields-clear : (l : List ℕ) → any (member 32) (fields l) ≡ false
+unfolding fields front any member
+fields-clear [] = refl
+fields-clear (x ∷ xs) = go (eqb x 32) refl (fields-clear xs)
+  where
+    go : (t : Bool) → eqb x 32 ≡ t → any (member 32) (fields xs) ≡ false → any (member 32) (fields (x ∷ xs)) ≡ false
+    go true e ih = rw (e, fields) ih
+    go false e ih = rw (e, fields) (some-field (λ fs. any (member 32) (front x fs) ≡ any (member 32) fs) (λ f fs. rw (ne-eqb 32 x (λ q. eqb-false x 32 e (sym q)))) xs ∙ ih)

@@ -3,19 +3,15 @@ use mathlib.Core.Path.{_≡_, refl, ap, sym, _∙_}
 use mathlib.Core.Bool.{Bool, true, false, not, _&&_}
 use mathlib.Core.List.{List, [], _∷_, _++_, append-nil, append-assoc}
 use mathlib.Core.Option.{Option, none, some}
-use Prim.Native.Nat.{ℕ, zero, suc, _+_, _-_, _*_, _/_, _%_, _≤_, _<_}
+use Prim.Native.Nat.{ℕ, _+_, _-_, _*_, _≤_, _<_}
 use native.Mathlib.Numerals.{add-one}
 use native.Mathlib.Omega.{arith}
-use lib.ListN.{length, getD, take, drop, length-append, length-take, drop-of-length-le}
-use lib.Seq.{drop-cons, take-suc, take-suc-set, getD-take, ext-getD, length-take-le}
+use lib.ListN.{length, getD, drop, length-append, drop-of-length-le}
+use lib.Seq.{drop-cons}
 use lib.Dec.{eqb, leb}
-use borrow.Author.Tests.{le-leb, lt-leb, leb-false, leb-true, eq-eqb, ne-eqb}
-use Rattle.lists.specs.Tests.{if_then_else_, between}
-use Rattle.memory.specs.Words.{wordAt, setWord, length-setWord, word-same, word-other}
-use Rattle.tape.specs.Tape.{wordsOf, length-words, word-is}
-use Rattle.lines.specs.Lines.{fields, atMost, digit, digits, begins, number, also, numbers, upTo, hexDigit, pair, pairs, contents}
-use Rattle.lines.specs.Said.{words, bytes}
-use Rattle.lines.specs.Fields.{after, Cut, after-blank, after-end}
+use borrow.Author.Tests.{le-leb, lt-leb}
+use Rattle.lists.specs.Tests.{between}
+use Rattle.lines.specs.Lines.{atMost, digit, digits, begins, number, also, upTo, hexDigit, pair}
 
 -- ---- Bounds
 
@@ -29,6 +25,7 @@ pub most-out : (m v : ℕ) → m < v → atMost m (some v) ≡ none
 unfolding atMost
 most-out m v h = rw (lt-leb v m h)
 
+-- none is none within any bound
 pub most-none : (m : ℕ) → atMost m none ≡ none
 unfolding atMost
 most-none m = refl
@@ -38,6 +35,7 @@ pub up-in : (n : ℕ) (vs : List ℕ) → length vs ≤ n → upTo n (some vs) �
 unfolding upTo
 up-in n vs h = rw (le-leb (length vs) n h)
 
+-- none is none within any bound
 pub up-none : (n : ℕ) → upTo n none ≡ none
 unfolding upTo
 up-none n = refl
@@ -48,14 +46,17 @@ unfolding upTo
 up-out n vs h = rw (lt-leb (length vs) n h)
 
 module _ (a z x : ℕ) where
+  -- x lies between a and z
   pub between-in : a ≤ x → x ≤ z → between a z x ≡ true
   unfolding between
   between-in h k = rw (le-leb a x h, le-leb x z k)
 
+  -- x lies below a
   pub between-low : x < a → between a z x ≡ false
   unfolding between
   between-low h = rw (lt-leb a x h)
 
+  -- x lies above z
   pub between-high : z < x → between a z x ≡ false
   unfolding between
   between-high h = rw (lt-leb x z h) (never (leb a x))
@@ -72,24 +73,27 @@ module _ (x : ℕ) where
   unfolding digit
   digit-in h k = rw (between-in 48 57 x h k)
 
-  -- a byte below, and one above
+  -- a byte below 0
   pub digit-low : x < 48 → digit x ≡ none
   unfolding digit
   digit-low h = rw (between-low 48 57 x h)
 
+  -- a byte above 9
   pub digit-high : 57 < x → digit x ≡ none
   unfolding digit
   digit-high h = rw (between-high 48 57 x h)
 
-  -- a byte from a to f, one below, and one above
+  -- a byte from a to f
   pub hex-in : 97 ≤ x → x ≤ 102 → hexDigit x ≡ some (x - 87)
   unfolding hexDigit
   hex-in h k = rw (between-in 97 102 x h k)
 
+  -- a byte below a
   pub hex-low : x < 97 → hexDigit x ≡ digit x
   unfolding hexDigit
   hex-low h = rw (between-low 97 102 x h)
 
+  -- a byte above f
   pub hex-high : 102 < x → hexDigit x ≡ digit x
   unfolding hexDigit
   hex-high h = rw (between-high 97 102 x h)
@@ -127,20 +131,24 @@ unfoldable pub behind : List ℕ → Option (List ℕ) → Option (List ℕ)
 behind xs none = none
 behind xs (some ys) = some (xs ++ ys)
 
+-- behind nothing
 pub behind-none : (o : Option (List ℕ)) → behind [] o ≡ o
 unfolding behind
 behind-none none = refl
 behind-none (some ys) = refl
 
+-- nothing behind xs
 pub behind-all : (xs : List ℕ) → behind xs (some []) ≡ some xs
 unfolding behind
 behind-all xs = ap some (append-nil xs)
 
+-- an element more in front
 pub behind-more : (xs : List ℕ) (v : ℕ) (o : Option (List ℕ)) → behind xs (also (some v) o) ≡ behind (xs ++ (v ∷ [])) o
 unfolding behind also
 behind-more xs v none = refl
 behind-more xs v (some ys) = ap some (sym (append-assoc xs (v ∷ []) ys))
 
+-- an element that is none
 pub behind-not : (xs : List ℕ) (o : Option (List ℕ)) → behind xs (also none o) ≡ none
 unfolding behind also
 behind-not xs o = refl
@@ -163,14 +171,17 @@ pub untold : {o : Option ℕ} (m r : ℕ) → atMost m (some r) ≡ o → m < r 
 untold m r e h = sym e ∙ most-out m r h
 
 module _ (x y h l : ℕ) (p : atMost 15 (some h) ≡ hexDigit x) (q : atMost 15 (some l) ≡ hexDigit y) where
+  -- both digits are there
   pub pair-told : h ≤ 15 → l ≤ 15 → atMost 255 (some (h * 16 + l)) ≡ pair (hexDigit x) (hexDigit y)
   unfolding pair
   pair-told u v = rw (told 15 h p u, told 15 l q v) (most-in 255 (h * 16 + l) (omega arith))
 
+  -- the high digit is none
   pub pair-high : 15 < h → pair (hexDigit x) (hexDigit y) ≡ none
   unfolding pair
   pair-high u = rw (untold 15 h p u)
 
+  -- the low digit is none
   pub pair-low : 15 < l → pair (hexDigit x) (hexDigit y) ≡ none
   pair-low v = rw (untold 15 l q v) (go (hexDigit x))
     where
@@ -178,24 +189,26 @@ module _ (x y h l : ℕ) (p : atMost 15 (some h) ≡ hexDigit x) (q : atMost 15 
       go none = unfold pair in refl
       go (some d) = unfold pair in refl
 
--- fewer than two digits, and more
+-- fewer than two digits
 pub begins-short : (s : List ℕ) → length s < 2 → begins s ≡ eqb (length s) 1
 unfolding begins
 begins-short [] h = refl
 begins-short (x ∷ []) h = refl
 begins-short (x ∷ y ∷ ys) h = absurd (omega arith)
 
+-- two digits or more
 pub begins-long : (s : List ℕ) → 1 < length s → begins s ≡ not (eqb (getD s 0 0) 48)
 unfolding begins
 begins-long [] h = absurd (omega arith)
 begins-long (x ∷ []) h = absurd (omega arith)
 begins-long (x ∷ y ∷ ys) h = refl
 
--- a number begins as one does
+-- what begins as a number is one if its digits say one
 pub number-in : (s : List ℕ) → begins s ≡ true → number s ≡ atMost 65535 (digits 0 s)
 unfolding number
 number-in s e = rw e
 
+-- what does not is none
 pub number-not : (s : List ℕ) → begins s ≡ false → number s ≡ none
 unfolding number
 number-not s e = rw e

@@ -2,27 +2,27 @@
 use mathlib.Core.Path.{_≡_, refl, ap, sym, _∙_}
 use mathlib.Core.List.{List, [], _∷_, _++_}
 use mathlib.Core.Option.{Option, none, some}
-use Prim.Native.Nat.{ℕ, zero, suc, _+_, _-_, _*_, _/_, _≤_, _<_}
+use Prim.Native.Nat.{ℕ, suc, _+_, _-_, _*_, _/_, _≤_, _<_}
 use native.Mathlib.Numerals.{add-one}
 use native.Mathlib.Omega.{arith}
 use native.Mathlib.Decide.{decLt}
 use lib.ListN.{length, getD, take, drop, set, length-set, drop-of-length-le}
 use lib.Seq.{drop-cons, take-suc, take-suc-set, getD-take, ext-getD, length-take-le}
-use lib.Dec.{eqb, leb}
-use borrow.Author.Tests.{le-leb, lt-leb, eq-eqb, ne-eqb}
+use borrow.Author.Tests.{le-leb, lt-leb, ne-eqb}
 use Rattle.memory.specs.Words.{wordAt, setWord, length-setWord, word-same, word-other}
 use Rattle.tape.specs.Tape.{wordsOf, length-words, word-is}
-use Rattle.lines.specs.Lines.{fields, atMost, number, also, numbers, upTo, hexDigit, pair, pairs, contents}
+use Rattle.lines.specs.Lines.{atMost, number, also, numbers, upTo, hexDigit, pair, pairs, contents}
 use Rattle.lines.specs.Said.{words, bytes}
 use Rattle.lines.specs.Fields.{after, Cut, after-blank, after-end}
 use Rattle.lines.specs.Numbers.{behind, behind-none, behind-all, behind-more, behind-not, behind-over, up-in, up-out, up-none, told, untold}
 
 -- ---- Words
 
--- the first k words, read one by one
+-- the first k words are k
 pub length-first : (k : ℕ) (t : List ℕ) → k ≤ length t / 2 → length (take k (wordsOf t)) ≡ k
 length-first k t h = length-take-le k (wordsOf t) (rw (length-words t) h)
 
+-- each of them is a word of the bytes
 pub first-is : (k i : ℕ) (t : List ℕ) → i < k → k ≤ length t / 2 → getD (take k (wordsOf t)) i 0 ≡ wordAt t i
 first-is k i t h u = getD-take k (wordsOf t) i 0 h ∙ word-is t i (omega arith)
 
@@ -48,10 +48,12 @@ words-more t k v h fits = rw (add-one k, take-suc (wordsOf t′) k 0 (rw (length
         one : (i : ℕ) → i < k → getD (take k (wordsOf t′)) i 0 ≡ getD (take k (wordsOf t)) i 0
         one i l = first-is k i t′ l (omega (arith, here)) ∙ word-other t k v i (λ e. omega arith) ∙ sym (first-is k i t l (omega arith))
 
+-- k words are there
 pub words-in : (k : ℕ) (t : List ℕ) → k ≤ length t / 2 → words k t ≡ some (take k (wordsOf t))
 unfolding words
 words-in k t h = rw (le-leb k (length t / 2) h)
 
+-- fewer are there
 pub words-out : (k : ℕ) (t : List ℕ) → length t / 2 < k → words k t ≡ none
 unfolding words
 words-out k t h = rw (lt-leb k (length t / 2) h)
@@ -62,6 +64,7 @@ pub record Stored (l : List ℕ) (at : ℕ) (t₀ t : List ℕ) (i k : ℕ) : Ty
   pub few : k ≤ length t₀ / 2
   pub said : numbers (after (drop at l)) ≡ behind (take k (wordsOf t)) (numbers (after (drop i l)))
 
+-- at first none is stored
 pub stored-none : (l : List ℕ) (at : ℕ) (t : List ℕ) → Stored l at t t at 0
 stored-none l at t = record { kept = refl; few = omega arith; said = sym (behind-none (numbers (after (drop at l)))) }
 
@@ -125,10 +128,12 @@ unfolding contents
 contents-none [] e = refl
 contents-none (x ∷ xs) e = rw e (up-none 1024)
 
+-- 0 stands for none
 pub bytes-none : (t : List ℕ) → bytes 0 t ≡ none
 unfolding bytes
 bytes-none t = refl
 
+-- any other k for the first k bytes
 pub bytes-some : (k : ℕ) (t : List ℕ) → 0 < k → bytes k t ≡ some (take k t)
 unfolding bytes
 bytes-some k t h = rw (ne-eqb k 0 (λ e. omega arith))
@@ -143,6 +148,7 @@ contents-not (x ∷ xs) t h = bytes-none t ∙ sym (go (pairs (x ∷ xs)) (halve
     go none q = up-none 1024
     go (some bs) q = elim (decLt 1024 (length bs)) [ yes l ↦ up-out 1024 bs l | no l ↦ absurd (h (length bs) q (omega arith)) ]
 
+-- at first none is stored
 pub paired-none : (s t : List ℕ) → Paired s t t 0
 paired-none s t = record { kept = refl; said = sym (behind-none (pairs s)) }
 

@@ -1,4 +1,4 @@
-// What a line of a session says.
+// What a line of a session says. A line is told by the letter that is its first field; numbers and contents are stored in lent bytes.
 use memory::Shape;
 ghost use mathlib.Core.Path.{_≡_};
 ghost use mathlib.Core.List.{List};
@@ -9,10 +9,10 @@ ghost use Rattle.lines.specs.Lines.{lineOf, tapeOf, atMost, number as nu
 ghost use Rattle.lines.specs.Said.{said, words, bytes};
 ghost use Rattle.lines.specs.Fields.{after, Cut, Led};
 
+// What a line asks for. Of a write: its block, and how many bytes its contents are.
 pub enum Line {
     Open(Shape),
     Read(usize),
-    // A write's block, and how many bytes its contents are.
     Write(usize, usize),
     Turn,
     Collect,
@@ -40,7 +40,7 @@ fn hex(x: u8) -> usize
     }
 }
 
-// Where the field from place `from` on ends.
+// Where the field that starts at place `from` ends: at the next blank, or with the line.
 fn end(line: &[u8], from: usize) -> usize
     requires { ⌜ from ≤ length (now line) ⌝ }
     ensures { λ r. ⌜ Cut (now (line .entry)) from r ⌝ }
@@ -69,7 +69,7 @@ fn letter(line: &[u8]) -> u8
     if line[1] == b' ' { line[0] } else { b' ' }
 }
 
-// Whether digits begin as those of a number do.
+// Whether there is a digit, and no needless zero before it.
 fn begins(s: &[u8]) -> bool
     ensures { λ r. ⌜ r ≡ beginsOf (now (s .entry)) ⌝ }
 {
@@ -79,7 +79,7 @@ fn begins(s: &[u8]) -> bool
     s[0] != b'0'
 }
 
-// The number that digits say; 65,536 if it is larger, or a byte is no digit. It is left at once, so that no sum wraps.
+// The number that digits say; 65,536 if it is larger, or a byte is no digit. The first digit too many ends it, so that no sum wraps.
 fn digits(s: &[u8]) -> usize
     ensures { λ r. ⌜ atMost 65535 (some r) ≡ atMost 65535 (digitsOf 0 (now (s .entry))) ⌝ }
 {
@@ -121,7 +121,8 @@ fn pair(a: u8, b: u8) -> usize
     h * 16 + l
 }
 
-// Stores the numbers that the fields behind place `at` say, and tells how many. One more than there is room for: there are more, or a field says none.
+// Stores the numbers that the fields behind place `at` say, two bytes each, and tells how many; one more than there is room for if there are more,
+// or a field says none.
 fn numbers(line: &[u8], at: usize, room: &mut [u8]) -> usize
     ensures { λ r. ⌜ words r (now (room .exit)) ≡ upTo (length (now (room .entry)) / 2) (numbersOf (after (drop at (now (line .entry))))) ⌝ }
 {
@@ -131,14 +132,14 @@ fn numbers(line: &[u8], at: usize, room: &mut [u8]) -> usize
     while i < line.len() {
         let from = i + 1;
         let e = end(line, from);
-        let v = number(&line[from..e]);
-        if 65535 < v {
+        let x = number(&line[from..e]);
+        if 65535 < x {
             return most + 1;
         }
         if k == most {
             return most + 1;
         }
-        memory::set_word(room, k, v);
+        memory::set_word(room, k, x);
         k += 1;
         i = e;
     }
@@ -170,6 +171,7 @@ fn contents(s: &[u8], room: &mut [u8]) -> usize
     n
 }
 
+// O: six numbers.
 fn open_line(line: &[u8]) -> Line
     ensures { λ r. ⌜ ((b : List ℕ) → said r b ≡ opened (numbersOf (after (drop 1 (now (line .entry)))))) ⌝ }
 {
@@ -188,7 +190,8 @@ fn open_line(line: &[u8]) -> Line
     })
 }
 
-fn request_line(line: &[u8]) -> Line
+// R: a block.
+fn block_line(line: &[u8]) -> Line
     ensures { λ r. ⌜ ((b : List ℕ) → said r b ≡ read (numbersOf (after (drop 1 (now (line .entry)))))) ⌝ }
 {
     let mut room = [0u8; 2];
@@ -199,6 +202,7 @@ fn request_line(line: &[u8]) -> Line
     Line::Read(memory::word(&room, 0))
 }
 
+// W: a block and contents.
 fn write_line(line: &[u8], room: &mut [u8]) -> Line
     requires { ⌜ length (now room) ≡ 1024 ⌝ }
     ensures { λ r. ⌜ said r (now (room .exit)) ≡ written (after (drop 1 (now (line .entry)))) ⌝ }
@@ -227,7 +231,7 @@ fn write_line(line: &[u8], room: &mut [u8]) -> Line
     Line::Write(b, k)
 }
 
-// The answer to a line that is a letter alone.
+// t and C: the letter alone, which says r.
 fn bare_line(line: &[u8], r: Line) -> Line
     ensures { λ s. ⌜ ((b : List ℕ) → said s b ≡ bare (said r b) (after (drop 1 (now (line .entry))))) ⌝ }
 {
@@ -237,7 +241,7 @@ fn bare_line(line: &[u8], r: Line) -> Line
     r
 }
 
-// What a line says that is not the first, or is no tape. Of a write, its contents come first in `room`.
+// What a line says. The contents of a write are the first bytes of `room`.
 pub fn read_line(line: &[u8], room: &mut [u8]) -> Line
     requires { ⌜ length (now room) ≡ 1024 ⌝ }
     ensures { λ r. ⌜ said r (now (room .exit)) ≡ lineOf (now (line .entry)) ⌝ }
@@ -245,7 +249,7 @@ pub fn read_line(line: &[u8], room: &mut [u8]) -> Line
     let x = letter(line);
     match x {
         b'O' => open_line(line),
-        b'R' => request_line(line),
+        b'R' => block_line(line),
         b'W' => write_line(line, room),
         b't' => bare_line(line, Line::Turn),
         b'C' => bare_line(line, Line::Collect),
@@ -253,7 +257,7 @@ pub fn read_line(line: &[u8], room: &mut [u8]) -> Line
     }
 }
 
-// Stores the words of the tape that a first line says, low byte first, and tells how many; 8,193 if it says none.
+// Stores the words of the tape that a first line says, low byte first, and tells how many; 8,193 if it is no T, or malformed.
 pub fn read_tape(line: &[u8], tape: &mut [u8]) -> usize
     requires { ⌜ length (now tape) ≡ 16384 ⌝ }
     ensures { λ r. ⌜ words r (now (tape .exit)) ≡ tapeOf (now (line .entry)) ⌝ }

@@ -2,7 +2,6 @@ use mathlib.Core.Path.{_≡_}
 use Prim.Native.Nat.{_/_, _≤_, _-_}
 use native.Mathlib.Omega.{arith}
 use lib.ListN.{length}
-use borrow.Author.Needs.{needs}
 use Rattle.lines.specs.Stored.{Paired, paired-none, paired-all, paired-more, paired-not, contents-not}
 use Rattle.lines.proofs.contents.Statement.{statement}
 use Rattle.lines.proofs.contents.Tie as tie
@@ -14,7 +13,7 @@ abbrev μ-loop : tie.MeasureT-loop
 μ-loop s room₀ n k₀ room k = n - k
 
 mul-if1 : tie.Need-mul-if1 Inv-loop μ-loop
-mul-if1 c = search needs
+mul-if1 c = omega arith
 
 returns : tie.Need-returns Inv-loop μ-loop
 returns c = contents-not _ _ (λ n e u. c .if1 .taken (omega arith))
@@ -26,37 +25,37 @@ loop-holds : tie.Need-loop-holds Inv-loop μ-loop
 loop-holds c = (omega arith, paired-none _ _)
 
 mul-at : tie.Need-mul-at Inv-loop μ-loop
-mul-at c = search needs
+mul-at c = omega arith
 
 shared-slice-read-pair : tie.Need-shared-slice-read-pair Inv-loop μ-loop
-shared-slice-read-pair c = search needs
+shared-slice-read-pair c = omega arith
 
 add-pair : tie.Need-add-pair Inv-loop μ-loop
-add-pair c = search needs
+add-pair c = omega arith
 
 shared-slice-read-pair-2 : tie.Need-shared-slice-read-pair-2 Inv-loop μ-loop
-shared-slice-read-pair-2 c = search needs
+shared-slice-read-pair-2 c = omega arith
 
 pair-requires : tie.Need-pair-requires Inv-loop μ-loop
-pair-requires c κs = search needs
+pair-requires c κs = omega arith
 
 same-length : tie.Need-same-length Inv-loop μ-loop
-same-length c = search needs
+same-length c = omega arith
 
 returns-3 : tie.Need-returns-3 Inv-loop μ-loop
 returns-3 c = let l = c .before .before .before .before .before .loop in paired-not _ _ _ (l .k) (l .inv .1) (c .before .pair .result) (omega arith) (c .before .pair .ensures) (omega arith)
 
 cast-room : tie.Need-cast-room Inv-loop μ-loop
-cast-room c = search needs
+cast-room c = omega arith
 
 slice-write-room : tie.Need-slice-write-room Inv-loop μ-loop
-slice-write-room c = search needs
+slice-write-room c = omega arith
 
 add-k : tie.Need-add-k Inv-loop μ-loop
-add-k c = search needs
+add-k c = omega arith
 
 loop-less : tie.Need-loop-less Inv-loop μ-loop
-loop-less c = search needs
+loop-less c = omega arith
 
 loop-again : tie.Need-loop-again Inv-loop μ-loop
 loop-again c =
@@ -64,7 +63,7 @@ loop-again c =
     (omega arith, paired-more _ _ _ (l .k) (l .inv .1) (c .before .pair .result) (omega arith) (c .before .pair .ensures) (omega arith) (omega arith))
 
 same-length-2 : tie.Need-same-length-2 Inv-loop μ-loop
-same-length-2 c = search needs
+same-length-2 c = omega arith
 
 returns-4 : tie.Need-returns-4 Inv-loop μ-loop
 returns-4 c =

@@ -2,7 +2,6 @@ use mathlib.Core.Path.{_≡_, refl, sym, ap, _∙_}
 use Prim.Native.Nat.{_≤_, _-_}
 use native.Mathlib.Omega.{arith}
 use lib.ListN.{length, drop}
-use borrow.Author.Needs.{needs}
 use Rattle.lines.specs.Lines.{atMost, digits as digitsOf}
 use Rattle.lines.specs.Numbers.{most-out, most-none, told, untold, digits-more, digits-not, digits-end, digits-large}
 use Rattle.lines.proofs.digits.Statement.{statement}
@@ -18,10 +17,10 @@ loop-holds : tie.Need-loop-holds Inv-loop μ-loop
 loop-holds c = (omega arith, omega arith, refl)
 
 shared-slice-read-digit : tie.Need-shared-slice-read-digit Inv-loop μ-loop
-shared-slice-read-digit c = search needs
+shared-slice-read-digit c = omega arith
 
 digit-requires : tie.Need-digit-requires Inv-loop μ-loop
-digit-requires c κs = search needs
+digit-requires c κs = omega arith
 
 returns : tie.Need-returns Inv-loop μ-loop
 returns c =
@@ -41,10 +40,10 @@ returns-2 c =
     most-out 65535 65536 (omega arith) ∙ sym (ap (atMost 65535) (l .inv .2 ∙ digits-more (l .v) _ (l .i) _ (omega arith) (told 9 _ (c .before .before .digit .ensures) t)) ∙ digits-large 65535 _ _ (c .if2 .taken))
 
 add-i : tie.Need-add-i Inv-loop μ-loop
-add-i c = search needs
+add-i c = omega arith
 
 loop-less : tie.Need-loop-less Inv-loop μ-loop
-loop-less c = search needs
+loop-less c = omega arith
 
 loop-again : tie.Need-loop-again Inv-loop μ-loop
 loop-again c =

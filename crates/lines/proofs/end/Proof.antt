@@ -2,7 +2,6 @@ use mathlib.Core.Path.{_≡_}
 use Prim.Native.Nat.{ℕ, _≤_, _-_, _<_}
 use native.Mathlib.Omega.{arith}
 use lib.ListN.{length, getD}
-use borrow.Author.Needs.{needs}
 use Rattle.lines.specs.Fields.{cut, clear-more}
 use Rattle.lines.proofs.end.Statement.{statement}
 use Rattle.lines.proofs.end.Tie as tie
@@ -14,10 +13,10 @@ abbrev μ-loop : tie.MeasureT-loop
 μ-loop line from i₀ i = length line - i
 
 loop-holds : tie.Need-loop-holds Inv-loop μ-loop
-loop-holds c = search needs
+loop-holds c = omega arith
 
 shared-slice-read-if1 : tie.Need-shared-slice-read-if1 Inv-loop μ-loop
-shared-slice-read-if1 c = search needs
+shared-slice-read-if1 c = omega arith
 
 returns : tie.Need-returns Inv-loop μ-loop
 returns c =
@@ -25,10 +24,10 @@ returns c =
     cut _ _ (l .i) (omega arith) (omega arith) (l .inv .2) (λ k. c .if1 .taken)
 
 add-i : tie.Need-add-i Inv-loop μ-loop
-add-i c = search needs
+add-i c = omega arith
 
 loop-less : tie.Need-loop-less Inv-loop μ-loop
-loop-less c = search needs
+loop-less c = omega arith
 
 loop-again : tie.Need-loop-again Inv-loop μ-loop
 loop-again c = let l = c .before .before .before .loop in (omega arith, omega arith, clear-more (c .before .before .before .before .args .line .now) _ (l .i) (l .inv .2) (c .if1 .left))

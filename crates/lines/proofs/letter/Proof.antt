@@ -1,5 +1,4 @@
 use native.Mathlib.Omega.{arith}
-use borrow.Author.Needs.{needs}
 use Rattle.lines.specs.Fields.{led-none, led-long, led-alone}
 use Rattle.lines.proofs.letter.Statement.{statement}
 use Rattle.lines.proofs.letter.Tie as tie
@@ -8,16 +7,16 @@ returns : tie.Need-returns
 returns c = led-none _ (c .if1 .taken)
 
 shared-slice-read-result : tie.Need-shared-slice-read-result
-shared-slice-read-result c = search needs
+shared-slice-read-result c = omega arith
 
 returns-2 : tie.Need-returns-2
 returns-2 c = led-alone _ (omega arith) (λ k. absurd (omega arith))
 
 shared-slice-read-if3 : tie.Need-shared-slice-read-if3
-shared-slice-read-if3 c = search needs
+shared-slice-read-if3 c = omega arith
 
 shared-slice-read-result-2 : tie.Need-shared-slice-read-result-2
-shared-slice-read-result-2 c = search needs
+shared-slice-read-result-2 c = omega arith
 
 returns-3 : tie.Need-returns-3
 returns-3 c = led-alone _ (omega arith) (λ k. c .before .if3 .taken)

@@ -1,15 +1,14 @@
 use mathlib.Core.Path.{sym, _∙_}
 use native.Mathlib.Omega.{arith}
-use borrow.Author.Needs.{needs}
 use Rattle.lines.specs.Numbers.{most-out, number-in, number-not}
 use Rattle.lines.proofs.number.Statement.{statement}
 use Rattle.lines.proofs.number.Tie as tie
 
 begins-requires : tie.Need-begins-requires
-begins-requires c κs = search needs
+begins-requires c κs = omega arith
 
 digits-requires : tie.Need-digits-requires
-digits-requires c κs = search needs
+digits-requires c κs = omega arith
 
 returns : tie.Need-returns
 returns c = c .digits .ensures ∙ sym (number-in _ (sym (c .before .before .begins .ensures) ∙ c .before .if1 .taken))

@@ -2,7 +2,6 @@ use mathlib.Core.Path.{_≡_, refl}
 use Prim.Native.Nat.{_/_, _-_}
 use native.Mathlib.Omega.{arith}
 use lib.ListN.{length}
-use borrow.Author.Needs.{needs}
 use Rattle.lines.specs.Stored.{Stored, stored-none, stored-all, stored-more, stored-not, stored-over}
 use Rattle.lines.proofs.numbers.Statement.{statement}
 use Rattle.lines.proofs.numbers.Tie as tie
@@ -17,49 +16,49 @@ loop-holds : tie.Need-loop-holds Inv-loop μ-loop
 loop-holds c = (refl, stored-none _ _ _)
 
 add-from : tie.Need-add-from Inv-loop μ-loop
-add-from c = search needs
+add-from c = omega arith
 
 end-requires : tie.Need-end-requires Inv-loop μ-loop
-end-requires c κs = search needs
+end-requires c κs = omega arith
 
 sub-number : tie.Need-sub-number Inv-loop μ-loop
-sub-number c = search needs
+sub-number c = omega arith
 
 part-number-start : tie.Need-part-number-start Inv-loop μ-loop
-part-number-start c = search needs
+part-number-start c = omega arith
 
 part-number-end : tie.Need-part-number-end Inv-loop μ-loop
-part-number-end c = search needs
+part-number-end c = omega arith
 
 number-requires : tie.Need-number-requires Inv-loop μ-loop
-number-requires c κs = search needs
+number-requires c κs = omega arith
 
 add-result : tie.Need-add-result Inv-loop μ-loop
-add-result c = search needs
+add-result c = omega arith
 
 same-length : tie.Need-same-length Inv-loop μ-loop
-same-length c = search needs
+same-length c = omega arith
 
 returns : tie.Need-returns Inv-loop μ-loop
 returns c = let l = c .before .before .before .before .before .loop in stored-not _ _ _ _ (l .i) (l .k) (l .inv .1) (c .before .before .before .end .result) (c .before .number .result) (omega arith) (c .before .before .before .end .ensures) (c .before .number .ensures) (omega arith)
 
 add-result-2 : tie.Need-add-result-2 Inv-loop μ-loop
-add-result-2 c = search needs
+add-result-2 c = omega arith
 
 same-length-2 : tie.Need-same-length-2 Inv-loop μ-loop
-same-length-2 c = search needs
+same-length-2 c = omega arith
 
 returns-2 : tie.Need-returns-2 Inv-loop μ-loop
 returns-2 c = let l = c .before .before .before .before .before .before .loop in stored-over _ _ _ _ (l .i) (l .k) (l .inv .1) (c .before .before .before .before .end .result) (c .before .before .number .result) (omega arith) (c .before .before .before .before .end .ensures) (c .before .before .number .ensures) (omega arith)
 
 set-word-requires : tie.Need-set-word-requires Inv-loop μ-loop
-set-word-requires c κs = search needs
+set-word-requires c κs = omega arith
 
 add-k : tie.Need-add-k Inv-loop μ-loop
-add-k c = search needs
+add-k c = omega arith
 
 loop-less : tie.Need-loop-less Inv-loop μ-loop
-loop-less c = search needs
+loop-less c = omega arith
 
 loop-again : tie.Need-loop-again Inv-loop μ-loop
 loop-again c =
@@ -68,7 +67,7 @@ loop-again c =
     (refl, rw (c .before .before .set-word .ensures) (stored-more _ _ _ _ (l .i) (l .k) (l .inv .1) (f .result) (c .before .before .before .before .before .before .number .result) (omega arith) (f .ensures) (c .before .before .before .before .before .before .number .ensures) (omega arith) (omega arith)))
 
 same-length-3 : tie.Need-same-length-3 Inv-loop μ-loop
-same-length-3 c = search needs
+same-length-3 c = omega arith
 
 returns-3 : tie.Need-returns-3 Inv-loop μ-loop
 returns-3 c = let l = c .before .loop in stored-all _ _ _ _ (l .i) (l .k) (l .inv .1) (omega arith)

@@ -1,54 +1,53 @@
 use mathlib.Core.Path.{sym}
 use native.Mathlib.Omega.{arith}
-use borrow.Author.Needs.{needs}
 use Rattle.lines.specs.Told.{opened-six, opened-not}
 use Rattle.lines.proofs.open_line.Statement.{statement}
 use Rattle.lines.proofs.open_line.Tie as tie
 
 slice-aggregate-numbers : tie.Need-slice-aggregate-numbers
-slice-aggregate-numbers c = search needs
+slice-aggregate-numbers c = omega arith
 
 numbers-requires : tie.Need-numbers-requires
-numbers-requires c κs = search needs
+numbers-requires c κs = omega arith
 
 returns : tie.Need-returns
 returns c b = let n = c .before .before .numbers in sym (opened-not (n .result) (n .last .1 .1 .0) (omega arith) _ (n .ensures) (c .if1 .taken))
 
 slice-aggregate-word : tie.Need-slice-aggregate-word
-slice-aggregate-word c = search needs
+slice-aggregate-word c = omega arith
 
 word-requires : tie.Need-word-requires
-word-requires c κs = search needs
+word-requires c κs = omega arith
 
 slice-aggregate-word-2 : tie.Need-slice-aggregate-word-2
-slice-aggregate-word-2 c = search needs
+slice-aggregate-word-2 c = omega arith
 
 word-requires-2 : tie.Need-word-requires-2
-word-requires-2 c κs = search needs
+word-requires-2 c κs = omega arith
 
 slice-aggregate-word-3 : tie.Need-slice-aggregate-word-3
-slice-aggregate-word-3 c = search needs
+slice-aggregate-word-3 c = omega arith
 
 word-requires-3 : tie.Need-word-requires-3
-word-requires-3 c κs = search needs
+word-requires-3 c κs = omega arith
 
 slice-aggregate-word-4 : tie.Need-slice-aggregate-word-4
-slice-aggregate-word-4 c = search needs
+slice-aggregate-word-4 c = omega arith
 
 word-requires-4 : tie.Need-word-requires-4
-word-requires-4 c κs = search needs
+word-requires-4 c κs = omega arith
 
 slice-aggregate-word-5 : tie.Need-slice-aggregate-word-5
-slice-aggregate-word-5 c = search needs
+slice-aggregate-word-5 c = omega arith
 
 word-requires-5 : tie.Need-word-requires-5
-word-requires-5 c κs = search needs
+word-requires-5 c κs = omega arith
 
 slice-aggregate-word-6 : tie.Need-slice-aggregate-word-6
-slice-aggregate-word-6 c = search needs
+slice-aggregate-word-6 c = omega arith
 
 word-requires-6 : tie.Need-word-requires-6
-word-requires-6 c κs = search needs
+word-requires-6 c κs = omega arith
 
 returns-2 : tie.Need-returns-2
 returns-2 c b =

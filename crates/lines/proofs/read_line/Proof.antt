@@ -1,28 +1,27 @@
 use mathlib.Core.Path.{sym, _∙_}
 use native.Mathlib.Omega.{arith}
-use borrow.Author.Needs.{needs}
 use Rattle.lines.specs.Told.{line-by, line-none}
 use Rattle.lines.specs.Lines.{byLetter}
 use Rattle.lines.proofs.read_line.Statement.{statement}
 use Rattle.lines.proofs.read_line.Tie as tie
 
 letter-requires : tie.Need-letter-requires
-letter-requires c κs = search needs
+letter-requires c κs = omega arith
 
 open-line-requires : tie.Need-open-line-requires
-open-line-requires c κs = search needs
+open-line-requires c κs = omega arith
 
-request-line-requires : tie.Need-request-line-requires
-request-line-requires c κs = search needs
+block-line-requires : tie.Need-block-line-requires
+block-line-requires c κs = omega arith
 
 write-line-requires : tie.Need-write-line-requires
-write-line-requires c κs = search needs
+write-line-requires c κs = omega arith
 
 bare-line-requires : tie.Need-bare-line-requires
-bare-line-requires c κs = search needs
+bare-line-requires c κs = omega arith
 
 bare-line-requires-2 : tie.Need-bare-line-requires-2
-bare-line-requires-2 c κs = search needs
+bare-line-requires-2 c κs = omega arith
 
 returns : tie.Need-returns
 unfolding byLetter
@@ -30,10 +29,10 @@ returns c = c .open-line .ensures _ ∙ sym (line-by _ _ (c .before .before .let
 
 returns-2 : tie.Need-returns-2
 unfolding byLetter
-returns-2 c = c .request-line .ensures _ ∙ sym (line-by _ _ (c .before .before .letter .ensures) 82 (c .before .match .keys2) (λ e. omega arith))
+returns-2 c = c .block-line .ensures _ ∙ sym (line-by _ _ (c .before .before .letter .ensures) 82 (c .before .match .keys2) (λ e. omega arith))
 
 same-length : tie.Need-same-length
-same-length c = search needs
+same-length c = omega arith
 
 returns-3 : tie.Need-returns-3
 unfolding byLetter
@@ -56,7 +55,7 @@ read-line-spec =
     (tie.spec
     letter-requires
     open-line-requires
-    request-line-requires
+    block-line-requires
     write-line-requires
     bare-line-requires
     bare-line-requires-2

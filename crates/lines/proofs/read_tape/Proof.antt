@@ -2,7 +2,6 @@ use mathlib.Core.Path.{_≡_, sym, ap, _∙_}
 use Prim.Native.Nat.{_/_}
 use native.Mathlib.Omega.{arith}
 use lib.ListN.{length, drop}
-use borrow.Author.Needs.{needs}
 use Rattle.lines.specs.Lines.{upTo, numbers as numbersOf}
 use Rattle.lines.specs.Fields.{after}
 use Rattle.lines.specs.Told.{tape-by, tape-none}
@@ -11,13 +10,13 @@ use Rattle.lines.proofs.read_tape.Statement.{statement}
 use Rattle.lines.proofs.read_tape.Tie as tie
 
 letter-requires : tie.Need-letter-requires
-letter-requires c κs = search needs
+letter-requires c κs = omega arith
 
 numbers-requires : tie.Need-numbers-requires
-numbers-requires c κs = search needs
+numbers-requires c κs = omega arith
 
 same-length : tie.Need-same-length
-same-length c = search needs
+same-length c = omega arith
 
 returns : tie.Need-returns
 returns c =

@@ -1,6 +1,5 @@
 use mathlib.Core.Path.{sym, _∙_}
 use native.Mathlib.Omega.{arith}
-use borrow.Author.Needs.{needs}
 use Rattle.lines.specs.Told.{written-none, written-one, written-two, written-three, stored-number, stored-nothing, stored-both}
 use Rattle.lines.proofs.write_line.Statement.{statement}
 use Rattle.lines.proofs.write_line.Tie as tie
@@ -9,49 +8,49 @@ returns : tie.Need-returns
 returns c = sym (written-none (c .before .before .before .args .line .now) (omega arith))
 
 end-requires : tie.Need-end-requires
-end-requires c κs = search needs
+end-requires c κs = omega arith
 
 returns-2 : tie.Need-returns-2
 returns-2 c = sym (written-one (c .before .before .before .before .before .args .line .now) _ (omega arith) (c .before .end .ensures) (c .if2 .taken))
 
 add-a : tie.Need-add-a
-add-a c = search needs
+add-a c = omega arith
 
 end-requires-2 : tie.Need-end-requires-2
-end-requires-2 c κs = search needs
+end-requires-2 c κs = omega arith
 
 returns-3 : tie.Need-returns-3
 returns-3 c = sym (written-three (c .before .before .before .before .before .before .before .args .line .now) _ (omega arith) (c .before .before .before .end .ensures) _ (omega arith) (c .before .end2 .ensures) (c .if3 .taken))
 
 sub-number : tie.Need-sub-number
-sub-number c = search needs
+sub-number c = omega arith
 
 part-number-start : tie.Need-part-number-start
-part-number-start c = search needs
+part-number-start c = omega arith
 
 part-number-end : tie.Need-part-number-end
-part-number-end c = search needs
+part-number-end c = omega arith
 
 number-requires : tie.Need-number-requires
-number-requires c κs = search needs
+number-requires c κs = omega arith
 
 returns-4 : tie.Need-returns-4
 returns-4 c = sym (written-two (c .before .before .before .before .before .before .before .before .before .before .args .line .now) _ (omega arith) (c .before .before .before .before .before .before .end .ensures) _ (omega arith) (c .before .before .before .before .end2 .ensures) (omega arith) ∙ stored-number _ _ (c .before .number .ensures) (c .if4 .taken))
 
 sub-contents : tie.Need-sub-contents
-sub-contents c = search needs
+sub-contents c = omega arith
 
 part-contents-start : tie.Need-part-contents-start
-part-contents-start c = search needs
+part-contents-start c = omega arith
 
 part-contents-end : tie.Need-part-contents-end
-part-contents-end c = search needs
+part-contents-end c = omega arith
 
 contents-requires : tie.Need-contents-requires
-contents-requires c κs = search needs
+contents-requires c κs = omega arith
 
 same-length : tie.Need-same-length
-same-length c = search needs
+same-length c = omega arith
 
 returns-5 : tie.Need-returns-5
 returns-5 c =
@@ -59,7 +58,7 @@ returns-5 c =
     sym (written-two (c .before .before .before .before .before .before .before .before .before .before .before .before .before .before .before .before .args .line .now) _ (omega arith) (c .before .before .before .before .before .before .before .before .before .before .before .before .end .ensures) _ (omega arith) (c .before .before .before .before .before .before .before .before .before .before .end2 .ensures) (omega arith) ∙ stored-nothing _ (k .result) (k .last .1 .0) (c .before .before .before .before .before .before .before .number .ensures) (omega arith) (k .ensures) (c .if5 .taken))
 
 same-length-2 : tie.Need-same-length-2
-same-length-2 c = search needs
+same-length-2 c = omega arith
 
 returns-6 : tie.Need-returns-6
 returns-6 c =
