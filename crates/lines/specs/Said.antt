@@ -1,7 +1,7 @@
 -- What the code's answers say.
 use mathlib.Core.List.{List}
 use mathlib.Core.Option.{Option, none, some}
-use Prim.Native.Nat.{ℕ, _/_}
+use Prim.Native.Nat.{ℕ, _/_, _≤_, _<_}
 use lib.ListN.{length, take}
 use lib.Dec.{leb, eqb}
 use Rattle.lists.specs.Tests.{if_then_else_}
@@ -20,6 +20,15 @@ said (Write b k) bytes = writes b (take k bytes)
 said Turn bytes = turns
 said Collect bytes = collects
 said Malformed bytes = malformed
+
+-- the ranges of an answer's numbers, for code that counts with them: a write has 1 to 1,024 bytes
+abbrev pub Small : Line → Type 0
+Small (Open h) = (h .n < 65536) × (h .p < 65536) × (h .l < 65536) × (h .b < 65536) × (h .e < 65536) × (h .w < 65536)
+Small (Read b) = b < 65536
+Small (Write b k) = (b < 65536) × (0 < k) × (k ≤ 1024)
+Small Turn = Unit {0}
+Small Collect = Unit {0}
+Small Malformed = Unit {0}
 
 -- the first k words of a tape; none if it has fewer
 unfoldable pub words : ℕ → List ℕ → Option (List ℕ)

@@ -6,7 +6,7 @@ ghost use mathlib.Core.Option.{some};
 ghost use Prim.Native.Nat.{ℕ, _/_, _≤_};
 ghost use lib.ListN.{length, drop};
 ghost use Rattle.lines.specs.Lines.{lineOf, tapeOf, atMost, number as numberOf, digit as digitOf, digits as digitsOf, hexDigit, begins as beginsOf, contents as contentsOf, numbers as numbersOf, upTo, pair as pairOf, opened, read, written, bare};
-ghost use Rattle.lines.specs.Said.{said, words, bytes};
+ghost use Rattle.lines.specs.Said.{said, Small, words, bytes};
 ghost use Rattle.lines.specs.Fields.{after, Cut, Led};
 
 // What a line asks for. Of a write: its block, and how many bytes its contents are.
@@ -149,7 +149,7 @@ fn numbers(line: &[u8], at: usize, room: &mut [u8]) -> usize
 // Stores the bytes that pairs of hexadecimal digits say, and tells how many; 0 if these are no contents.
 fn contents(s: &[u8], room: &mut [u8]) -> usize
     requires { ⌜ length (now room) ≡ 1024 ⌝ }
-    ensures { λ r. ⌜ bytes r (now (room .exit)) ≡ contentsOf (now (s .entry)) ⌝ }
+    ensures { λ r. ⌜ (bytes r (now (room .exit)) ≡ contentsOf (now (s .entry))) × (r ≤ 1024) ⌝ }
 {
     let n = s.len() / 2;
     if s.len() != n * 2 {
@@ -173,7 +173,7 @@ fn contents(s: &[u8], room: &mut [u8]) -> usize
 
 // O: six numbers.
 fn open_line(line: &[u8]) -> Line
-    ensures { λ r. ⌜ ((b : List ℕ) → said r b ≡ opened (numbersOf (after (drop 1 (now (line .entry)))))) ⌝ }
+    ensures { λ r. ⌜ ((b : List ℕ) → said r b ≡ opened (numbersOf (after (drop 1 (now (line .entry)))))) × Small r ⌝ }
 {
     let mut room = [0u8; 12];
     let k = numbers(line, 1, &mut room);
@@ -192,7 +192,7 @@ fn open_line(line: &[u8]) -> Line
 
 // R: a block.
 fn block_line(line: &[u8]) -> Line
-    ensures { λ r. ⌜ ((b : List ℕ) → said r b ≡ read (numbersOf (after (drop 1 (now (line .entry)))))) ⌝ }
+    ensures { λ r. ⌜ ((b : List ℕ) → said r b ≡ read (numbersOf (after (drop 1 (now (line .entry)))))) × Small r ⌝ }
 {
     let mut room = [0u8; 2];
     let k = numbers(line, 1, &mut room);
@@ -205,7 +205,7 @@ fn block_line(line: &[u8]) -> Line
 // W: a block and contents.
 fn write_line(line: &[u8], room: &mut [u8]) -> Line
     requires { ⌜ length (now room) ≡ 1024 ⌝ }
-    ensures { λ r. ⌜ said r (now (room .exit)) ≡ written (after (drop 1 (now (line .entry)))) ⌝ }
+    ensures { λ r. ⌜ (said r (now (room .exit)) ≡ written (after (drop 1 (now (line .entry))))) × Small r ⌝ }
 {
     let n = line.len();
     if n < 2 {
@@ -233,7 +233,8 @@ fn write_line(line: &[u8], room: &mut [u8]) -> Line
 
 // t and C: the letter alone, which says r.
 fn bare_line(line: &[u8], r: Line) -> Line
-    ensures { λ s. ⌜ ((b : List ℕ) → said s b ≡ bare (said r b) (after (drop 1 (now (line .entry))))) ⌝ }
+    requires { ⌜ Small r ⌝ }
+    ensures { λ s. ⌜ ((b : List ℕ) → said s b ≡ bare (said r b) (after (drop 1 (now (line .entry))))) × Small s ⌝ }
 {
     if 1 < line.len() {
         return Line::Malformed;
@@ -244,7 +245,7 @@ fn bare_line(line: &[u8], r: Line) -> Line
 // What a line says. The contents of a write are the first bytes of `room`.
 pub fn read_line(line: &[u8], room: &mut [u8]) -> Line
     requires { ⌜ length (now room) ≡ 1024 ⌝ }
-    ensures { λ r. ⌜ said r (now (room .exit)) ≡ lineOf (now (line .entry)) ⌝ }
+    ensures { λ r. ⌜ (said r (now (room .exit)) ≡ lineOf (now (line .entry))) × Small r ⌝ }
 {
     let x = letter(line);
     match x {

@@ -11,7 +11,7 @@ numbers-requires : tie.Need-numbers-requires
 numbers-requires c κs = omega arith
 
 returns : tie.Need-returns
-returns c b = let n = c .before .before .numbers in sym (read-not (n .result) (n .last .1 .1 .0) (omega arith) _ (n .ensures) (c .if1 .taken))
+returns c = let n = c .before .before .numbers in (λ b. sym (read-not (n .result) (n .last .1 .1 .0) (omega arith) _ (n .ensures) (c .if1 .taken)), tt)
 
 slice-aggregate-word : tie.Need-slice-aggregate-word
 slice-aggregate-word c = omega arith
@@ -20,7 +20,7 @@ word-requires : tie.Need-word-requires
 word-requires c κs = omega arith
 
 returns-2 : tie.Need-returns-2
-returns-2 c b = let n = c .before .before .before .before .numbers in sym (read-one (n .result) (n .last .1 .1 .0) (omega arith) _ (n .ensures) (c .before .before .if1 .left) _ (c .word .ensures .0))
+returns-2 c = let n = c .before .before .before .before .numbers in (λ b. sym (read-one (n .result) (n .last .1 .1 .0) (omega arith) _ (n .ensures) (c .before .before .if1 .left) _ (c .word .ensures .0)), omega arith)
 
 pub block-line-spec : {M : Type 1} → statement M
 block-line-spec =

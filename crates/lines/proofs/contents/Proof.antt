@@ -16,10 +16,10 @@ mul-if1 : tie.Need-mul-if1 Inv-loop μ-loop
 mul-if1 c = omega arith
 
 returns : tie.Need-returns Inv-loop μ-loop
-returns c = contents-not _ _ (λ n e u. c .if1 .taken (omega arith))
+returns c = (contents-not _ _ (λ n e u. c .if1 .taken (omega arith)), omega arith)
 
 returns-2 : tie.Need-returns-2 Inv-loop μ-loop
-returns-2 c = contents-not _ _ (λ n e u. omega arith)
+returns-2 c = (contents-not _ _ (λ n e u. omega arith), omega arith)
 
 loop-holds : tie.Need-loop-holds Inv-loop μ-loop
 loop-holds c = (omega arith, paired-none _ _)
@@ -43,7 +43,7 @@ same-length : tie.Need-same-length Inv-loop μ-loop
 same-length c = omega arith
 
 returns-3 : tie.Need-returns-3 Inv-loop μ-loop
-returns-3 c = let l = c .before .before .before .before .before .loop in paired-not _ _ _ (l .k) (l .inv .1) (c .before .pair .result) (omega arith) (c .before .pair .ensures) (omega arith)
+returns-3 c = let l = c .before .before .before .before .before .loop in (paired-not _ _ _ (l .k) (l .inv .1) (c .before .pair .result) (omega arith) (c .before .pair .ensures) (omega arith), omega arith)
 
 cast-room : tie.Need-cast-room Inv-loop μ-loop
 cast-room c = omega arith
@@ -69,7 +69,7 @@ returns-4 : tie.Need-returns-4 Inv-loop μ-loop
 returns-4 c =
     let l = c .before .loop in
     let e : length (c .before .before .before .before .before .before .args .s .now) / 2 ≡ l .k = omega arith in
-    rw e (paired-all _ _ _ (l .k) (l .inv .1) (omega arith) (omega arith) (omega arith))
+    (rw e (paired-all _ _ _ (l .k) (l .inv .1) (omega arith) (omega arith) (omega arith)), omega arith)
 
 pub contents-spec : {M : Type 1} → statement M
 contents-spec =

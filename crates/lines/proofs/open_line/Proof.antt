@@ -11,7 +11,7 @@ numbers-requires : tie.Need-numbers-requires
 numbers-requires c κs = omega arith
 
 returns : tie.Need-returns
-returns c b = let n = c .before .before .numbers in sym (opened-not (n .result) (n .last .1 .1 .0) (omega arith) _ (n .ensures) (c .if1 .taken))
+returns c = let n = c .before .before .numbers in (λ b. sym (opened-not (n .result) (n .last .1 .1 .0) (omega arith) _ (n .ensures) (c .if1 .taken)), tt)
 
 slice-aggregate-word : tie.Need-slice-aggregate-word
 slice-aggregate-word c = omega arith
@@ -50,9 +50,9 @@ word-requires-6 : tie.Need-word-requires-6
 word-requires-6 c κs = omega arith
 
 returns-2 : tie.Need-returns-2
-returns-2 c b =
+returns-2 c =
     let n = c .before .before .before .before .before .before .before .before .before .before .before .before .before .before .numbers in
-    sym (opened-six (n .result) (n .last .1 .1 .0) (omega arith) _ (n .ensures) (c .before .before .before .before .before .before .before .before .before .before .before .before .if1 .left) _ _ _ _ _ _ (c .before .before .before .before .before .before .before .before .before .before .word .ensures .0) (c .before .before .before .before .before .before .before .before .word2 .ensures .0) (c .before .before .before .before .before .before .word3 .ensures .0) (c .before .before .before .before .word4 .ensures .0) (c .before .before .word5 .ensures .0) (c .word6 .ensures .0))
+    (λ b. sym (opened-six (n .result) (n .last .1 .1 .0) (omega arith) _ (n .ensures) (c .before .before .before .before .before .before .before .before .before .before .before .before .if1 .left) _ _ _ _ _ _ (c .before .before .before .before .before .before .before .before .before .before .word .ensures .0) (c .before .before .before .before .before .before .before .before .word2 .ensures .0) (c .before .before .before .before .before .before .word3 .ensures .0) (c .before .before .before .before .word4 .ensures .0) (c .before .before .word5 .ensures .0) (c .word6 .ensures .0)), omega arith)
 
 pub open-line-spec : {M : Type 1} → statement M
 open-line-spec =
