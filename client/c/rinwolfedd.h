@@ -9,7 +9,7 @@
 #include <stdint.h>
 
 /* The bytes of a state, and the kinds of requests and commands. */
-enum { RINWOLFEDD_STATE = 32, RINWOLFEDD_READ = 1, RINWOLFEDD_WRITE = 2 };
+enum { RINWOLFEDD_STATE = 64, RINWOLFEDD_READ = 1, RINWOLFEDD_WRITE = 2 };
 
 /* Each call answers one number of 64 bits: the number (0 accepted, 1 to 15 a
  * refusal), the command that a turn sent, and the words taken from the tape. */

@@ -30,7 +30,12 @@ fn state(rng: &mut Rng, len: usize) -> Vec<u8> {
     if rng.chance(30) {
         words[rng.below(16)] = rng.step() as u16;
     }
-    words.iter().flat_map(|word| word.to_le_bytes()).collect()
+    // The two bytes behind each number are not used.
+    let mut bytes = rng.bytes(STATE);
+    for (number, word) in bytes.chunks_exact_mut(4).zip(words) {
+        number[..2].copy_from_slice(&word.to_le_bytes());
+    }
+    bytes
 }
 
 struct Lending {

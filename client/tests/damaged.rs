@@ -93,7 +93,7 @@ fn damage_state(state: &mut [u8], shape: Shape, rng: &mut Rng) {
             _ => last[k - 11],
         };
         let value = number(rng, bound).to_le_bytes();
-        state[2 * k..2 * k + 2].copy_from_slice(&value);
+        state[4 * k..4 * k + 2].copy_from_slice(&value);
     }
 }
 

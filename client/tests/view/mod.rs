@@ -1,4 +1,4 @@
-//! The state that 32 bytes and a memory stand for, by the layout in
+//! The state that 64 bytes and a memory stand for, by the layout in
 //! docs/MEMORY.md: every content stands for one, as an entry out of its range
 //! reads as 0. `step` has what the rules say of it, also of states that no
 //! call left (docs/DECISIONS.md).
@@ -116,7 +116,7 @@ impl Tables<'_> {
 /// The state for which these bytes stand; none if the memory is too short or a
 /// number of the state is out of its range, to which four calls answer 2.
 pub fn decode(state: &[u8], memory: &[u8]) -> Option<View> {
-    let c: [usize; 16] = std::array::from_fn(|k| word(state, k));
+    let c: [usize; 16] = std::array::from_fn(|k| word(state, 2 * k));
     let shape = Shape::new(c[0], c[1], c[2], c[3], c[4], c[5]);
     if !shape.in_bounds() || memory.len() < shape.needed() {
         return None;
