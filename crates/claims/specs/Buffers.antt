@@ -25,68 +25,10 @@ use Rattle.rules.specs.State.{State, Request, write}
 use Rattle.rules.specs.Turn.{Step, idle, noDummy, readForRequest, readForJob, rebuild, writeNext, decide, command, doStep, markRead, send}
 use Rattle.memory.specs.Fits.{fits}
 use Rattle.meets.specs.Meets.{handedTo}
+use Rattle.meets.specs.Buffers.{Whole, filled, written-some, answer-some}
 use Rattle.claims.specs.Claim.{handsOut}
 
--- ---- The state's blocks have B bytes
-
-abbrev pub Whole : State → Type 0
-Whole s = (b : ℕ) → length (s .bytes b) ≡ s .shape .B
-
-slot-length : (s : State) → Whole s → (o : Option ℕ) → length (slotBytes s o) ≡ s .shape .B
-unfolding slotBytes zeros
-slot-length s w none = length-replicate (s .shape .B) 0
-slot-length s w (some b) = w b
-
-contents-length : (s : State) → Whole s → (b : ℕ) → length (contents s b) ≡ s .shape .B
-unfolding contents zeros
-contents-length s w b = go (isNowhere (s .place b) && not (member b (s .waiting)))
-  where
-    go : (t : Bool) → length (if t then zeros s else s .bytes b) ≡ s .shape .B
-    go true = length-replicate (s .shape .B) 0
-    go false = w b
-
--- a turn keeps them
-turn-whole : (s : State) → Whole s → (x : Step) (js : List ℕ) → Whole (doStep x js s) × (doStep x js s .shape .B ≡ s .shape .B)
-unfolding doStep markRead send doRebuild
-turn-whole s w idle js = (w, refl)
-turn-whole s w noDummy js = (w, refl)
-turn-whole s w (readForRequest q ℓ i) js = (w, refl)
-turn-whole s w (readForJob q ℓ i) js = (w, refl)
-turn-whole s w (rebuild q t) js = (w, refl)
-turn-whole s w (writeNext q t i) js = (w, refl)
-
 -- ---- What is handed out
-
-filled : (b bs : List ℕ) → 1 ≤ length bs → handedTo b bs ≡ bs
-filled b [] l = absurd (omega arith)
-filled b (x ∷ xs) l = refl
-
--- where a call that is no open finds the state ready
-pub ready-of : (s : State) (a : Ask) (m : ℕ) (ws : List ℕ) (n : ℕ) → opens a ≡ false → Passed (questions s a m ws n) → ready s m ≡ true
-unfolding questions opens
-ready-of s (opening h) m ws n o p = absurd (true≢false o)
-ready-of s (request k b bs) m ws n o p = and-l (ready s m) (isKind k) (p .0)
-ready-of s turn m ws n o p = p .0
-ready-of s (completion c bs) m ws n o p = and-l (ready s m) (isKind (c .kind)) (p .0)
-ready-of s collect m ws n o p = p .0
-
-pub ready-long : (s : State) (m : ℕ) → ready s m ≡ true → needed (s .shape) ≤ m
-unfolding ready
-ready-long s m e = leb-true (needed (s .shape)) m (and-l (leb (needed (s .shape)) m) _ e)
-
--- a block has a byte at least
-some-byte : (s : State) (m : ℕ) → ready s m ≡ true → 1 ≤ s .shape .B
-some-byte s m e = fits (s .shape) m (given-in s m e .shape) (ready-long s m e) .someBytes
-
--- what a turn writes, and what a collect answers
-written-some : (s : State) (m : ℕ) → Whole s → ready s m ≡ true → (js : List ℕ) (o : Option ℕ) → 1 ≤ length (slotBytes (act s turn js) o)
-unfolding act
-written-some s m w e js o = let x = turn-whole s w (decide s) js in omega (arith, slot-length (doStep (decide s) js s) (x .0) o, x .1, some-byte s m e)
-
-answer-some : (s : State) (m : ℕ) → Whole s → ready s m ≡ true → (o : Option Request) → inHand (λ r. true) o ≡ true → 1 ≤ length (answer s o)
-unfolding inHand answer
-answer-some s m w e none h = absurd (true≢false (sym h))
-answer-some s m w e (some r) h = omega (arith, contents-length s w (r .block), some-byte s m e)
 
 module _ (s : State) (m : ℕ) (ws : List ℕ) (n : ℕ) (w : Whole s) (b : List ℕ) where
   -- an accepted call

@@ -17,7 +17,8 @@ use Rattle.memory.specs.Blocks.{cells, blockStart, blockTable, block-is, block-
 use Rattle.memory.specs.Tables.{tablesOf, queueAt, kindsAt, spotsAt, counterAt, partitionAt, placeAt, waitingAt, orderAt, holdsAt, markAt}
 use Rattle.memory.specs.Fits.{shapeOf}
 use Rattle.client.specs.declared.Client.{Client}
-use Rattle.client.specs.View.{stateOf, view, bytesIn}
+use Rattle.client.specs.View.{stateOf, view}
+use Rattle.meets.specs.Buffers.{block-last}
 
 module _ (m rest : List ℕ) where
   word-lent : (k : ℕ) → k * 2 + 1 < length m → wordAt (m ++ rest) k ≡ wordAt m k
@@ -31,14 +32,6 @@ module _ (m rest : List ℕ) where
       go i (yes k) = window-in base n (m ++ rest) i k ∙ word-lent (base + i) (omega arith) ∙ sym (window-in base n m i k)
       go i (no k) = window-past base n (m ++ rest) i (omega arith) ∙ sym (window-past base n m i (omega arith))
 
--- a block ends where the memory needed does, or before
-block-last : (h : Shape) (b : ℕ) → b ≤ h .N → blockStart h b + h .B ≤ needed h
-unfolding needed
-block-last h b l = omega (arith, mul-le-mul-right (h .B) (more l), suc-mul b (h .B))
-  where
-    more : b ≤ h .N → suc b ≤ h .N + 1
-    more l = omega arith
-
 module _ (h : Shape) (m : List ℕ) (long : needed h ≤ length m) where
   block-lent : (rest : List ℕ) → blockTable h (m ++ rest) ≡ blockTable h m
   block-lent rest = fun-ext (λ b. go b (decLt (h .N) b))
@@ -51,16 +44,6 @@ module _ (h : Shape) (m : List ℕ) (long : needed h ≤ length m) where
           ∙ ap (take (h .B)) (drop-append-le (blockStart h b) m rest (omega arith))
           ∙ take-append-le (h .B) (drop (blockStart h b) m) rest (omega (arith, length-drop (blockStart h b) m))
           ∙ sym (block-is h m b (omega arith))
-
-  -- a block has B bytes
-  block-length : (b : ℕ) → length (blockTable h m b) ≡ h .B
-  block-length b = go (decLt (h .N) b)
-    where
-      go : Dec (h .N < b) → length (blockTable h m b) ≡ h .B
-      go (yes k) = ap length (block-past h m b k) ∙ length-replicate (h .B) 0
-      go (no k) =
-          let e : blockStart h b + h .B ≤ length m = omega (arith, block-last h b (omega arith)) in
-          ap length (block-is h m b (omega arith)) ∙ length-take-le (h .B) (drop (blockStart h b) m) (omega (arith, length-drop (blockStart h b) m))
 
 -- all tables but the tail are the same
 pub state-lent : (c : Client) (m rest : List ℕ) → needed (stateOf c m .shape) ≤ length m → stateOf c (m ++ rest) ≡ stateOf c m
@@ -81,12 +64,3 @@ state-lent c m rest long =
       blocks = block-lent h m long rest k;
       tail = m;
     })
-
--- each block of the state has B bytes
-pub state-whole : (c : Client) (m : List ℕ) → needed (stateOf c m .shape) ≤ length m → (b : ℕ) → length (stateOf c m .bytes b) ≡ stateOf c m .shape .B
-unfolding stateOf view tablesOf bytesIn
-state-whole c m long b = go (ltb b (c .shape .n))
-  where
-    go : (t : Bool) → length (if t then blockTable (shapeOf (c .shape)) m b else replicate (c .shape .b) 0) ≡ c .shape .b
-    go true = block-length (shapeOf (c .shape)) m long b
-    go false = length-replicate (c .shape .b) 0

@@ -31,11 +31,12 @@ use Rattle.client.specs.View.{stateOf, view}
 use Rattle.meets.specs.declared.Answer.{Answer}
 use Rattle.meets.specs.Answers.{clearedClient}
 use Rattle.meets.specs.Meets.{Meets, callOf, commandOf, closed-is}
+use Rattle.meets.specs.Buffers.{Whole, state-whole, ready-of, ready-long}
 use Rattle.codec.specs.Codec.{answerOf, stateLength}
 use Rattle.exports.specs.Exported.{clientIn, Exported, Opened}
 use Rattle.claims.specs.Claim.{Made, Contract, Handed, callMade, handsOut, outcomeOf}
-use Rattle.claims.specs.Memory.{state-lent, state-whole}
-use Rattle.claims.specs.Buffers.{Whole, ready-of, ready-long, hands-out}
+use Rattle.claims.specs.Memory.{state-lent}
+use Rattle.claims.specs.Buffers.{hands-out}
 
 -- ---- "Lent too little of that memory, it replies 2"
 

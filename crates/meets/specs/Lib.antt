@@ -1,3 +1,4 @@
 pub mod Answers
 pub mod Shapes
 pub mod Meets
+pub mod Buffers
