@@ -13,6 +13,7 @@ pub mod lookups;
 pub mod mistakes;
 pub mod rng;
 pub mod script;
+pub mod session;
 pub mod shape;
 pub mod state;
 pub mod turn;
