@@ -11,7 +11,7 @@ use std::io::{Write, stdout};
 use std::process::ExitCode;
 
 /// Partitions and levels of the largest stores; B is as large as is served.
-const LARGEST: [(usize, usize); 9] = [
+const LARGEST: [(usize, usize); 10] = [
     (64, 1),
     (32, 2),
     (16, 3),
@@ -19,9 +19,14 @@ const LARGEST: [(usize, usize); 9] = [
     (4, 5),
     (2, 6),
     (1, 7),
+    (1, 8),
     (32, 8),
     (64, 7),
 ];
+
+/// The lines from which on a session is long: it has the longest tape and
+/// begins with the largest store that its seed chooses.
+const LONG: usize = 1000;
 
 struct Maker {
     rng: Rng,
@@ -44,6 +49,10 @@ impl Maker {
         };
         maker.eager = maker.rng.chance(30);
         maker.tape(length);
+        if length >= LONG {
+            let shape = maker.largest(seed as usize % LARGEST.len());
+            maker.push(&open_line(&shape));
+        }
         let opens = 1 + maker.rng.below(6);
         while maker.lines < length {
             let due = maker.session.state().is_none() || maker.rng.below(length) < opens;
@@ -69,9 +78,9 @@ impl Maker {
     /// times.
     fn tape(&mut self, length: usize) {
         let count = match self.rng.below(12) {
-            0 if length < 1000 => return,
-            1 if length < 1000 => self.rng.below(4),
-            2 if length < 1000 => self.rng.below(300),
+            0 if length < LONG => return,
+            1 if length < LONG => self.rng.below(4),
+            2 if length < LONG => self.rng.below(300),
             _ => MOST_WORDS,
         };
         let mut line = "T".to_string();
@@ -79,7 +88,7 @@ impl Maker {
             line += &format!(" {word}");
         }
         self.push(&line);
-        if length < 1000 && self.rng.chance(8) {
+        if length < LONG && self.rng.chance(8) {
             let line = std::mem::take(&mut self.text);
             self.text = self.damage(line);
         }
@@ -91,7 +100,7 @@ impl Maker {
         }
         let shape = match self.rng.chance(50) {
             true => self.small(),
-            false => self.largest(),
+            false => self.any_largest(),
         };
         self.push(&open_line(&shape));
     }
@@ -103,8 +112,13 @@ impl Maker {
         Shape::new(n, p, l, b, 1 + self.rng.below(n), w)
     }
 
-    fn largest(&mut self) -> Shape {
-        let (p, l) = LARGEST[self.rng.below(LARGEST.len())];
+    fn any_largest(&mut self) -> Shape {
+        let index = self.rng.below(LARGEST.len());
+        self.largest(index)
+    }
+
+    fn largest(&mut self, index: usize) -> Shape {
+        let (p, l) = LARGEST[index];
         let b = (MOST_BYTES / (p * ((2 << l) - 2))).min(512);
         let n = (p << (l - 1)).min(64);
         let e = if self.rng.chance(70) {
@@ -117,7 +131,7 @@ impl Maker {
 
     /// A shape out of bounds or larger than is served.
     fn refused_open(&mut self) {
-        let mut shape = self.largest();
+        let mut shape = self.any_largest();
         match self.rng.below(8) {
             0 => shape.partitions = 3 * self.rng.below(2),
             1 => shape.blocks = shape.partitions * shape.capacity() + 1,
@@ -187,7 +201,10 @@ impl Maker {
         let (n, b) = shape.map_or((1, 1), |shape| (shape.blocks, shape.bytes));
         let block = self.rng.below(n);
         match self.rng.below(7) {
-            0 => self.push(&format!("R {}", n + self.rng.clone().below(3))),
+            0 => {
+                let beyond = n + self.rng.below(3);
+                self.push(&format!("R {beyond}"));
+            }
             1 => {
                 let contents = hexadecimal(&self.rng.bytes(b + 1));
                 self.push(&format!("W {block} {contents}"));
