@@ -1,0 +1,207 @@
+#!/bin/sh
+# Runs a session program on the cases of cases/, on large inputs made here, on random sessions (their answers are those of the
+# independent implementation in plain/) and on bad input: scripts/cases.sh PROGRAM. Each run has ten seconds. The last line is
+# 'cases: N ok', and the status is 0 only if everything is as expected; ten failures end it early.
+set -u
+if [ $# -ne 1 ] || ! program=$(command -v "$1"); then
+    echo "usage: scripts/cases.sh PROGRAM" >&2
+    exit 2
+fi
+case $program in /*) ;; *) program=$PWD/$program ;; esac
+cd "$(dirname "$0")/.." || exit 2
+work=$(mktemp -d) || exit 2
+trap 'rm -rf "$work"' EXIT
+ok=0
+bad=0
+
+CARGO_TARGET_DIR=$PWD/target/cargo
+export CARGO_TARGET_DIR
+cargo build --quiet --release --offline --locked --manifest-path plain/Cargo.toml \
+    --bin session --bin sessions_in --bin talk || exit 2
+plain=$CARGO_TARGET_DIR/release
+
+finish() {
+    if [ "$bad" -ne 0 ]; then
+        echo "cases: $ok ok, $bad FAILED"
+        exit 1
+    fi
+    echo "cases: $ok ok"
+    exit 0
+}
+
+fail() {
+    echo "cases: $*"
+    bad=$((bad + 1))
+    [ "$bad" -lt 10 ] || finish
+}
+
+# ended STATUS: the program ended by itself, without a panic, a signal or the end of its time
+ended() {
+    [ "$1" -lt 100 ]
+}
+
+# judge NAME STATUS WANTED: what the program printed last, and how it ended. After a malformed line any status is right.
+judge() {
+    case $1 in
+    bad-* | random*) ended "$2" ;;
+    *) [ "$2" -eq 0 ] ;;
+    esac || {
+        fail "$1: status $2"
+        return
+    }
+    if cmp -s "$work/out" "$3"; then
+        ok=$((ok + 1))
+    else
+        fail "$1: $(diff "$work/out" "$3" | head -n 3 | cut -c 1-60 | tr '\n' ';')"
+    fi
+}
+
+# check NAME INPUT WANTED
+check() {
+    timeout 10 "$program" <"$2" >"$work/out" 2>/dev/null
+    judge "$1" $? "$3"
+}
+
+# made NAME ANSWER ..: the same with the input in $work/in and the wanted lines as arguments
+made() {
+    name=$1
+    shift
+    : >"$work/wanted"
+    [ $# -eq 0 ] || printf '%s\n' "$@" >"$work/wanted"
+    check "$name" "$work/in" "$work/wanted"
+}
+
+# repeat COUNT TEXT
+repeat() {
+    yes "$2" | head -n "$1" | tr -d '\n'
+}
+
+committed() {
+    for input in cases/*.in; do
+        name=${input#cases/}
+        name=${name%.in}
+        check "$name" "$input" "cases/$name.out"
+    done
+}
+
+unprintable() {
+    printf 'C\nC\r\nC\n' >"$work/in"
+    made bad-return 2
+    printf 'C\n\r\nC\n' >"$work/in"
+    made bad-return-alone 2
+    printf 'C\nC\0\nC\n' >"$work/in"
+    made bad-nul 2
+    printf 'C\n\0C\nC\n' >"$work/in"
+    made bad-nul-first 2
+    printf 'C\nR 0\0\nC\n' >"$work/in"
+    made bad-nul-in-number 2
+    printf 'C\nW 0 0\0\nC\n' >"$work/in"
+    made bad-nul-in-contents 2
+    printf 'C\nR\0000\nC\n' >"$work/in"
+    made bad-nul-for-blank 2
+    printf 'T 0\0\nC\n' >"$work/in"
+    made bad-nul-in-tape
+    printf '\357\273\277C\nC\n' >"$work/in"
+    made bad-byte-order-mark
+}
+
+long_lines() {
+    { printf 'C\nW 0 ' && repeat 1024 af && printf '\nC\n'; } >"$work/in"
+    made contents-of-1024-pairs 2 2 2
+    { printf 'C\nW 0 ' && repeat 1025 af && printf '\nC\n'; } >"$work/in"
+    made bad-contents-of-1025-pairs 2
+    { printf T && repeat 8192 ' 65535' && printf '\nO 1 1 1 1 1 1\nC\n'; } >"$work/in"
+    made tape-of-8192-words 0 13
+    { printf T && repeat 8193 ' 65535' && printf '\nO 1 1 1 1 1 1\nC\n'; } >"$work/in"
+    made bad-tape-of-8193-words
+    { printf T && repeat 8193 ' 0' && printf '\nO 1 1 1 1 1 1\nC\n'; } >"$work/in"
+    made bad-tape-of-8193-zeros
+    # 128 stores of 64 blocks take all 8,192 words
+    { printf T && repeat 8192 ' 0' && echo && yes 'O 64 64 1 1 64 1' | head -n 129 && echo C; } >"$work/in"
+    # shellcheck disable=SC2046
+    made tape-taken-to-its-end $(yes 0 | head -n 128) 3 13
+    for start in 'R ' 'W 0 ' 'O 1 1 1 1 1 ' C X ''; do
+        for digit in 0 1 ' ' ' 0' a; do
+            { printf 'C\n%s' "$start" && repeat 100000 "$digit" | head -c 100000 && printf '\nC\n'; } >"$work/in"
+            made "bad-100000-bytes-of-'$start$digit'" 2
+        done
+    done
+}
+
+# Inputs of 10 MB
+huge() {
+    { echo C && head -c 10000000 /dev/zero | tr '\0' a; } >"$work/in"
+    made bad-10-MB-without-newline 2
+    { echo C && printf T && head -c 10000000 /dev/zero | tr '\0' ' '; } >"$work/in"
+    made bad-10-MB-of-blanks 2
+    { printf T && repeat 5000000 ' 0'; } >"$work/in"
+    made bad-10-MB-of-words
+    { echo C && head -c 10000000 /dev/zero | tr '\0' '\n'; } >"$work/in"
+    made bad-10-MB-of-newlines 2
+    head -c 10000000 /dev/zero >"$work/in"
+    made bad-10-MB-of-nul
+}
+
+# random LINES FIRST LAST: sessions of so many lines, by seed
+random() {
+    for seed in $(seq "$2" "$3"); do
+        if "$plain/sessions_in" "$seed" "$1" >"$work/in" && "$plain/session" <"$work/in" >"$work/wanted"; then
+            check "random session (sessions_in $seed $1)" "$work/in" "$work/wanted"
+        else
+            fail "sessions_in $seed $1: no session"
+        fi
+    done
+}
+
+# Input or output that isn't there; what the program prints is compared with nothing, or with the lines given
+absent() {
+    : >"$work/none"
+    : >"$work/out"
+    timeout 10 "$program" <&- >"$work/out" 2>/dev/null
+    judge bad-closed-input $? "$work/none"
+    timeout 10 "$program" <"$work" >"$work/out" 2>/dev/null
+    judge bad-directory-as-input $? "$work/none"
+    timeout 10 "$program" 0>"$work/in" >"$work/out" 2>/dev/null
+    judge bad-input-open-for-writing $? "$work/none"
+    check dev-null /dev/null "$work/none"
+    : >"$work/out"
+    timeout 10 "$program" <cases/worked.in >&- 2>/dev/null
+    judge bad-closed-output $? "$work/none"
+    timeout 10 "$program" <&- >&- 2>&-
+    judge bad-all-closed $? "$work/none"
+    timeout 10 "$program" <cases/worked.in >/dev/full 2>/dev/null
+    judge bad-full-output $? "$work/none"
+}
+
+# The reader of the answers leaves after the first; a death by the signal for that is right, too.
+reader_leaves() {
+    "$plain/sessions_in" 3 20000 >"$work/in"
+    "$plain/session" <"$work/in" 2>/dev/null | head -n 1 >"$work/wanted"
+    { timeout 10 "$program" <"$work/in" 2>/dev/null; echo $? >"$work/status"; } | head -n 1 >"$work/out"
+    status=$(cat "$work/status")
+    [ "$status" -ne 141 ] || status=0
+    judge bad-reader-leaves "$status" "$work/wanted"
+}
+
+# Each answer comes before more is sent, and a malformed line ends the session at once.
+talks() {
+    for name in worked bad-letter-unknown bad-empty-line bad-unterminated; do
+        if timeout 10 "$plain/talk" "$program" "cases/$name.in" 2>"$work/err"; then
+            ok=$((ok + 1))
+        else
+            fail "byte by byte, $name: $(head -n 1 "$work/err")"
+        fi
+    done
+}
+
+committed
+unprintable
+long_lines
+huge
+absent
+reader_leaves
+talks
+random 100 1 100
+random 2000 201 220
+random 20000 300 309
+finish
