@@ -1,0 +1,4 @@
+// A session of document 01: its lines come from standard input, and the answers go to standard output.
+fn main() {
+    stream::run(0);
+}

@@ -1,0 +1,3 @@
+-- The code's contracts, and laws
+pub mod Stream
+pub mod Laws

@@ -1,0 +1,258 @@
+// Reads the lines of a session from a descriptor and writes the answers to standard output, with fixed buffers and input of any length.
+use lines::Line;
+use session::Session;
+ghost use mathlib.Core.Path.{_≡_};
+ghost use mathlib.Core.List.{List};
+ghost use Prim.Native.Nat.{ℕ, _+_, _≤_};
+ghost use lib.ListN.{length, take};
+ghost use Rattle.lines.specs.Lines.{lineOf};
+ghost use Rattle.lines.specs.Said.{said};
+ghost use Rattle.session.specs.Session.{ends as endsOf};
+ghost use Rattle.session.specs.Answers.{textRoom};
+ghost use Rattle.stream.specs.Stream.{Ready, Brings, outRoom, lineRoom};
+
+const STDOUT: i32 = 1;
+
+const OUT: usize = 65536;
+
+// The text of a line's answer is no longer.
+const TEXT: usize = 1027;
+
+// The longest legal line: a T with 8,192 numbers of five digits.
+const LINE: usize = 49153;
+
+// What is kept from turn to turn.
+pub struct State {
+    // the store, and how many bytes of the tape's buffer are the tape
+    pub session: Session,
+    pub tape: usize,
+    // whether no line was read yet, and whether the session has ended
+    pub first: bool,
+    pub done: bool,
+    // the bytes of the last read that are not taken yet: from place `from` up to place `to`
+    pub from: usize,
+    pub to: usize,
+    // how many bytes of the line's and of the output's buffer are filled
+    pub len: usize,
+    pub at: usize,
+}
+
+// What bytes bring to a line that has begun.
+pub enum Brought {
+    // its end: it has so many bytes, and the newline is at such a place
+    Whole(usize, usize),
+    // all are taken, and the line goes on behind so many bytes
+    Part(usize),
+    // more than the buffer holds
+    TooLong,
+}
+
+// Takes bytes into the line, up to a newline.
+fn scan(bytes: &[u8], line: &mut [u8], len: usize) -> Brought
+    requires { ⌜ (len ≤ lineRoom) × (length (now line) ≡ lineRoom) ⌝ }
+    ensures { λ r. ⌜ Brings (now (bytes .entry)) (take len (now (line .entry))) r (now (line .exit)) ⌝ }
+{
+    let mut k = len;
+    let mut i = 0;
+    while i < bytes.len() {
+        let b = bytes[i];
+        if b == b'\n' {
+            return Brought::Whole(k, i);
+        }
+        if k == LINE {
+            return Brought::TooLong;
+        }
+        line[k] = b;
+        k += 1;
+        i += 1;
+    }
+    Brought::Part(k)
+}
+
+// Writes out what the output's buffer holds, and tells whether that went well.
+fn flush(out: &[u8; 65536], at: usize) -> bool
+    requires { ⌜ at ≤ outRoom ⌝ }
+{
+    let all: &[u8] = out;
+    io::write_all(STDOUT, &all[..at])
+}
+
+// Where the text of an answer goes: the buffer is written out first if the text might not fit.
+fn place(out: &[u8; 65536], at: usize) -> usize
+    requires { ⌜ at ≤ outRoom ⌝ }
+    ensures { λ r. ⌜ r + textRoom ≤ outRoom ⌝ }
+{
+    if TEXT <= OUT - at {
+        return at;
+    }
+    flush(out, at);
+    0
+}
+
+// Whether a line ends the session.
+fn ends(line: Line) -> bool
+    ensures { λ r. ⌜ ((b : List ℕ) → endsOf (said line b) ≡ r) ⌝ }
+{
+    match line {
+        Line::Open(_) => false,
+        Line::Read(_) => false,
+        Line::Write(_, _) => false,
+        Line::Turn => false,
+        Line::Collect => false,
+        Line::Malformed => true,
+    }
+}
+
+// Answers a line that is no tape. A malformed one ends the session.
+fn respond(
+    s: State,
+    line: &[u8],
+    tape: &[u8; 16384],
+    memory: &mut [u8; 133120],
+    host: &mut [u8; 16384],
+    out: &mut [u8; 65536],
+) -> State
+    requires { ⌜ Ready s (now tape) ⌝ }
+    ensures { λ r. ⌜ Ready r (now (tape .entry)) × (endsOf (lineOf (now (line .entry))) ≡ r .done) ⌝ }
+{
+    let mut contents = [0u8; 1024];
+    let l = lines::read_line(line, &mut contents);
+    let mut t = s;
+    if ends(l) {
+        t.done = true;
+        return t;
+    }
+    let n = s.tape;
+    let words: &[u8] = tape;
+    let at = place(out, s.at);
+    let p = session::answer(s.session, l, &contents, &words[..n], memory, host, out, at);
+    t.done = false;
+    let kept = p.session;
+    t.session = kept;
+    t.at = p.at;
+    t
+}
+
+// The first line is the tape, or it is answered as any other and the tape is empty. The session starts here, so that nothing is to be known of what
+// the tape's buffer held before.
+fn begin(
+    s: State,
+    line: &[u8],
+    tape: &mut [u8; 16384],
+    memory: &mut [u8; 133120],
+    host: &mut [u8; 16384],
+    out: &mut [u8; 65536],
+) -> State
+    requires { ⌜ Ready s (now tape) ⌝ }
+    ensures { λ r. ⌜ Ready r (now (tape .exit)) ⌝ }
+{
+    let mut t = s;
+    t.session = session::start();
+    t.first = false;
+    let k = lines::read_tape(line, tape);
+    if k <= 8192 {
+        t.tape = k * 2;
+        return t;
+    }
+    t.tape = 0;
+    respond(t, line, tape, memory, host, out)
+}
+
+// Writes out what is answered, and then reads: nothing is held back while the read waits. Where nothing comes, at the input's end or by an error,
+// the session ends: the line that has begun has no newline.
+fn refill(s: State, fd: i32, chunk: &mut [u8; 65536], out: &[u8; 65536]) -> State
+    requires { ⌜ s .at ≤ outRoom ⌝ }
+    ensures { λ r. ⌜ (r .session ≡ s .session) × (r .tape ≡ s .tape) × (r .len ≡ s .len) × (r .at ≡ 0) × (r .from ≡ 0) × (r .to ≤ 65536) ⌝ }
+{
+    let mut t = s;
+    let written = flush(out, s.at);
+    t.at = 0;
+    t.from = 0;
+    if !written {
+        t.to = 0;
+        t.done = true;
+        return t;
+    }
+    let got = libc::read(fd, chunk);
+    let n = io::count(got, chunk);
+    t.to = n;
+    t.done = n == 0;
+    t
+}
+
+// Answers the next line of what was read, or reads.
+fn turn(
+    s: State,
+    fd: i32,
+    chunk: &mut [u8; 65536],
+    line: &mut [u8; 49153],
+    tape: &mut [u8; 16384],
+    memory: &mut [u8; 133120],
+    host: &mut [u8; 16384],
+    out: &mut [u8; 65536],
+) -> State
+    requires { ⌜ Ready s (now tape) ⌝ }
+    ensures { λ r. ⌜ Ready r (now (tape .exit)) ⌝ }
+{
+    let from = s.from;
+    let to = s.to;
+    let read: &[u8] = chunk;
+    let mut t = s;
+    match scan(&read[from..to], line, s.len) {
+        Brought::Whole(len, i) => {
+            t.from = from + i + 1;
+            t.len = 0;
+            let text: &[u8] = line;
+            if t.first {
+                return begin(t, &text[..len], tape, memory, host, out);
+            }
+            respond(t, &text[..len], tape, memory, host, out)
+        }
+        Brought::Part(len) => {
+            t.len = len;
+            refill(t, fd, chunk, out)
+        }
+        Brought::TooLong => {
+            t.done = true;
+            t
+        }
+    }
+}
+
+// A proved loop has to end, and nothing says that the input does: the turns are counted down from a number that no run uses up.
+pub fn run(fd: i32) {
+    let mut chunk = [0u8; 65536];
+    let mut line = [0u8; 49153];
+    let mut tape = [0u8; 16384];
+    let mut memory = [0u8; 133120];
+    let mut host = [0u8; 16384];
+    let mut out = [0u8; 65536];
+    let mut s = State {
+        session: session::start(),
+        tape: 0,
+        first: true,
+        done: false,
+        from: 0,
+        to: 0,
+        len: 0,
+        at: 0,
+    };
+    let mut turns = u64::MAX;
+    while turns > 0 {
+        turns -= 1;
+        s = turn(
+            s,
+            fd,
+            &mut chunk,
+            &mut line,
+            &mut tape,
+            &mut memory,
+            &mut host,
+            &mut out,
+        );
+        if s.done {
+            flush(&out, s.at);
+            return;
+        }
+    }
+}
