@@ -1,12 +1,15 @@
--- One byte more of a line.
+-- One byte more of a line, and the words of a tape.
 use mathlib.Core.Path.{_≡_, ap, sym, _∙_}
 use mathlib.Core.List.{List, [], _∷_, _++_, append-assoc}
-use Prim.Native.Nat.{ℕ, zero, suc, _+_, _-_, _≤_, _<_}
+use Prim.Native.Nat.{ℕ, zero, suc, _+_, _-_, _*_, _/_, _≤_, _<_}
 use native.Mathlib.Numerals.{add-one}
 use native.Mathlib.Omega.{arith}
 use native.Mathlib.Decide.{ℕ-discrete}
 use lib.ListN.{length, take, getD, set}
-use lib.Seq.{take-suc, take-suc-set}
+use lib.Seq.{take-suc, take-suc-set, getD-take, ext-getD, length-take-le}
+use Rattle.memory.specs.Words.{wordAt}
+use Rattle.tape.specs.Tape.{wordsOf, length-words, word-is}
+use Rattle.lines.specs.Stored.{length-first, first-is}
 use Rattle.stream.specs.Stream.{Plain}
 
 -- a byte that is no newline leaves the bytes plain
@@ -26,3 +29,22 @@ most (suc n) (x ∷ l) = let r = most n l in omega arith
 -- a place in a part of what was read lies before the part's end
 pub behind : (l : List ℕ) (from to i : ℕ) → from ≤ to → i < length (take (to - from) l) → from + i + 1 ≤ to
 behind l from to i h m = let r = most (to - from) l in omega arith
+
+-- ---- The tape
+
+word-first : (t : List ℕ) (k i : ℕ) → i < k → wordAt (take (k * 2) t) i ≡ wordAt t i
+unfolding wordAt
+word-first t k i h = rw (getD-take (k * 2) t (i * 2) 0 (omega arith), getD-take (k * 2) t (i * 2 + 1) 0 (omega arith))
+
+-- the words of the first bytes are the first words
+pub words-first : (k : ℕ) (t : List ℕ) → k ≤ length t / 2 → wordsOf (take (k * 2) t) ≡ take k (wordsOf t)
+words-first k t h = ext-getD 0 _ _ (long ∙ sym (length-first k t h)) (λ i l. one i (rw long at l))
+  where
+    half : length (take (k * 2) t) / 2 ≡ k
+    half = omega (arith, length-take-le (k * 2) t (omega arith))
+
+    long : length (wordsOf (take (k * 2) t)) ≡ k
+    long = length-words (take (k * 2) t) ∙ half
+
+    one : (i : ℕ) → i < k → getD (wordsOf (take (k * 2) t)) i 0 ≡ getD (take k (wordsOf t)) i 0
+    one i l = word-is (take (k * 2) t) i (rw half l) ∙ word-first t k i l ∙ sym (first-is k i t l h)

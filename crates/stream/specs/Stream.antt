@@ -1,9 +1,14 @@
 -- What the functions over buffers say.
 use mathlib.Core.Path.{_≡_}
+use mathlib.Core.Bool.{false}
 use mathlib.Core.List.{List, _++_}
+use mathlib.Core.Option.{Option, none, some}
 use Prim.Native.Nat.{ℕ, _+_, _-_, _≤_, _<_}
 use lib.ListN.{length, take, getD}
-use Rattle.session.specs.Answers.{Served}
+use Rattle.tape.specs.Tape.{wordsOf}
+use Rattle.lines.specs.Lines.{lineOf, tapeOf}
+use Rattle.session.specs.Session.{ends}
+use Rattle.session.specs.Answers.{Served, fresh}
 use Rattle.stream.specs.declared.State.{State}
 use Rattle.stream.specs.declared.Brought.{Brought}
 use Rattle.stream.specs.declared.Brought.the-variants.{Whole, Part, TooLong}
@@ -50,3 +55,20 @@ abbrev pub Brings : List ℕ → List ℕ → Brought → List ℕ → Type 0
 Brings bytes had (Whole k i) line = Ended bytes had k i line
 Brings bytes had (Part k) line = Goes bytes had k line
 Brings bytes had TooLong line = Past bytes had
+
+-- A line that is no tape: a malformed one ends the session, and no other does
+pub record Responds (s : State) (line words : List ℕ) (r : State) : Type 0 where
+  pub ready : Ready r words
+  pub ended : ends (lineOf line) ≡ r .done
+  pub tape : r .tape ≡ s .tape
+  pub first : r .first ≡ s .first
+
+-- The first line: a tape is lent from then on, exactly its words, and prints nothing; without one the tape is empty, and the line is any other
+abbrev pub Begins : Option (List ℕ) → List ℕ → State → List ℕ → State → Type 0
+Begins (some ws) line s words r = (wordsOf (take (r .tape) words) ≡ ws) × (r .session ≡ fresh) × (r .at ≡ s .at) × (r .done ≡ s .done)
+Begins none line s words r = (r .tape ≡ 0) × (ends (lineOf line) ≡ r .done)
+
+pub record Begun (s : State) (line words : List ℕ) (r : State) : Type 0 where
+  pub ready : Ready r words
+  pub first : r .first ≡ false
+  pub begins : Begins (tapeOf line) line s words r

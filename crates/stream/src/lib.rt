@@ -5,11 +5,10 @@ ghost use mathlib.Core.Path.{_≡_};
 ghost use mathlib.Core.List.{List};
 ghost use Prim.Native.Nat.{ℕ, _+_, _≤_};
 ghost use lib.ListN.{length, take};
-ghost use Rattle.lines.specs.Lines.{lineOf};
 ghost use Rattle.lines.specs.Said.{said};
 ghost use Rattle.session.specs.Session.{ends as endsOf};
 ghost use Rattle.session.specs.Answers.{textRoom};
-ghost use Rattle.stream.specs.Stream.{Ready, Brings, outRoom, lineRoom};
+ghost use Rattle.stream.specs.Stream.{Ready, Brings, Responds, Begun, outRoom, lineRoom};
 
 const STDOUT: i32 = 1;
 
@@ -113,7 +112,7 @@ fn respond(
     out: &mut [u8; 65536],
 ) -> State
     requires { ⌜ Ready s (now tape) ⌝ }
-    ensures { λ r. ⌜ Ready r (now (tape .entry)) × (endsOf (lineOf (now (line .entry))) ≡ r .done) ⌝ }
+    ensures { λ r. ⌜ Responds s (now (line .entry)) (now (tape .entry)) r ⌝ }
 {
     let mut contents = [0u8; 1024];
     let l = lines::read_line(line, &mut contents);
@@ -144,7 +143,7 @@ fn begin(
     out: &mut [u8; 65536],
 ) -> State
     requires { ⌜ Ready s (now tape) ⌝ }
-    ensures { λ r. ⌜ Ready r (now (tape .exit)) ⌝ }
+    ensures { λ r. ⌜ Begun s (now (line .entry)) (now (tape .exit)) r ⌝ }
 {
     let mut t = s;
     t.session = session::start();

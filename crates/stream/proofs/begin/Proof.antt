@@ -1,7 +1,14 @@
 use borrow.Author.Needs.{needs}
-use Prim.Native.Nat.{_≤_}
+use mathlib.Core.Path.{_≡_, refl, sym, _∙_}
+use mathlib.Core.Option.{none, some}
+use Prim.Native.Nat.{_/_, _≤_}
+use lib.ListN.{length, take}
 use native.Mathlib.Omega.{arith}
+use Rattle.tape.specs.Tape.{wordsOf}
+use Rattle.lines.specs.Lines.{tapeOf}
+use Rattle.lines.specs.Stored.{words-in, words-out}
 use Rattle.session.specs.Answers.{fresh-served}
+use Rattle.stream.specs.Laws.{words-first}
 use Rattle.stream.proofs.begin.Statement.{statement}
 use Rattle.stream.proofs.begin.Tie as tie
 
@@ -16,9 +23,18 @@ mul-t c = search needs
 
 returns : tie.Need-returns
 returns c =
+    let k = c .before in
     let p = c .before .before .before .before .before .pre in
-    let k : c .before .read-tape .result ≤ 8192 = omega arith in
-    record { served = rw (c .before .before .before .start .ensures) (fresh-served _); tape = omega arith; from = p .from; to = p .to; len = p .len; at = p .at }
+    let n = k .read-tape .result in
+    let t = k .read-tape .last .1 .0 in
+    let few : n ≤ length t / 2 = omega (arith, k .read-tape .kept .1 .0, k .before .read-tape-arg .given) in
+    let said : tapeOf (c .before .before .before .before .before .args .line .now) ≡ some (take n (wordsOf t)) = sym (k .read-tape .ensures) ∙ words-in n t few in
+    let new = k .before .before .start .ensures in
+    record {
+      ready = record { served = rw new (fresh-served _); tape = omega arith; from = p .from; to = p .to; len = p .len; at = p .at };
+      first = refl;
+      begins = rw said (words-first n t few, new, refl, refl);
+    }
 
 respond-requires : tie.Need-respond-requires
 respond-requires c κs =
@@ -26,7 +42,13 @@ respond-requires c κs =
     record { served = rw (c .before .before .before .before .before .before .before .start .ensures) (fresh-served _); tape = omega arith; from = p .from; to = p .to; len = p .len; at = p .at }
 
 returns-2 : tie.Need-returns-2
-returns-2 c = search needs
+returns-2 c =
+    let k = c .before .before .before .before .before .before in
+    let e = c .respond .ensures in
+    let n = k .read-tape .result in
+    let t = k .read-tape .last .1 .0 in
+    let no : tapeOf (c .before .before .before .before .before .before .before .before .before .before .args .line .now) ≡ none = sym (k .read-tape .ensures) ∙ words-out n t (omega (arith, k .read-tape .kept .1 .0, k .before .read-tape-arg .given)) in
+    record { ready = e .ready; first = e .first; begins = rw no (e .tape, e .ended) }
 
 pub begin-spec : {M : Type 1} → statement M
 begin-spec =

@@ -1,6 +1,6 @@
 use borrow.Author.Needs.{needs}
 use Prim.Native.Nat.{_≤_}
-use mathlib.Core.Path.{sym, ap, _∙_}
+use mathlib.Core.Path.{refl, sym, ap, _∙_}
 use lib.Seq.{length-take-le}
 use native.Mathlib.Omega.{arith}
 use Rattle.session.specs.Session.{ends}
@@ -22,7 +22,7 @@ returns c =
     let e = c .before .ends in
     let l = c .before .before .before .read-line in
     let p = c .before .before .before .before .before .before .pre in
-    (search needs, ap ends (sym (l .ensures .0)) ∙ e .ensures _ ∙ c .if1 .taken)
+    record { ready = search needs; ended = ap ends (sym (l .ensures .0)) ∙ e .ensures _ ∙ c .if1 .taken; tape = refl; first = refl }
 
 place-requires : tie.Need-place-requires
 place-requires c κs = search needs
@@ -42,11 +42,16 @@ answer-requires c κs =
 returns-2 : tie.Need-returns-2
 returns-2 c =
     let a = c .before .answer .ensures in
-    let at : c .before .answer .result .at ≤ outRoom = omega (arith, a .1, c .before .before .before .before .before .before .before .place .ensures) in
+    let room : c .before .answer .result .at ≤ outRoom = omega (arith, a, c .before .before .before .before .before .before .before .place .ensures) in
     let e = c .before .before .before .before .before .before .before .before .before .before .before .ends in
     let l = c .before .before .before .before .before .before .before .before .before .before .before .before .before .read-line in
     let p = c .before .before .before .before .before .before .before .before .before .before .before .before .before .before .before .before .pre in
-    (record { served = a .0; tape = p .tape; from = p .from; to = p .to; len = p .len; at = at }, ap ends (sym (l .ensures .0)) ∙ e .ensures _ ∙ c .before .before .before .before .before .before .before .before .before .before .if1 .left)
+    record {
+      ready = record { served = search a; tape = p .tape; from = p .from; to = p .to; len = p .len; at = room };
+      ended = ap ends (sym (l .ensures .0)) ∙ e .ensures _ ∙ c .before .before .before .before .before .before .before .before .before .before .if1 .left;
+      tape = refl;
+      first = refl;
+    }
 
 pub respond-spec : {M : Type 1} → statement M
 respond-spec =
