@@ -1,6 +1,6 @@
 -- What the functions over buffers say.
 use mathlib.Core.Path.{_≡_}
-use mathlib.Core.Bool.{false}
+use mathlib.Core.Bool.{Bool, true, false}
 use mathlib.Core.List.{List, _++_}
 use mathlib.Core.Option.{Option, none, some}
 use Prim.Native.Nat.{ℕ, _+_, _-_, _≤_, _<_}
@@ -8,7 +8,8 @@ use lib.ListN.{length, take, getD}
 use Rattle.tape.specs.Tape.{wordsOf}
 use Rattle.lines.specs.Lines.{lineOf, tapeOf}
 use Rattle.session.specs.Session.{ends}
-use Rattle.session.specs.Answers.{Served, fresh}
+use Rattle.session.specs.Answers.{Served, Answers, fresh}
+use Rattle.session.specs.declared.Session.{Session}
 use Rattle.stream.specs.declared.State.{State}
 use Rattle.stream.specs.declared.Brought.{Brought}
 use Rattle.stream.specs.declared.Brought.the-variants.{Whole, Part, TooLong}
@@ -56,19 +57,35 @@ Brings bytes had (Whole k i) line = Ended bytes had k i line
 Brings bytes had (Part k) line = Goes bytes had k line
 Brings bytes had TooLong line = Past bytes had
 
--- A line that is no tape: a malformed one ends the session, and no other does
-pub record Responds (s : State) (line words : List ℕ) (r : State) : Type 0 where
-  pub ready : Ready r words
+-- The buffers that an answer may change: the tape's, the memory that the calls are lent, the host's and the output's
+pub record Buffers : Type 0 where
+  pub tape : List ℕ
+  pub memory : List ℕ
+  pub host : List ℕ
+  pub out : List ℕ
+
+abbrev pub buffers : List ℕ → List ℕ → List ℕ → List ℕ → Buffers
+buffers tape memory host out = record { tape = tape; memory = memory; host = host; out = out }
+
+-- A line that is no tape. One that ends the session leaves all as it was. The answer to any other is what the definition gives, with the first n bytes of the
+-- tape's buffer; its text is behind place `at` of the output, or at the start if what was there is written out
+abbrev pub Gives : Bool → Session → ℕ → ℕ → List ℕ → Buffers → State → Buffers → Type 0
+Gives true s n at line b r e = (r .session ≡ s) × (r .at ≡ at) × (e ≡ b)
+Gives false s n at line b r e = (k : ℕ) × ((0 < k → k ≡ at) × Answers s (lineOf line) (b .memory) (take n (b .tape)) (b .host) (b .out) k (record { session = r .session; at = r .at }) (e .memory) (e .host) (e .out))
+
+pub record Responds (s : State) (line : List ℕ) (b : Buffers) (r : State) (e : Buffers) : Type 0 where
+  pub ready : Ready r (e .tape)
   pub ended : ends (lineOf line) ≡ r .done
   pub tape : r .tape ≡ s .tape
   pub first : r .first ≡ s .first
+  pub gives : Gives (ends (lineOf line)) (s .session) (s .tape) (s .at) line b r e
 
 -- The first line: a tape is lent from then on, exactly its words, and prints nothing; without one the tape is empty, and the line is any other
-abbrev pub Begins : Option (List ℕ) → List ℕ → State → List ℕ → State → Type 0
-Begins (some ws) line s words r = (wordsOf (take (r .tape) words) ≡ ws) × (r .session ≡ fresh) × (r .at ≡ s .at) × (r .done ≡ s .done)
-Begins none line s words r = (r .tape ≡ 0) × (ends (lineOf line) ≡ r .done)
+abbrev pub Begins : Option (List ℕ) → State → List ℕ → Buffers → State → Buffers → Type 0
+Begins (some ws) s line b r e = (wordsOf (take (r .tape) (e .tape)) ≡ ws) × (r .session ≡ fresh) × (r .at ≡ s .at) × (r .done ≡ s .done) × (e ≡ buffers (e .tape) (b .memory) (b .host) (b .out))
+Begins none s line b r e = (r .tape ≡ 0) × (ends (lineOf line) ≡ r .done) × Gives (ends (lineOf line)) fresh 0 (s .at) line (buffers (e .tape) (b .memory) (b .host) (b .out)) r e
 
-pub record Begun (s : State) (line words : List ℕ) (r : State) : Type 0 where
-  pub ready : Ready r words
+pub record Begun (s : State) (line : List ℕ) (b : Buffers) (r : State) (e : Buffers) : Type 0 where
+  pub ready : Ready r (e .tape)
   pub first : r .first ≡ false
-  pub begins : Begins (tapeOf line) line s words r
+  pub begins : Begins (tapeOf line) s line b r e

@@ -3,22 +3,32 @@ use lines::Line;
 use session::Session;
 ghost use mathlib.Core.Path.{_≡_};
 ghost use mathlib.Core.List.{List};
-ghost use Prim.Native.Nat.{ℕ, _+_, _≤_};
+ghost use Prim.Native.Nat.{ℕ, _+_, _≤_, _<_};
 ghost use lib.ListN.{length, take};
 ghost use Rattle.lines.specs.Said.{said};
 ghost use Rattle.session.specs.Session.{ends as endsOf};
 ghost use Rattle.session.specs.Answers.{textRoom};
-ghost use Rattle.stream.specs.Stream.{Ready, Brings, Responds, Begun, outRoom, lineRoom};
+ghost use Rattle.stream.specs.Stream.{Ready, Brings, Responds, Begun, buffers, outRoom, lineRoom};
 
 const STDOUT: i32 = 1;
 
-const OUT: usize = 65536;
+// The bytes that a read may bring, and those of the output.
+const CHUNK: usize = 65536;
 
-// The text of a line's answer is no longer.
-const TEXT: usize = 1027;
+const OUT: usize = 65536;
 
 // The longest legal line: a T with 8,192 numbers of five digits.
 const LINE: usize = 49153;
+
+// 8,192 words; the memory for the calls and the bytes of the host, enough for every shape that a session serves.
+const TAPE: usize = 16384;
+
+const MEMORY: usize = 133120;
+
+const HOST: usize = 16384;
+
+// The text of a line's answer is no longer.
+const TEXT: usize = 1027;
 
 // What is kept from turn to turn.
 pub struct State {
@@ -69,7 +79,7 @@ fn scan(bytes: &[u8], line: &mut [u8], len: usize) -> Brought
 }
 
 // Writes out what the output's buffer holds, and tells whether that went well.
-fn flush(out: &[u8; 65536], at: usize) -> bool
+fn flush(out: &[u8; OUT], at: usize) -> bool
     requires { ⌜ at ≤ outRoom ⌝ }
 {
     let all: &[u8] = out;
@@ -77,9 +87,9 @@ fn flush(out: &[u8; 65536], at: usize) -> bool
 }
 
 // Where the text of an answer goes: the buffer is written out first if the text might not fit.
-fn place(out: &[u8; 65536], at: usize) -> usize
+fn place(out: &[u8; OUT], at: usize) -> usize
     requires { ⌜ at ≤ outRoom ⌝ }
-    ensures { λ r. ⌜ r + textRoom ≤ outRoom ⌝ }
+    ensures { λ r. ⌜ (r + textRoom ≤ outRoom) × (0 < r → r ≡ at) ⌝ }
 {
     if TEXT <= OUT - at {
         return at;
@@ -106,13 +116,13 @@ fn ends(line: Line) -> bool
 fn respond(
     s: State,
     line: &[u8],
-    tape: &[u8; 16384],
-    memory: &mut [u8; 133120],
-    host: &mut [u8; 16384],
-    out: &mut [u8; 65536],
+    tape: &[u8; TAPE],
+    memory: &mut [u8; MEMORY],
+    host: &mut [u8; HOST],
+    out: &mut [u8; OUT],
 ) -> State
     requires { ⌜ Ready s (now tape) ⌝ }
-    ensures { λ r. ⌜ Responds s (now (line .entry)) (now (tape .entry)) r ⌝ }
+    ensures { λ r. ⌜ Responds s (now (line .entry)) (buffers (now (tape .entry)) (now (memory .entry)) (now (host .entry)) (now (out .entry))) r (buffers (now (tape .entry)) (now (memory .exit)) (now (host .exit)) (now (out .exit))) ⌝ }
 {
     let mut contents = [0u8; 1024];
     let l = lines::read_line(line, &mut contents);
@@ -137,13 +147,13 @@ fn respond(
 fn begin(
     s: State,
     line: &[u8],
-    tape: &mut [u8; 16384],
-    memory: &mut [u8; 133120],
-    host: &mut [u8; 16384],
-    out: &mut [u8; 65536],
+    tape: &mut [u8; TAPE],
+    memory: &mut [u8; MEMORY],
+    host: &mut [u8; HOST],
+    out: &mut [u8; OUT],
 ) -> State
     requires { ⌜ Ready s (now tape) ⌝ }
-    ensures { λ r. ⌜ Begun s (now (line .entry)) (now (tape .exit)) r ⌝ }
+    ensures { λ r. ⌜ Begun s (now (line .entry)) (buffers (now (tape .entry)) (now (memory .entry)) (now (host .entry)) (now (out .entry))) r (buffers (now (tape .exit)) (now (memory .exit)) (now (host .exit)) (now (out .exit))) ⌝ }
 {
     let mut t = s;
     t.session = session::start();
@@ -159,7 +169,7 @@ fn begin(
 
 // Writes out what is answered, and then reads: nothing is held back while the read waits. Where nothing comes, at the input's end or by an error,
 // the session ends: the line that has begun has no newline.
-fn refill(s: State, fd: i32, chunk: &mut [u8; 65536], out: &[u8; 65536]) -> State
+fn refill(s: State, fd: i32, chunk: &mut [u8; CHUNK], out: &[u8; OUT]) -> State
     requires { ⌜ s .at ≤ outRoom ⌝ }
     ensures { λ r. ⌜ (r .session ≡ s .session) × (r .tape ≡ s .tape) × (r .len ≡ s .len) × (r .at ≡ 0) × (r .from ≡ 0) × (r .to ≤ 65536) ⌝ }
 {
@@ -183,12 +193,12 @@ fn refill(s: State, fd: i32, chunk: &mut [u8; 65536], out: &[u8; 65536]) -> Stat
 fn turn(
     s: State,
     fd: i32,
-    chunk: &mut [u8; 65536],
-    line: &mut [u8; 49153],
-    tape: &mut [u8; 16384],
-    memory: &mut [u8; 133120],
-    host: &mut [u8; 16384],
-    out: &mut [u8; 65536],
+    chunk: &mut [u8; CHUNK],
+    line: &mut [u8; LINE],
+    tape: &mut [u8; TAPE],
+    memory: &mut [u8; MEMORY],
+    host: &mut [u8; HOST],
+    out: &mut [u8; OUT],
 ) -> State
     requires { ⌜ Ready s (now tape) ⌝ }
     ensures { λ r. ⌜ Ready r (now (tape .exit)) ⌝ }
@@ -220,12 +230,12 @@ fn turn(
 
 // A proved loop has to end, and nothing says that the input does: the turns are counted down from a number that no run uses up.
 pub fn run(fd: i32) {
-    let mut chunk = [0u8; 65536];
-    let mut line = [0u8; 49153];
-    let mut tape = [0u8; 16384];
-    let mut memory = [0u8; 133120];
-    let mut host = [0u8; 16384];
-    let mut out = [0u8; 65536];
+    let mut chunk = [0u8; CHUNK];
+    let mut line = [0u8; LINE];
+    let mut tape = [0u8; TAPE];
+    let mut memory = [0u8; MEMORY];
+    let mut host = [0u8; HOST];
+    let mut out = [0u8; OUT];
     let mut s = State {
         session: session::start(),
         tape: 0,

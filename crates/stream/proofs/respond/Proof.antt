@@ -1,8 +1,10 @@
 use borrow.Author.Needs.{needs}
 use Prim.Native.Nat.{_≤_}
-use mathlib.Core.Path.{refl, sym, ap, _∙_}
+use mathlib.Core.Path.{_≡_, refl, sym, ap, _∙_}
 use lib.Seq.{length-take-le}
 use native.Mathlib.Omega.{arith}
+use mathlib.Core.Bool.{true, false}
+use Rattle.lines.specs.Lines.{lineOf}
 use Rattle.session.specs.Session.{ends}
 use Rattle.stream.specs.Stream.{outRoom}
 use Rattle.stream.proofs.respond.Statement.{statement}
@@ -22,7 +24,8 @@ returns c =
     let e = c .before .ends in
     let l = c .before .before .before .read-line in
     let p = c .before .before .before .before .before .before .pre in
-    record { ready = search needs; ended = ap ends (sym (l .ensures .0)) ∙ e .ensures _ ∙ c .if1 .taken; tape = refl; first = refl }
+    let ended : ends (lineOf (c .before .before .before .before .before .before .args .line .now)) ≡ true = ap ends (sym (l .ensures .0)) ∙ e .ensures _ ∙ c .if1 .taken in
+    record { ready = search needs; ended = ended; tape = refl; first = refl; gives = rw ended (refl, refl, refl) }
 
 place-requires : tie.Need-place-requires
 place-requires c κs = search needs
@@ -37,20 +40,24 @@ answer-requires : tie.Need-answer-requires
 answer-requires c κs =
     let l = c .before .before .before .before .before .before .before .before .before .before .before .read-line in
     let p = c .before .before .before .before .before .before .before .before .before .before .before .before .before .before .pre in
-    (p .served, l .ensures .1, search needs, search needs, search needs, omega (arith, c .before .before .before .before .before .place .ensures))
+    (p .served, l .ensures .1, search needs, search needs, search needs, omega (arith, c .before .before .before .before .before .place .ensures .0))
 
+-- `a` is what `answer` ensures, here alone: its fields `served` and `room` are found by what they say
 returns-2 : tie.Need-returns-2
 returns-2 c =
     let a = c .before .answer .ensures in
-    let room : c .before .answer .result .at ≤ outRoom = omega (arith, a, c .before .before .before .before .before .before .before .place .ensures) in
+    let spot = c .before .before .before .before .before .before .before .place .ensures in
+    let room : c .before .answer .result .at ≤ outRoom = omega (arith, a, spot .0) in
     let e = c .before .before .before .before .before .before .before .before .before .before .before .ends in
     let l = c .before .before .before .before .before .before .before .before .before .before .before .before .before .read-line in
     let p = c .before .before .before .before .before .before .before .before .before .before .before .before .before .before .before .before .pre in
+    let ended : ends (lineOf (c .before .before .before .before .before .before .before .before .before .before .before .before .before .before .before .before .args .line .now)) ≡ false = ap ends (sym (l .ensures .0)) ∙ e .ensures _ ∙ c .before .before .before .before .before .before .before .before .before .before .if1 .left in
     record {
       ready = record { served = search a; tape = p .tape; from = p .from; to = p .to; len = p .len; at = room };
-      ended = ap ends (sym (l .ensures .0)) ∙ e .ensures _ ∙ c .before .before .before .before .before .before .before .before .before .before .if1 .left;
+      ended = ended;
       tape = refl;
       first = refl;
+      gives = rw ended (_, (spot .1, rw (l .ensures .0) at a));
     }
 
 pub respond-spec : {M : Type 1} → statement M
