@@ -1,8 +1,9 @@
 -- What the functions over slices say of a line's answer.
-use mathlib.Core.Path.{_≡_}
+use mathlib.Core.Path.{_≡_, refl}
 use mathlib.Core.Bool.{true}
 use mathlib.Core.List.{List, []}
 use Prim.Native.Nat.{ℕ, _+_, _≤_, _<_}
+use native.Mathlib.Omega.{arith}
 use lib.ListN.{length, drop}
 use lib.Dec.{eqb}
 use Rattle.lists.specs.Tests.{if_then_else_}
@@ -40,12 +41,20 @@ pub record Served (s : Session) (tape : List ℕ) : Type 0 where
   pub block : s .client .shape .b ≤ 512
   pub taken : s .taken ≤ length (wordsOf tape)
 
--- What is given is what is kept after the line (r, the memory m, the host's bytes) and printed (from the place `at` on); no text is longer than 1,027 bytes
+pub fresh-served : (tape : List ℕ) → Served fresh tape
+unfolding S.serves
+fresh-served tape = record { serves = refl; block = omega arith; taken = omega arith }
+
+-- room for the text of one line
+abbrev pub textRoom : ℕ
+textRoom = 1027
+
+-- What is given is what is kept after the line (r, the memory m, the host's bytes) and printed (from the place `at` on); no text is longer than that
 pub record Gives (g : S.Given) (tape out : List ℕ) (at : ℕ) (r : Printed) (m host out′ : List ℕ) : Type 0 where
   pub session : kept (r .session) m tape host ≡ g .0
   pub text : Written out at (g .1) out′ (r .at)
   pub served : Served (r .session) tape
-  pub room : r .at ≤ at + 1027
+  pub room : r .at ≤ at + textRoom
 
 -- The line's answer is what the definition gives
 abbrev pub Answers : Session → Line → List ℕ → List ℕ → List ℕ → List ℕ → ℕ → Printed → List ℕ → List ℕ → List ℕ → Type 0

@@ -39,8 +39,10 @@ slice-aggregate-answer-2 c = sym (length-take-le _ _ (search needs))
 answer-requires : tie.Need-answer-requires
 answer-requires c κs =
     let l = c .before .before .before .before .before .before .before .before .before .before .before .read-line in
-    let p = c .before .before .before .before .before .before .before .before .before .before .before .before .before .before .pre in
-    (p .served, l .ensures .1, search needs, search needs, search needs, omega (arith, c .before .before .before .before .before .place .ensures .0))
+    let s = c .before .before .before .before .before .before .before .before .before .before .before .before .before .before in
+    let p = s .pre in
+    let t = length-take-le (s .args .s .tape) (s .args .tape .now) (search needs) in
+    (p .served, l .ensures .1, search needs, omega (arith, t, p .tape), search needs, search needs, omega (arith, c .before .before .before .before .before .place .ensures .0))
 
 -- `a` is what `answer` ensures, here alone: its fields `served` and `room` are found by what they say
 returns-2 : tie.Need-returns-2
