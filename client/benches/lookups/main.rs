@@ -25,11 +25,11 @@ use std::process::ExitCode;
 const LOOK_UPS: usize = 2048;
 const REPEATS: usize = 10;
 
-/// N alone grows, or nearly: the blocks are of 64 bytes throughout.
+/// N alone grows.
 const GROWING: [Shape; 4] = [
-    Shape::new(64, 4, 5, 64, 64, 32),
-    Shape::new(256, 8, 6, 64, 256, 32),
-    Shape::new(1024, 16, 7, 64, 1024, 32),
+    Shape::new(64, 64, 8, 64, 64, 32),
+    Shape::new(256, 64, 8, 64, 256, 32),
+    Shape::new(1024, 64, 8, 64, 1024, 32),
     Shape::new(4096, 64, 8, 64, 4096, 32),
 ];
 

@@ -78,7 +78,7 @@ fn reader(looks: &[Look]) -> String {
 
 pub fn text(shapes: &[Row], growing: &[Row], looks: &[Look]) -> String {
     format!(
-        "Machine: {}.\n\n{}\n{}\nBlocks of 64 bytes throughout:\n\n{}\n{}\n\
+        "Machine: {}.\n\n{}\n{}\nN alone grows; P = 64, L = 8 and B = 64 throughout:\n\n{}\n{}\n\
          Look-ups through the reader, in microseconds each:\n\n{}",
         machine(),
         table(shapes),
