@@ -8,14 +8,15 @@ use native.Mathlib.Nat.{add-mul-mod-self-right, mod-eq-of-lt}
 use native.Mathlib.Omega.{arith}
 use native.Mathlib.Decide.{ℕ-discrete, decLt}
 use lib.ListN.{length, replicate}
-use lib.Dec.{ltb, eqb}
+use lib.Dec.{ltb, leb, eqb}
 use lib.Pow.{pow-mono, pow-pos}
-use borrow.Author.Tests.{lt-ltb, le-ltb, le-leb, lt-leb, eq-eqb, ne-eqb}
+use borrow.Author.Tests.{leb-true, lt-ltb, le-ltb, le-leb, lt-leb, eq-eqb, ne-eqb}
 use Rattle.lists.specs.Tests.{if_then_else_}
 use Rattle.lists.specs.Tables.{put, put-same, put-other}
 use Rattle.rules.specs.Shape.{Shape, slots, cell}
 use Rattle.rules.specs.State.{State, Command, cmd, read, write, Place, nowhere, stored}
 use Rattle.rules.specs.Setters.{setPartition, setPlace, setBytes, setCounter, setOrder, setMark, setHolds, setRequest}
+use Rattle.rules.specs.Laws.Levels.{two-slots}
 use Rattle.memory.specs.Tables.{Tables, withPartition, withPlace, withCounter, withOrder, withMark, withHolds, withBlocks}
 use Rattle.memory.specs.Fits.{shapeOf, fit, fit-in, fit-lt}
 use Rattle.client.specs.declared.Client.{Client}
@@ -34,15 +35,22 @@ level-is (suc n) ℓ i h k = go (ℕ-discrete ℓ n) (level-is n ℓ i)
     go (yes e) ih = rw (e, le-leb (slots n) (slots n + i) (omega arith), levelOf)
     go (no e) ih = rw (lt-leb (slots n) (slots ℓ + i) (omega (arith, pow-mono {i = suc (ℓ + 1)} {j = n + 1} (omega arith))), levelOf) (ih (omega arith) k)
 
-two-le : (ℓ : ℕ) → 2 ≤ slots ℓ
-two-le ℓ = pow-mono {i = 1} {j = ℓ + 1} (omega arith)
+-- the level of a slot's number has its first slot there or before
+pub level-le : (n x : ℕ) → 2 ≤ x → slots (levelOf n x) ≤ x
+unfolding levelOf
+level-le zero x l = omega arith
+level-le (suc n) x l = go (leb (slots n) x) refl (level-le n x l)
+  where
+    go : (t : Bool) → leb (slots n) x ≡ t → slots (levelOf n x) ≤ x → slots (levelOf (suc n) x) ≤ x
+    go true e ih = rw (e, levelOf) (leb-true (slots n) x e)
+    go false e ih = rw (e, levelOf) ih
 
 pub place-is : (n ℓ i : ℕ) → ℓ < n → i < slots ℓ → placeOf n (slots ℓ + i) ≡ stored ℓ i
 unfolding placeOf
 place-is n ℓ i h k =
     let e = level-is n ℓ i h k in
     let d : slots ℓ + i - slots ℓ ≡ i = omega arith in
-    rw (le-ltb (slots ℓ + i) 2 (omega (arith, two-le ℓ)), e, d)
+    rw (le-ltb (slots ℓ + i) 2 (omega (arith, two-slots ℓ)), e, d)
 
 pub place-nowhere : (n : ℕ) → placeOf n 0 ≡ nowhere
 unfolding placeOf

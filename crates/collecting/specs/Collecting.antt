@@ -29,7 +29,7 @@ use Rattle.memory.specs.Fits.{shapeOf, fit}
 use Rattle.client.specs.declared.Client.{Client}
 use Rattle.client.specs.declared.Request.{Request}
 use Rattle.client.specs.View.{stateOf, view, requestOf, bytesIn, placeOf, levelOf}
-use Rattle.client.specs.Changes.{view-bytes, view-holds, view-place, view-partition, place-nowhere}
+use Rattle.client.specs.Changes.{view-bytes, view-holds, view-place, view-partition, place-nowhere, level-le}
 use Rattle.client.specs.Ready.{Asked}
 use Rattle.client.specs.Moves.{withRequest, withWaiting, withJobs, Room, Stands, stands, then as next}
 use Rattle.tape.specs.Tape.{wordsOf}
@@ -250,15 +250,6 @@ module _ (c : Client) (m₀ m : List ℕ) where
       (view-partition c u b next l ∙ ap (λ (x : State). setPartition (put b next (x .partition)) x) (view-place c t b 0 (pow-pos (c .shape .l + 1)) ∙ ap (λ y. setPlace (put b y (s .place)) s) (place-nowhere (c .shape .l))))
 
 -- a slot's number is its level's and the slot
-level-le : (n x : ℕ) → 2 ≤ x → slots (levelOf n x) ≤ x
-unfolding levelOf
-level-le zero x l = omega arith
-level-le (suc n) x l = go (leb (slots n) x) refl (level-le n x l)
-  where
-    go : (t : Bool) → leb (slots n) x ≡ t → slots (levelOf n x) ≤ x → slots (levelOf (suc n) x) ≤ x
-    go true e ih = rw (e, levelOf) (leb-true (slots n) x e)
-    go false e ih = rw (e, levelOf) ih
-
 emptied-at : (h : Shape) (p x : ℕ) (f : ℕ → ℕ) → 2 ≤ x → emptied (cell h p) (placeOf (h .L) x) f ≡ put (p * slots (h .L) + x) 0 f
 unfolding emptied placeOf cell
 emptied-at h p x f l =

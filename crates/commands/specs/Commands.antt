@@ -24,7 +24,7 @@ use Rattle.memory.specs.Fits.{shapeOf, fit, fit-in}
 use Rattle.client.specs.declared.Client.{Client}
 use Rattle.client.specs.View.{levelOf, spotOf, commandOf, rows, view, stateOf}
 use Rattle.client.specs.Rows.{dropAt, rows-push, any-miss, Shifted, shifted-none, shifted-more, shifted-all}
-use Rattle.client.specs.Changes.{level-is, spot-lt}
+use Rattle.client.specs.Changes.{level-is, spot-lt, level-le}
 use Rattle.client.specs.Ready.{command-range}
 use Rattle.client.specs.Moves.{withOut, Room, Stands, stands}
 
@@ -63,15 +63,6 @@ pub spot-command : (levels k q ℓ i : ℕ) → ℓ < levels → i < slots ℓ �
 spot-command levels k q ℓ i l u =
     let e : slots ℓ + i - slots ℓ ≡ i = omega arith in
     rw (level-is levels ℓ i l u, e)
-
-level-le : (n x : ℕ) → 2 ≤ x → slots (levelOf n x) ≤ x
-unfolding levelOf
-level-le zero x l = omega arith
-level-le (suc n) x l = go (leb (slots n) x) refl (level-le n x l)
-  where
-    go : (t : Bool) → leb (slots n) x ≡ t → slots (levelOf n x) ≤ x → slots (levelOf (suc n) x) ≤ x
-    go true e ih = rw (e, levelOf) (leb-true (slots n) x e)
-    go false e ih = rw (e, levelOf) ih
 
 -- equal slots have equal numbers
 same-spot : (n x y : ℕ) → 2 ≤ x → 2 ≤ y → (eqb (levelOf n x) (levelOf n y) && eqb (x - slots (levelOf n x)) (y - slots (levelOf n y))) ≡ eqb x y

@@ -26,6 +26,7 @@ use Rattle.rules.specs.Laws.Waiting.{waits-le}
 use Rattle.rules.specs.Setters.{setRequest}
 use Rattle.rules.specs.Laws.Decided.{StepIn, decide-in}
 use Rattle.rules.specs.Laws.Kept.{given-in}
+use Rattle.rules.specs.Laws.Orders.{length-bounds}
 use Rattle.memory.specs.Fits.{shapeOf, parts-le, fit}
 use Rattle.memory.specs.Tables.{tablesOf}
 use Rattle.client.specs.declared.Client.{Client}
@@ -36,12 +37,6 @@ use Rattle.memory.specs.declared.Shape as M
 use Rattle.codec.specs.Codec.{lowShape, lowClient}
 
 -- ---- Counts of words and commands
-
-length-orderBounds : (n : ℕ) → length (orderBounds n) ≤ n
-unfolding orderBounds
-length-orderBounds zero = omega arith
-length-orderBounds (suc zero) = omega arith
-length-orderBounds (suc (suc i)) = omega (arith, length-orderBounds (suc i))
 
 levels-le : (h : Shape) → within h ≡ true → h .L ≤ 8
 unfolding within between
@@ -77,7 +72,7 @@ step-small s f idle h = (record { kind = omega arith; partition = omega arith; l
 step-small s f noDummy h = (record { kind = omega arith; partition = omega arith; level = omega arith; slot = omega arith }, omega arith)
 step-small s f (readForRequest q ℓ i) h = (cell-small s f 1 q ℓ i (omega arith) h, omega arith)
 step-small s f (readForJob q ℓ i) h = (cell-small s f 1 q ℓ i (omega arith) h, omega arith)
-step-small s f (rebuild q t) h = (cell-small s f 2 q t 0 (omega arith) (h .0, h .1, pow-pos (t + 1)), omega (arith, length-orderBounds (slots t), slots-small (s .shape) t (f .shape) (h .1)))
+step-small s f (rebuild q t) h = (cell-small s f 2 q t 0 (omega arith) (h .0, h .1, pow-pos (t + 1)), omega (arith, length-bounds (slots t), slots-small (s .shape) t (f .shape) (h .1)))
 step-small s f (writeNext q t i) h = (cell-small s f 2 q t i (omega arith) h, omega arith)
 
 -- of an accepted call

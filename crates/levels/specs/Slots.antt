@@ -12,15 +12,13 @@ use Rattle.lists.specs.Tables.{put}
 use Rattle.rules.specs.Shape.{Shape, slots, cell}
 use Rattle.rules.specs.Blocks.{named, holder, isUnread}
 use Rattle.rules.specs.Turn.{markRead}
+use Rattle.rules.specs.Laws.Levels.{two-slots}
 use Rattle.memory.specs.Tables.{tablesOf, withMark}
 use Rattle.memory.specs.Fits.{shapeOf, fit, fit-lt}
 use Rattle.client.specs.declared.Client.{Client}
 use Rattle.client.specs.View.{view, stateOf}
 use Rattle.client.specs.Changes.{spot-lt, cell-level, view-mark}
 use Rattle.client.specs.Moves.{Stands, stands}
-
-pub two-le : (ℓ : ℕ) → 2 ≤ slots ℓ
-two-le ℓ = pow-mono {i = 1} {j = ℓ + 1} (omega arith)
 
 -- partition q ends within P partitions
 pub stride-le : (P q n : ℕ) → q < P → q * n + n ≤ P * n
@@ -41,7 +39,7 @@ cell-from h q ℓ i = omega arith
 
 -- an item's slot is one of its level
 pub slot-lt : (ℓ n i x : ℕ) → n ≡ slots ℓ → i ≡ fit n x → i < slots ℓ
-slot-lt ℓ n i x e f = rw (f, e) (fit-lt (slots ℓ) x (omega (arith, two-le ℓ)))
+slot-lt ℓ n i x e f = rw (f, e) (fit-lt (slots ℓ) x (omega (arith, two-slots ℓ)))
 
 none-zero : (x : ℕ) → isNone (named x) ≡ eqb x 0
 unfolding isNone named

@@ -69,7 +69,7 @@ all-ones (suc n) =
     let odd : (2 ^ suc n - 1) % 2 ≡ 1 = omega (arith, pow-pos n) in
     ones-odd n (2 ^ suc n - 1) (eq-eqb _ _ odd) ∙ rw half (ap suc (all-ones n))
 
--- One more: the trailing trailingOnes become 0, the bit above them 1, the others stay
+-- One more: the trailing ones become 0, the bit above them 1, the others stay
 module _ where
   more-below : (n c ℓ : ℕ) → ℓ < trailingOnes n c → filled (c + 1) ℓ ≡ false
   more-below zero c ℓ h = absurd (unfold trailingOnes in (omega (arith, h)))

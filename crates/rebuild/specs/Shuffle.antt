@@ -17,17 +17,11 @@ use Rattle.rules.specs.Setters.{setOrder}
 use Rattle.client.specs.declared.Client.{Client}
 use Rattle.client.specs.View.{stateOf}
 use Rattle.client.specs.Moves.{Stands}
-use Rattle.rules.specs.Laws.Orders.{orderBounds-pos, nodup-order}
+use Rattle.rules.specs.Laws.Orders.{orderBounds-pos, nodup-order, length-bounds}
 use Rattle.rules.specs.Laws.Kept.{drew-of}
 use Rattle.tape.specs.Tape.{draws-enough, draws-number, length-numbers}
 use Rattle.rebuild.specs.Fill.{putAll-at, put-in, putAll-over}
 use Rattle.rebuild.specs.Steps.{stays, moved, same-state, ordered}
-
-pub length-bounds : (n : ℕ) → length (orderBounds n) ≡ n - 1
-unfolding orderBounds
-length-bounds zero = refl
-length-bounds (suc zero) = refl
-length-bounds (suc (suc n)) = omega (arith, length-bounds (suc n))
 
 bound-at : (n k : ℕ) → k < n - 1 → getD (orderBounds n) k 0 ≡ n - k
 unfolding orderBounds

@@ -207,12 +207,6 @@ module _ (c d e : Client) (m m₁ m₂ : List ℕ) where
 
 -- ---- Whole turns
 
-pub length-bounds : (n : ℕ) → length (orderBounds n) ≡ n - 1
-unfolding orderBounds
-length-bounds zero = refl
-length-bounds (suc zero) = refl
-length-bounds (suc (suc i)) = let e = length-bounds (suc i) in omega arith
-
 module _ (c : Client) (m tape b : List ℕ) (x : Step) (d : Due c m x) where
   pub idle-number : x ≡ idle → firstNo (asked c m tape b x d) ≡ 10
   unfolding firstNo

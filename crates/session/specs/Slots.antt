@@ -11,11 +11,9 @@ use borrow.Author.Tests.{leb-true}
 use Rattle.lists.specs.Tests.{and-r}
 use Rattle.rules.specs.Shape.{Shape, slots, offset}
 use Rattle.rules.specs.State.{Command, cmd}
+use Rattle.rules.specs.Laws.Levels.{two-slots}
 use Rattle.session.specs.Session.{serves, start}
 use Rattle.session.specs.Answers.{Slot}
-
-pub two-slots : (ℓ : ℕ) → 2 ≤ slots ℓ
-two-slots ℓ = pow-mono {i = 1} {j = ℓ + 1} (omega arith)
 
 pub slots-most : (ℓ : ℕ) → ℓ ≤ 8 → slots ℓ ≤ 512
 slots-most ℓ l = pow-mono {i = ℓ + 1} {j = 9} (omega arith)

@@ -4,9 +4,9 @@ use Prim.Native.Nat.{_+_, _-_, _≤_}
 use native.Mathlib.Omega.{arith}
 use lib.Dec.{eqb}
 use Rattle.rules.specs.Blocks.{blocksIn}
+use Rattle.rules.specs.Laws.Levels.{two-slots}
 use Rattle.memory.specs.Fits.{shapeOf}
 use Rattle.client.specs.View.{stateOf}
-use Rattle.levels.specs.Slots.{two-le}
 use Rattle.levels.specs.Stored.{storedFrom, stored-all, stored-done, stored-lt, stored-step, byte-le}
 use Rattle.levels.proofs.stored.Statement.{statement}
 use Rattle.levels.proofs.stored.Tie as tie
@@ -24,7 +24,7 @@ pow2-requires : tie.Need-pow2-requires Inv-loop μ-loop
 pow2-requires c κs = omega arith
 
 sub-top : tie.Need-sub-top Inv-loop μ-loop
-sub-top c = omega (arith, two-le (c .before .before .before .args .c .shape .l))
+sub-top c = omega (arith, two-slots (c .before .before .before .args .c .shape .l))
 
 cell-requires : tie.Need-cell-requires Inv-loop μ-loop
 cell-requires c κs = omega arith

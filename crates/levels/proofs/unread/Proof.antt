@@ -3,11 +3,12 @@ use mathlib.Core.Logic.{⊎-elim}
 use Prim.Native.Nat.{_+_, _-_, _≤_}
 use native.Mathlib.Omega.{arith}
 use Rattle.rules.specs.Rebuild.{unread}
+use Rattle.rules.specs.Laws.Levels.{two-slots}
 use Rattle.memory.specs.Fits.{shapeOf}
 use Rattle.client.specs.View.{stateOf}
 use Rattle.levels.specs.declared.Spot.the-variants.{Nothing}
 use Rattle.levels.specs.Next.{spotOf}
-use Rattle.levels.specs.Slots.{two-le, cell-lt}
+use Rattle.levels.specs.Slots.{cell-lt}
 use Rattle.levels.specs.Unread.{fromLevel, fromSlot, levels-all, levels-done, level-enter, level-done, slot-hit, slot-miss}
 use Rattle.levels.proofs.unread.Statement.{statement}
 use Rattle.levels.proofs.unread.Tie as tie
@@ -37,10 +38,10 @@ cell-requires : tie.Need-cell-requires Inv-loop μ-loop Inv-levels μ-levels
 cell-requires c κs = omega arith
 
 sub-if1 : tie.Need-sub-if1 Inv-loop μ-loop Inv-levels μ-levels
-sub-if1 c = omega (arith, two-le (c .before .before .before .levels .l))
+sub-if1 c = omega (arith, two-slots (c .before .before .before .levels .l))
 
 sub-first : tie.Need-sub-first Inv-loop μ-loop Inv-levels μ-levels
-sub-first c = omega (arith, two-le (c .before .before .before .before .levels .l))
+sub-first c = omega (arith, two-slots (c .before .before .before .before .levels .l))
 
 sub-first-2 : tie.Need-sub-first-2 Inv-loop μ-loop Inv-levels μ-levels
 sub-first-2 c = omega arith

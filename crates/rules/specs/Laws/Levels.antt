@@ -12,6 +12,10 @@ use Rattle.lists.specs.Search
 use Rattle.rules.specs.Shape.{Shape, slots, within}
 use Rattle.rules.specs.Levels.{trailingOnes, sources, target, grown}
 
+-- a level has two slots at least
+pub two-slots : (ℓ : ℕ) → 2 ≤ slots ℓ
+two-slots ℓ = pow-mono {i = 1} {j = ℓ + 1} (omega arith)
+
 -- Levels
 pub trailing-le : (n c : ℕ) → trailingOnes n c ≤ n
 unfolding trailingOnes

@@ -141,3 +141,10 @@ nodup-order zero js p d = absurd (omega arith)
 nodup-order (suc n) js p d =
     let e : suc n - 1 ≡ n = omega arith in
     rw e (nodup-shuffle n js (below (suc n)) (omega (arith, length-below (suc n))) d (nodup-below (suc n)))
+
+-- an order of n slots takes n − 1 draws
+pub length-bounds : (n : ℕ) → length (orderBounds n) ≡ n - 1
+unfolding orderBounds
+length-bounds zero = refl
+length-bounds (suc zero) = refl
+length-bounds (suc (suc n)) = omega (arith, length-bounds (suc n))

@@ -7,10 +7,11 @@ use Rattle.rules.specs.Shape.{slots}
 use Rattle.rules.specs.Draws.{orderBounds}
 use Rattle.rules.specs.Turn.{rebuild as rebuildOf, command, stepBounds}
 use Rattle.rules.specs.Questions.{sends}
+use Rattle.rules.specs.Laws.Orders.{length-bounds}
 use Rattle.client.specs.View.{stateOf}
 use Rattle.tape.specs.Tape.{wordsOf}
 use Rattle.sending.specs.Chosen.{room-no, room-all}
-use Rattle.sending.specs.Turning.{length-bounds, refuses, other-buffer, few-words, no-room}
+use Rattle.sending.specs.Turning.{refuses, other-buffer, few-words, no-room}
 use borrow.Author.Needs.{needs}
 use Rattle.sending.proofs.rebuild.Statement.{statement}
 use Rattle.sending.proofs.rebuild.Tie as tie

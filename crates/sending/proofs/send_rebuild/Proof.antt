@@ -6,9 +6,10 @@ use Rattle.rules.specs.Shape.{slots}
 use Rattle.rules.specs.Draws.{orderBounds}
 use Rattle.rules.specs.Turn.{rebuild, command, stepBounds}
 use Rattle.rules.specs.Questions.{sends}
+use Rattle.rules.specs.Laws.Orders.{length-bounds}
 use Rattle.client.specs.View.{stateOf}
 use Rattle.sending.specs.Chosen.{room-yes}
-use Rattle.sending.specs.Turning.{length-bounds, write-meets, rebuild-sent}
+use Rattle.sending.specs.Turning.{write-meets, rebuild-sent}
 use native.Mathlib.Omega.{arith}
 use borrow.Author.Needs.{needs}
 use Rattle.sending.proofs.send_rebuild.Statement.{statement}

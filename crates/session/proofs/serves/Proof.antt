@@ -3,8 +3,9 @@ use Prim.Native.Nat.{_-_, _*_}
 use native.Mathlib.Omega.{arith}
 use lib.Dec.{leb}
 use mathlib.Core.Bool.{_&&_}
+use Rattle.rules.specs.Laws.Levels.{two-slots}
 use Rattle.session.specs.Session.{serves}
-use Rattle.session.specs.Slots.{two-slots, slots-most, product-le}
+use Rattle.session.specs.Slots.{slots-most, product-le}
 use Rattle.session.proofs.serves.Statement.{statement}
 use Rattle.session.proofs.serves.Tie as tie
 use Rattle.bits.proofs.pow2.Reads as pow2-reads
