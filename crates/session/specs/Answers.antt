@@ -22,7 +22,7 @@ use Rattle.meets.specs.Answers.{clearedClient}
 use Rattle.meets.specs.Meets.{commandOf}
 use Rattle.printing.specs.Written.{Written}
 use Rattle.session.specs.Session as S
-use Rattle.session.specs.Session.{serves, gives, room, call, asked, brought, start}
+use Rattle.session.specs.Session.{serves, gives, room, call, replied, brought, start}
 use Rattle.session.specs.declared.Session.{Session}
 use Rattle.session.specs.declared.Printed.{Printed}
 
@@ -67,7 +67,7 @@ AnswersApart s l m tape out at r m′ out′ = (host : List ℕ) → Answers s l
 -- A request, by its kind and contents
 abbrev pub Asks : Session → ℕ → ℕ → List ℕ → List ℕ → List ℕ → List ℕ → ℕ → Printed → List ℕ → List ℕ → Type 0
 Asks s kind block bs m tape out at r m′ out′ = (host : List ℕ)
-    → Gives (asked (kept s m tape host) (step (stateOf (s .client) m) (call (request kind block bs) room (drop (s .taken) (wordsOf tape)) 0))) tape out at r m′ host out′
+    → Gives (replied (kept s m tape host) (step (stateOf (s .client) m) (call (request kind block bs) room (drop (s .taken) (wordsOf tape)) 0))) tape out at r m′ host out′
 
 -- A command's slot in a shape that is served
 pub record Slot (h : Shape) (c : Command) : Type 0 where

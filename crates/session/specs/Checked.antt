@@ -47,5 +47,5 @@ output =
 
 -- whatever two bytes the host has at first
 pub worked : (a b : ℕ) → session (a ∷ b ∷ []) input ≡ output
-unfolding model replaced between front fields letter others atMost digit digits begins number also numbers upTo hexDigit pair pairs contents opened read stored written bare byLetter lineOf tapeOf digitOf digitsOf decimal hexadecimal further letterOf numberText commandText contentsText S.serves S.lent S.start S.fetched S.stored S.went S.answered S.brought S.completed S.opened S.asked S.turned S.collected S.gives S.ends S.prints S.begun session input output
+unfolding model replaced between front fields letter others atMost digit digits begins number also numbers upTo hexDigit pair pairs contents opened read stored written bare byLetter lineOf tapeOf digitOf digitsOf decimal hexadecimal further letterOf numberText commandText contentsText S.serves S.lent S.start S.fetched S.stored S.went S.answered S.brought S.completed S.replied S.turned S.collected S.gives S.ends S.prints S.begun session input output
 worked a b = refl

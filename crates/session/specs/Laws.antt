@@ -27,7 +27,7 @@ use Rattle.printing.specs.Text.{numberText}
 use Rattle.printing.specs.Laws.{number-le as number-text-le}
 use Rattle.printing.specs.Written.{Written, same-text}
 use Rattle.session.specs.Session as S
-use Rattle.session.specs.Session.{serves, room, call, went, answered, asked}
+use Rattle.session.specs.Session.{serves, room, call, went, answered, replied}
 use Rattle.session.specs.declared.Session.{Session}
 use Rattle.session.specs.declared.Printed.{Printed}
 use Rattle.session.specs.Answers.{kept, Served, Gives, Asks}
@@ -178,11 +178,11 @@ module _ (s : Session) (m tape t : List ℕ) (f : Served s tape) (left : t ≡ d
   shaped = refl
 
   pub asked-no : (r .number ≡ 0 → ⊥) → (p : Printed) → p .session ≡ s → (out out′ : List ℕ) (at : ℕ) → Written out at (numberText (r .number)) out′ (p .at) → Asks s kind block bs m tape out at p m′ out′
-  unfolding asked
+  unfolding replied
   asked-no n p e out out′ at w host = call-no s m tape host t f left long (s .client) (stateOf (s .client) m) (request kind block bs) [] r m′ [] k _ n p e out out′ at w
 
   pub asked-yes : r .number ≡ 0 → (p : Printed) → p .session ≡ record { client = r .client; taken = s .taken + r .taken } → (out out′ : List ℕ) (at : ℕ) → Written out at (numberText 0) out′ (p .at) → Asks s kind block bs m tape out at p m′ out′
-  unfolding asked
+  unfolding replied
   asked-yes z p e out out′ at w host =
       call-yes s m tape host t f left long (s .client) (stateOf (s .client) m) (request kind block bs) [] r m′ [] k z
       (served-later s m tape host t f left long (s .client) (stateOf (s .client) m) (request kind block bs) [] r m′ [] k shaped (unfold opens in refl))

@@ -7,3 +7,4 @@ pub mod Laws
 pub mod Slots
 pub mod Opening
 pub mod Turning
+pub mod Host

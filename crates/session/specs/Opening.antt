@@ -28,7 +28,7 @@ use Rattle.printing.specs.Laws.{number-le as number-text-le}
 use Rattle.printing.specs.Written.{Written, same-text}
 use Rattle.lines.specs.Lines.{opens}
 use Rattle.session.specs.Session as S
-use Rattle.session.specs.Session.{serves, room, lent, call, went, answered, opened, gives}
+use Rattle.session.specs.Session.{serves, room, lent, call, went, answered, replied, gives}
 use Rattle.session.specs.declared.Session.{Session}
 use Rattle.session.specs.declared.Printed.{Printed}
 use Rattle.session.specs.Answers.{kept, Served, Gives, AnswersApart}
@@ -57,7 +57,7 @@ module _ (s : Session) (m tape : List ℕ) (f : Served s tape) (h : Shape) (p : 
   -- the line is refused with this number
   refused-with : (n : ℕ) → (n ≡ 0 → ⊥) → step closed (call (opening h) (lent h) (drop (s .taken) (wordsOf tape)) 0) .1 .number ≡ n → Written out at (numberText n) out′ (p .at)
       → AnswersApart s (opens h) m tape out at p m out′
-  unfolding gives opened answered
+  unfolding gives replied answered
   refused-with n z k w host =
       rw (ne-eqb (step closed (call (opening h) (lent h) (drop (s .taken) (wordsOf tape)) 0) .1 .number) 0 (λ x. z (sym k ∙ x))) (record {
         session = ap (λ x. kept x m tape host) e;
@@ -85,7 +85,7 @@ module _ (s : Session) (m tape t : List ℕ) (f : Served s tape) (left : t ≡ d
   asks n = call (opening h) n (drop (s .taken) (wordsOf tape)) 0
 
   pub opens-no : (r .number ≡ 0 → ⊥) → (p : Printed) → p .session ≡ s → (out out′ : List ℕ) (at : ℕ) → Written out at (numberText (r .number)) out′ (p .at) → AnswersApart s (opens h) m tape out at p m′ out′
-  unfolding gives opened
+  unfolding gives replied
   opens-no n p e out out′ at x host = rw lent-all (call-no s m tape host t f left long clearedClient closed (opening h) [] r m′ [] k _ n p e out out′ at x)
 
   pub opens-taken : s .taken + r .taken ≤ length (wordsOf tape)
@@ -104,7 +104,7 @@ module _ (s : Session) (m tape t : List ℕ) (f : Served s tape) (left : t ≡ d
 
   pub opens-yes : r .number ≡ 0 → (p : Printed) → p .session ≡ record { client = r .client; taken = s .taken + r .taken } → (out out′ : List ℕ) (at : ℕ) → Written out at (numberText 0) out′ (p .at)
       → AnswersApart s (opens h) m tape out at p m′ out′
-  unfolding gives opened
+  unfolding gives replied
   opens-yes z p e out out′ at x host = rw lent-all (
       call-yes s m tape host t f left long clearedClient closed (opening h) [] r m′ [] k z
       (record { serves = ap serves (new-shape z) ∙ g; block = omega (arith, ap (λ (u : Shape). u .B) (new-shape z), bounds h w .2); taken = opens-taken })

@@ -24,7 +24,7 @@ pub record Session : Type 0 where
 unfoldable pub serves : Shape → Bool
 serves h = leb (h .N) 64 && leb (h .P * (slots (h .L) - 2) * h .B) 16384
 
--- the bytes of memory that it has for the calls: enough for every shape that it serves
+-- the bytes of memory that it has for the calls: enough for every shape that it serves (`served-fits`)
 abbrev pub room : ℕ
 room = 133120
 
@@ -74,12 +74,9 @@ completed s o = record {
   host = stored (s .state .shape) o (s .host);
 }
 
--- "A refused O changes nothing, and an accepted one starts a new store while the tape goes on"
-unfoldable pub opened : Session → State × Outcome → Given
-opened s r = answered s r (went s r, numberText 0)
-
-unfoldable pub asked : Session → State × Outcome → Given
-asked s r = answered s r (went s r, numberText 0)
+-- O, R and W print the number alone. "A refused O changes nothing, and an accepted one starts a new store while the tape goes on"
+unfoldable pub replied : Session → State × Outcome → Given
+replied s r = answered s r (went s r, numberText 0)
 
 unfoldable pub turned : Session → State × Outcome → Given
 turned s r = answered s r (completed (went s r) (r .1), commandText (r .1 .command))
@@ -89,9 +86,9 @@ collected s r = answered s r (went s r, contentsText (r .1 .bytes))
 
 -- The buffers of a turn and of a collect have exactly B bytes
 unfoldable pub gives : Session → Line → Given
-gives s (opens h) = opened s (step closed (call (opening h) (lent h) (s .words) 0))
-gives s (reads b) = asked s (step (s .state) (call (request read b []) room (s .words) 0))
-gives s (writes b bs) = asked s (step (s .state) (call (request write b bs) room (s .words) 0))
+gives s (opens h) = replied s (step closed (call (opening h) (lent h) (s .words) 0))
+gives s (reads b) = replied s (step (s .state) (call (request read b []) room (s .words) 0))
+gives s (writes b bs) = replied s (step (s .state) (call (request write b bs) room (s .words) 0))
 gives s turns = turned s (step (s .state) (call turn room (s .words) (s .state .shape .B)))
 gives s collects = collected s (step (s .state) (call collect room (s .words) (s .state .shape .B)))
 gives s malformed = (s, [])

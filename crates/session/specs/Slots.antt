@@ -8,7 +8,7 @@ use native.Mathlib.Omega.{arith}
 use lib.Pow.{pow-mono}
 use lib.Dec.{leb}
 use borrow.Author.Tests.{leb-true}
-use Rattle.lists.specs.Tests.{and-r}
+use Rattle.lists.specs.Tests.{and-l, and-r}
 use Rattle.rules.specs.Shape.{Shape, slots, offset}
 use Rattle.rules.specs.State.{Command, cmd}
 use Rattle.rules.specs.Laws.Levels.{two-slots}
@@ -31,6 +31,10 @@ product-le a b c d k l = omega (arith, mul-le-mul-right b k, swapped)
 pub room-served : (h : Shape) → serves h ≡ true → h .P * (slots (h .L) - 2) * h .B ≤ 16384
 unfolding serves
 room-served h e = leb-true (h .P * (slots (h .L) - 2) * h .B) 16384 (and-r (leb (h .N) 64) (leb (h .P * (slots (h .L) - 2) * h .B) 16384) e)
+
+pub blocks-served : (h : Shape) → serves h ≡ true → h .N ≤ 64
+unfolding serves
+blocks-served h e = leb-true (h .N) 64 (and-l (leb (h .N) 64) (leb (h .P * (slots (h .L) - 2) * h .B) 16384) e)
 
 -- where a slot is, counted in slots: the code's sum, its parts and the bytes up to its end
 pub record Spot (h : Shape) (q ℓ i : ℕ) : Type 0 where
