@@ -90,6 +90,11 @@ impl Lending {
     }
 }
 
+/// The bytes between the numbers of a state, which no accepted call changes.
+fn between(state: &[u8]) -> Vec<&[u8]> {
+    state.chunks_exact(4).map(|number| &number[2..]).collect()
+}
+
 /// The numbers that each call may answer.
 const NUMBERS: [&[u8]; 5] = [
     &[0, 1, 2, 3],
@@ -118,6 +123,8 @@ fn check(rng: &mut Rng, state_len: usize, memory: usize, seen: &mut [[usize; 16]
             }
             assert_eq!(after, before, "call {which} answers {answer:?}");
             assert_eq!((answer.taken, answer.command), Default::default());
+        } else {
+            assert_eq!(between(&lending.bytes()[0]), between(&before[0]));
         }
         seen[which][usize::from(answer.number)] += 1;
     }

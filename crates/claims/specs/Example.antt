@@ -67,10 +67,10 @@ unfolding refuse
 turn-meets = rw (closed-is (1 ∷ [])) (meets-no clearedClient closed turn (1 ∷ []) (5 ∷ 6 ∷ []) (9 ∷ []) 2 turn-number (λ z. omega arith) (closed-is (1 ∷ [])))
 
 open-contract : Opened noShape (replicate stateLength 7) (1 ∷ 2 ∷ 3 ∷ []) [] 1 (replicate stateLength 0) (1 ∷ 2 ∷ 3 ∷ [])
-open-contract = record { meets = λ l. rw zeros-say open-meets; refused = λ l n. refl; other = λ n. absurd (n refl) }
+open-contract = record { meets = λ l. rw zeros-say open-meets; refused = λ l n. refl; between = λ z. absurd (omega arith); other = λ n. absurd (n refl) }
 
 turn-contract : Exported turn (replicate stateLength 0) (1 ∷ []) (5 ∷ 6 ∷ []) (9 ∷ []) 2 (replicate stateLength 0) (1 ∷ []) (9 ∷ [])
-turn-contract = record { meets = λ l. rw zeros-say turn-meets; refused = λ n. refl; other = λ n. absurd (n refl) }
+turn-contract = record { meets = λ l. rw zeros-say turn-meets; refused = λ n. refl; between = λ k. refl; other = λ n. absurd (n refl) }
 
 pub example : FromOpen (opened ∷ turned ∷ [])
 example = record {

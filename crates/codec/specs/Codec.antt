@@ -1,4 +1,4 @@
--- The client's state as sixteen numbers, and an answer as one number.
+-- The client's state as words, and an answer as one number.
 use mathlib.Core.Path.{_≡_, refl, fun-ext, sym, _∙_}
 use Prim.Native.Nat.{ℕ, _+_, _*_, _/_, _%_, _<_}
 use native.Mathlib.Omega.{arith}
@@ -16,28 +16,25 @@ use Rattle.meets.specs.declared.Answer.{Answer}
 abbrev pub stateLength : ℕ
 stateLength = 64
 
--- number k: four bytes for each, of which the first two are used, so that the compiler reads each number as it was stored and not several at once
-abbrev pub numberAt : List ℕ → ℕ → ℕ
-numberAt st k = wordAt st (k * 2)
-
--- the client that sixteen numbers say
+-- the client that they say. Number k is word 2k: four bytes for each number, of which the first two are used, so that the compiler reads each as it
+-- was stored and not several at once
 abbrev pub clientOf : (ℕ → ℕ) → Client
 clientOf w = record {
-  shape = record { n = w 0; p = w 1; l = w 2; b = w 3; e = w 4; w = w 5 };
-  request = record { kind = w 6; block = w 7; next = w 8; evict = w 9; level = w 10 };
-  jobs = w 11;
-  cursor = w 12;
-  sent = w 13;
-  waiting = w 14;
-  out = w 15;
+  shape = record { n = w 0; p = w 2; l = w 4; b = w 6; e = w 8; w = w 10 };
+  request = record { kind = w 12; block = w 14; next = w 16; evict = w 18; level = w 20 };
+  jobs = w 22;
+  cursor = w 24;
+  sent = w 26;
+  waiting = w 28;
+  out = w 30;
 }
 
--- sixteen numbers with those of a shape, of a request
+-- words with the numbers of a shape, of a request
 abbrev pub withShape : Shape → (ℕ → ℕ) → ℕ → ℕ
-withShape h w = put 5 (h .w % 65536) (put 4 (h .e % 65536) (put 3 (h .b % 65536) (put 2 (h .l % 65536) (put 1 (h .p % 65536) (put 0 (h .n % 65536) w)))))
+withShape h w = put 10 (h .w % 65536) (put 8 (h .e % 65536) (put 6 (h .b % 65536) (put 4 (h .l % 65536) (put 2 (h .p % 65536) (put 0 (h .n % 65536) w)))))
 
 abbrev pub withRequest : Request → (ℕ → ℕ) → ℕ → ℕ
-withRequest r w = put 10 (r .level % 65536) (put 9 (r .evict % 65536) (put 8 (r .next % 65536) (put 7 (r .block % 65536) (put 6 (r .kind % 65536) w))))
+withRequest r w = put 20 (r .level % 65536) (put 18 (r .evict % 65536) (put 16 (r .next % 65536) (put 14 (r .block % 65536) (put 12 (r .kind % 65536) w))))
 
 -- each number modulo 2^16
 abbrev pub lowShape : Shape → Shape
@@ -58,9 +55,9 @@ lowClient c = record {
 abbrev pub reshaped : Shape → Client → Client
 reshaped h c = record { shape = h; request = c .request; jobs = c .jobs; cursor = c .cursor; sent = c .sent; waiting = c .waiting; out = c .out }
 
--- sixteen numbers with those of a client but its shape
+-- words with the numbers of a client but its shape
 abbrev pub withRest : Client → (ℕ → ℕ) → ℕ → ℕ
-withRest c w = put 15 (c .out % 65536) (put 14 (c .waiting % 65536) (put 13 (c .sent % 65536) (put 12 (c .cursor % 65536) (put 11 (c .jobs % 65536) (withRequest (c .request) w)))))
+withRest c w = put 30 (c .out % 65536) (put 28 (c .waiting % 65536) (put 26 (c .sent % 65536) (put 24 (c .cursor % 65536) (put 22 (c .jobs % 65536) (withRequest (c .request) w)))))
 
 -- numbers stored are read again
 pub rest-is : (c : Client) (w : ℕ → ℕ) → clientOf (withRest c w) ≡ reshaped (clientOf w .shape) (lowClient c)
@@ -70,6 +67,21 @@ rest-is c w = refl
 pub stored-is : (c : Client) (w : ℕ → ℕ) → clientOf (withRest c (withShape (c .shape) w)) ≡ lowClient c
 unfolding put
 stored-is c w = refl
+
+-- ..and the words between them stay
+abbrev pub Between : (ℕ → ℕ) → (ℕ → ℕ) → Type 0
+Between w w′ = (k : ℕ) → w′ (k * 2 + 1) ≡ w (k * 2 + 1)
+
+between : (n v : ℕ) (w w′ : ℕ → ℕ) → Between w w′ → Between w (put (n * 2) v w′)
+between n v w w′ h k = put-other (n * 2) v w′ (k * 2 + 1) (λ e. omega arith) ∙ h k
+
+pub between-rest : (c : Client) (w w′ : ℕ → ℕ) → Between w w′ → Between w (withRest c w′)
+between-rest c w w′ h =
+    between 15 _ w _ (between 14 _ w _ (between 13 _ w _ (between 12 _ w _ (between 11 _ w _ (
+    between 10 _ w _ (between 9 _ w _ (between 8 _ w _ (between 7 _ w _ (between 6 _ w w′ h)))))))))
+
+pub between-shape : (h : Shape) (w : ℕ → ℕ) → Between w (withShape h w)
+between-shape h w = between 5 _ w _ (between 4 _ w _ (between 3 _ w _ (between 2 _ w _ (between 1 _ w _ (between 0 _ w w (λ k. refl))))))
 
 -- the answer as a number, and back
 abbrev pub packed : Answer → ℕ
@@ -86,10 +98,10 @@ answerOf u c = record {
   client = c;
 }
 
--- a number stored among others
-pub number-put : (m : List ℕ) (k v : ℕ) → k * 2 * 2 + 1 < length m → v < 65536 → numberAt (setWord m (k * 2) v) ≡ put k v (numberAt m)
-number-put m k v l f = fun-ext (λ x. go x (ℕ-discrete x k))
+-- a word stored among others
+pub word-put : (m : List ℕ) (k v : ℕ) → k * 2 + 1 < length m → v < 65536 → wordAt (setWord m k v) ≡ put k v (wordAt m)
+word-put m k v l f = fun-ext (λ x. go x (ℕ-discrete x k))
   where
-    go : (x : ℕ) → Dec (x ≡ k) → wordAt (setWord m (k * 2) v) (x * 2) ≡ put k v (numberAt m) x
-    go x (yes e) = rw e (word-same m (k * 2) v l f ∙ sym (put-same k v (numberAt m)))
-    go x (no n) = word-other m (k * 2) v (x * 2) (λ e. n (omega arith)) ∙ sym (put-other k v (numberAt m) x n)
+    go : (x : ℕ) → Dec (x ≡ k) → wordAt (setWord m k v) x ≡ put k v (wordAt m) x
+    go x (yes e) = rw e (word-same m k v l f ∙ sym (put-same k v (wordAt m)))
+    go x (no n) = word-other m k v x n ∙ sym (put-other k v (wordAt m) x n)

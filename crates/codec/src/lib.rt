@@ -4,29 +4,30 @@ use client::Request;
 use meets::Answer;
 use memory::Shape;
 ghost use mathlib.Core.Path.{_≡_};
-ghost use Prim.Native.Nat.{_%_, _<_};
+ghost use Prim.Native.Nat.{_*_, _%_, _<_};
 ghost use lib.ListN.{length};
 ghost use Rattle.lists.specs.Tables.{put as putAt};
-ghost use Rattle.codec.specs.Codec.{stateLength, numberAt, clientOf, withShape, withRequest, withRest, lowClient, packed};
+ghost use Rattle.memory.specs.Words.{wordAt};
+ghost use Rattle.codec.specs.Codec.{stateLength, clientOf, withShape, withRequest, withRest, packed};
 
 // Number k of the state.
 fn number(s: &[u8], k: usize) -> usize
     requires { ⌜ (length (now s) ≡ stateLength) × (k < 16) ⌝ }
-    ensures { λ r. ⌜ r ≡ numberAt (now (s .entry)) k ⌝ }
+    ensures { λ r. ⌜ r ≡ wordAt (now (s .entry)) (k * 2) ⌝ }
 {
     memory::word(s, k * 2)
 }
 
 fn set_number(s: &mut [u8], k: usize, v: usize)
     requires { ⌜ (length (now s) ≡ stateLength) × (k < 16) ⌝ }
-    ensures { λ _. ⌜ numberAt (now (s .exit)) ≡ putAt k (v % 65536) (numberAt (now (s .entry))) ⌝ }
+    ensures { λ _. ⌜ wordAt (now (s .exit)) ≡ putAt (k * 2) (v % 65536) (wordAt (now (s .entry))) ⌝ }
 {
     memory::set_word(s, k * 2, v % 65536);
 }
 
 fn shape(s: &[u8]) -> Shape
     requires { ⌜ length (now s) ≡ stateLength ⌝ }
-    ensures { λ r. ⌜ r ≡ clientOf (numberAt (now (s .entry))) .shape ⌝ }
+    ensures { λ r. ⌜ r ≡ clientOf (wordAt (now (s .entry))) .shape ⌝ }
 {
     Shape {
         n: number(s, 0),
@@ -40,7 +41,7 @@ fn shape(s: &[u8]) -> Shape
 
 fn request(s: &[u8]) -> Request
     requires { ⌜ length (now s) ≡ stateLength ⌝ }
-    ensures { λ r. ⌜ r ≡ clientOf (numberAt (now (s .entry))) .request ⌝ }
+    ensures { λ r. ⌜ r ≡ clientOf (wordAt (now (s .entry))) .request ⌝ }
 {
     Request {
         kind: number(s, 6),
@@ -53,7 +54,7 @@ fn request(s: &[u8]) -> Request
 
 pub fn decode(s: &[u8]) -> Client
     requires { ⌜ length (now s) ≡ stateLength ⌝ }
-    ensures { λ r. ⌜ r ≡ clientOf (numberAt (now (s .entry))) ⌝ }
+    ensures { λ r. ⌜ r ≡ clientOf (wordAt (now (s .entry))) ⌝ }
 {
     Client {
         shape: shape(s),
@@ -68,7 +69,7 @@ pub fn decode(s: &[u8]) -> Client
 
 fn put_shape(s: &mut [u8], h: Shape)
     requires { ⌜ length (now s) ≡ stateLength ⌝ }
-    ensures { λ _. ⌜ numberAt (now (s .exit)) ≡ withShape h (numberAt (now (s .entry))) ⌝ }
+    ensures { λ _. ⌜ wordAt (now (s .exit)) ≡ withShape h (wordAt (now (s .entry))) ⌝ }
 {
     set_number(s, 0, h.n);
     set_number(s, 1, h.p);
@@ -80,7 +81,7 @@ fn put_shape(s: &mut [u8], h: Shape)
 
 fn put_request(s: &mut [u8], r: Request)
     requires { ⌜ length (now s) ≡ stateLength ⌝ }
-    ensures { λ _. ⌜ numberAt (now (s .exit)) ≡ withRequest r (numberAt (now (s .entry))) ⌝ }
+    ensures { λ _. ⌜ wordAt (now (s .exit)) ≡ withRequest r (wordAt (now (s .entry))) ⌝ }
 {
     set_number(s, 6, r.kind);
     set_number(s, 7, r.block);
@@ -92,7 +93,7 @@ fn put_request(s: &mut [u8], r: Request)
 // Stores all but the shape, which only an open changes.
 pub fn encode_rest(s: &mut [u8], c: Client)
     requires { ⌜ length (now s) ≡ stateLength ⌝ }
-    ensures { λ _. ⌜ numberAt (now (s .exit)) ≡ withRest c (numberAt (now (s .entry))) ⌝ }
+    ensures { λ _. ⌜ wordAt (now (s .exit)) ≡ withRest c (wordAt (now (s .entry))) ⌝ }
 {
     put_request(s, c.request);
     set_number(s, 11, c.jobs);
@@ -104,7 +105,7 @@ pub fn encode_rest(s: &mut [u8], c: Client)
 
 pub fn encode(s: &mut [u8], c: Client)
     requires { ⌜ length (now s) ≡ stateLength ⌝ }
-    ensures { λ _. ⌜ clientOf (numberAt (now (s .exit))) ≡ lowClient c ⌝ }
+    ensures { λ _. ⌜ wordAt (now (s .exit)) ≡ withRest c (withShape (c .shape) (wordAt (now (s .entry)))) ⌝ }
 {
     put_shape(s, c.shape);
     encode_rest(s, c);

@@ -26,17 +26,19 @@ use Rattle.tape.specs.Tape.{wordsOf}
 use Rattle.meets.specs.declared.Answer.{Answer}
 use Rattle.meets.specs.Answers.{clearedClient}
 use Rattle.meets.specs.Meets.{Meets, callOf, commandOf}
-use Rattle.codec.specs.Codec.{stateLength, numberAt, clientOf, reshaped, lowShape, lowClient, packed, answerOf}
+use Rattle.codec.specs.Codec.{stateLength, clientOf, reshaped, lowShape, lowClient, withShape, withRest, rest-is, stored-is, Between, between-rest, between-shape, packed, answerOf}
 use Rattle.exports.specs.Small.{SmallCommand, accepted-small, low-shape, low-client}
 
 -- the client that 64 bytes say
 abbrev pub clientIn : List ℕ → Client
-clientIn st = clientOf (numberAt st)
+clientIn st = clientOf (wordAt st)
 
 -- A request, turn, completion or collect: st is the state handed in, st′ the state handed back
 pub record Exported (a : Ask) (st m tape b : List ℕ) (u : ℕ) (st′ m′ b′ : List ℕ) : Type 0 where
   pub meets : length st ≡ stateLength → Meets (clientIn st) (stateOf (clientIn st) m) a m tape b (answerOf u (clientIn st′)) m′ b′
   pub refused : (u % 256 ≡ 0 → ⊥) → st′ ≡ st
+  -- the bytes between the numbers of the state stay
+  pub between : Between (wordAt st) (wordAt st′)
   -- a state of another length: 2, and nothing is written
   pub other : (length st ≡ stateLength → ⊥) → (u ≡ 2) × (st′ ≡ st) × (m′ ≡ m) × (b′ ≡ b)
 
@@ -44,6 +46,7 @@ pub record Exported (a : Ask) (st m tape b : List ℕ) (u : ℕ) (st′ m′ b�
 pub record Opened (h : Shape) (st m tape : List ℕ) (u : ℕ) (st′ m′ : List ℕ) : Type 0 where
   pub meets : length st ≡ stateLength → Meets clearedClient closed (opening h) m tape [] (answerOf u (clientIn st′)) m′ []
   pub refused : length st ≡ stateLength → (u % 256 ≡ 0 → ⊥) → st′ ≡ replicate stateLength 0
+  pub between : u % 256 ≡ 0 → Between (wordAt st) (wordAt st′)
   pub other : (length st ≡ stateLength → ⊥) → (u ≡ 2) × (st′ ≡ st) × (m′ ≡ m)
 
 -- ---- Packed answers
@@ -167,12 +170,12 @@ module _ (c : Client) (s : State) (a : Ask) (m tape b : List ℕ) (r : Answer) (
 
 pub record HandedBack (r : Answer) (u : ℕ) (st st′ : List ℕ) : Type 0 where
   pub answer : u ≡ packed r
-  pub accepted : r .number ≡ 0 → clientIn st′ ≡ reshaped (clientIn st .shape) (lowClient (r .client))
+  pub accepted : r .number ≡ 0 → wordAt st′ ≡ withRest (r .client) (wordAt st)
   pub refused : (r .number ≡ 0 → ⊥) → st′ ≡ st
 
-pub record HandedBackOpened (r : Answer) (u : ℕ) (st′ : List ℕ) : Type 0 where
+pub record HandedBackOpened (r : Answer) (u : ℕ) (st st′ : List ℕ) : Type 0 where
   pub answer : u ≡ packed r
-  pub accepted : r .number ≡ 0 → clientIn st′ ≡ lowClient (r .client)
+  pub accepted : r .number ≡ 0 → wordAt st′ ≡ withRest (r .client) (withShape (r .client .shape) (wordAt st))
   pub refused : (r .number ≡ 0 → ⊥) → st′ ≡ replicate stateLength 0
 
 abbrev pub numbers : ℕ → ℕ → ℕ → ℕ → ℕ → ℕ → Shape
@@ -187,11 +190,16 @@ pub exported : (a : Ask) → opens a ≡ false → (st m tape b : List ℕ) (r :
 exported a four st m tape b r u st′ m′ b′ l k h = record {
   meets = λ _. rw (h .answer) (go (ℕ-discrete (r .number) 0));
   refused = λ n. h .refused (λ z. n (rw (h .answer) (number-packed (clientIn st) (stateOf (clientIn st) m) a m tape b r m′ b′ k ∙ z)));
+  between = kept (ℕ-discrete (r .number) 0);
   other = λ n. absurd (n l);
 }
   where
+    kept : Dec (r .number ≡ 0) → Between (wordAt st) (wordAt st′)
+    kept (yes z) = rw (h .accepted z) (between-rest (r .client) (wordAt st) (wordAt st) (λ k. refl))
+    kept (no n) = rw (h .refused n) (λ k. refl)
+
     go : Dec (r .number ≡ 0) → Meets (clientIn st) (stateOf (clientIn st) m) a m tape b (answerOf (packed r) (clientIn st′)) m′ b′
-    go (yes z) = meets-accepted (clientIn st) (stateOf (clientIn st) m) a m tape b r m′ b′ k z (clientIn st′) (h .accepted z ∙ ap (λ x. reshaped x (lowClient (r .client))) (same z))
+    go (yes z) = meets-accepted (clientIn st) (stateOf (clientIn st) m) a m tape b r m′ b′ k z (clientIn st′) (ap clientOf (h .accepted z) ∙ rest-is (r .client) (wordAt st) ∙ ap (λ x. reshaped x (lowClient (r .client))) (same z))
       where
         same : r .number ≡ 0 → clientIn st .shape ≡ lowShape (r .client .shape)
         same z =
@@ -201,10 +209,11 @@ exported a four st m tape b r u st′ m′ b′ l k h = record {
 
 -- an open
 pub exported-open : (h : Shape) (st m tape : List ℕ) (r : Answer) (u : ℕ) (st′ m′ : List ℕ) → length st ≡ stateLength
-    → Meets clearedClient closed (opening h) m tape [] r m′ [] → HandedBackOpened r u st′ → Opened h st m tape u st′ m′
+    → Meets clearedClient closed (opening h) m tape [] r m′ [] → HandedBackOpened r u st st′ → Opened h st m tape u st′ m′
 exported-open h st m tape r u st′ m′ l k b = record {
   meets = λ _. rw (b .answer) (go (ℕ-discrete (r .number) 0));
   refused = λ _ n. b .refused (λ z. n (rw (b .answer) (number-packed clearedClient closed (opening h) m tape [] r m′ [] k ∙ z)));
+  between = λ z. rw (b .accepted (sym (number-packed clearedClient closed (opening h) m tape [] r m′ [] k) ∙ sym (ap (λ x. x % 256) (b .answer)) ∙ z)) (between-rest (r .client) (wordAt st) _ (between-shape (r .client .shape) (wordAt st)));
   other = λ n. absurd (n l);
 }
   where
@@ -212,5 +221,5 @@ exported-open h st m tape r u st′ m′ l k b = record {
     zeros-say = unfold wordAt in refl
 
     go : Dec (r .number ≡ 0) → Meets clearedClient closed (opening h) m tape [] (answerOf (packed r) (clientIn st′)) m′ []
-    go (yes z) = meets-accepted clearedClient closed (opening h) m tape [] r m′ [] k z (clientIn st′) (b .accepted z)
+    go (yes z) = meets-accepted clearedClient closed (opening h) m tape [] r m′ [] k z (clientIn st′) (ap clientOf (b .accepted z) ∙ stored-is (r .client) (wordAt st))
     go (no n) = rw (b .refused n, zeros-say) (meets-refused clearedClient closed (opening h) m tape [] r m′ [] k n)

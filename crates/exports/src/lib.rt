@@ -25,7 +25,7 @@ fn hand_back(state: &mut [u8], r: Answer) -> u64
 // A refused open hands back zeros.
 fn hand_back_opened(state: &mut [u8], r: Answer) -> u64
     requires { ⌜ length (now state) ≡ stateLength ⌝ }
-    ensures { λ u. ⌜ HandedBackOpened r u (now (state .exit)) ⌝ }
+    ensures { λ u. ⌜ HandedBackOpened r u (now (state .entry)) (now (state .exit)) ⌝ }
 {
     if r.number != 0 {
         memory::blocks::zeros(state);

@@ -1,6 +1,6 @@
 use mathlib.Core.Path.{ap, _∙_}
 use native.Mathlib.Omega.{arith}
-use Rattle.codec.specs.Codec.{numberAt, clientOf, withRest, stored-is}
+use Rattle.codec.specs.Codec.{withRest}
 use Rattle.codec.proofs.encode.Statement.{statement}
 use Rattle.codec.proofs.encode.Tie as tie
 use Rattle.codec.proofs.encode_rest.Reads as encode-rest-reads
@@ -20,7 +20,7 @@ returns c =
     let r = c .before .before in
     let h = r .before .before .before .before in
     let a = h .before .before .before .args in
-    ap clientOf (r .encode-rest .ensures ∙ ap (withRest (a .c)) (h .put-shape .ensures)) ∙ stored-is (a .c) (numberAt (a .s .now))
+    r .encode-rest .ensures ∙ ap (withRest (a .c)) (h .put-shape .ensures)
 
 pub encode-spec : {M : Type 1} → statement M
 encode-spec = tie.close (tie.spec put-shape-requires encode-rest-requires same-length returns)

@@ -39,11 +39,11 @@ returns c =
     let r = d1 .before .before .before .before in
     let a = r .before .before .before .args in
     let request = r .put-request .ensures in
-    let jobs = d1 .set-number .ensures ∙ ap (put 11 (a .c .jobs % 65536)) request in
-    let cursor = d2 .set-number2 .ensures ∙ ap (put 12 (a .c .cursor % 65536)) jobs in
-    let sent = d3 .set-number3 .ensures ∙ ap (put 13 (a .c .sent % 65536)) cursor in
-    let waiting = d4 .set-number4 .ensures ∙ ap (put 14 (a .c .waiting % 65536)) sent in
-    d5 .set-number5 .ensures ∙ ap (put 15 (a .c .out % 65536)) waiting
+    let jobs = d1 .set-number .ensures ∙ ap (put 22 (a .c .jobs % 65536)) request in
+    let cursor = d2 .set-number2 .ensures ∙ ap (put 24 (a .c .cursor % 65536)) jobs in
+    let sent = d3 .set-number3 .ensures ∙ ap (put 26 (a .c .sent % 65536)) cursor in
+    let waiting = d4 .set-number4 .ensures ∙ ap (put 28 (a .c .waiting % 65536)) sent in
+    d5 .set-number5 .ensures ∙ ap (put 30 (a .c .out % 65536)) waiting
 
 pub encode-rest-spec : {M : Type 1} → statement M
 encode-rest-spec =

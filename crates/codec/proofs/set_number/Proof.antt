@@ -1,6 +1,6 @@
-use Prim.Native.Nat.{_%_}
+use Prim.Native.Nat.{_*_, _%_}
 use native.Mathlib.Omega.{arith}
-use Rattle.codec.specs.Codec.{number-put}
+use Rattle.codec.specs.Codec.{word-put}
 use Rattle.codec.proofs.set_number.Statement.{statement}
 use Rattle.codec.proofs.set_number.Tie as tie
 use Rattle.memory.proofs.set_word.Reads as set-word-reads
@@ -15,7 +15,7 @@ same-length : tie.Need-same-length
 same-length c = omega arith
 
 returns : tie.Need-returns
-returns c = let a = c .before .before .before .before .before in rw (c .before .before .set-word .ensures) (number-put (a .args .s .now) (a .args .k) (a .args .v % 65536) (omega arith) (omega arith))
+returns c = let a = c .before .before .before .before .before in rw (c .before .before .set-word .ensures) (word-put (a .args .s .now) (a .args .k * 2) (a .args .v % 65536) (omega arith) (omega arith))
 
 pub set-number-spec : {M : Type 1} → statement M
 set-number-spec = tie.close (tie.spec mul-set-word set-word-requires same-length returns)

@@ -1,5 +1,4 @@
-use mathlib.Core.Path.{refl, ap, _∙_}
-use Rattle.codec.specs.Codec.{clientOf, numberAt, rest-is}
+use mathlib.Core.Path.{refl}
 use native.Mathlib.Omega.{arith}
 use Rattle.exports.proofs.hand_back.Statement.{statement}
 use Rattle.exports.proofs.hand_back.Tie as tie
@@ -22,8 +21,7 @@ same-length : tie.Need-same-length
 same-length c = omega arith
 
 returns-2 : tie.Need-returns-2
-returns-2 c = let a = c .before .before .before .before .before .before .before .before .args in
-    let z = c .before .before .before .before .before .if1 .left in record { answer = c .pack2 .ensures; accepted = λ _. ap clientOf (c .before .before .before .encode-rest .ensures) ∙ rest-is (a .r .client) (numberAt (a .state .now)); refused = λ n. absurd (n (omega arith)) }
+returns-2 c = record { answer = c .pack2 .ensures; accepted = λ _. c .before .before .before .encode-rest .ensures; refused = λ n. absurd (n (omega arith)) }
 
 pub hand-back-spec : {M : Type 1} → statement M
 hand-back-spec =

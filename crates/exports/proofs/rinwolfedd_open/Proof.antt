@@ -7,7 +7,7 @@ use Rattle.exports.proofs.hand_back_opened.Reads as hand-back-opened-re
 use Rattle.opening.proofs.open.Reads as open-reads
 
 returns : tie.Need-returns
-returns c = record { meets = λ l. absurd (c .if1 .taken l); refused = λ l. absurd (c .if1 .taken l); other = λ _. (refl, refl, refl) }
+returns c = record { meets = λ l. absurd (c .if1 .taken l); refused = λ l. absurd (c .if1 .taken l); between = λ z. absurd (omega arith); other = λ _. (refl, refl, refl) }
 
 open-requires : tie.Need-open-requires
 open-requires c κs = omega arith
