@@ -1,13 +1,17 @@
 -- The blocks that wait, in their table.
-use mathlib.Core.Path.{_≡_, refl, ap, sym, _∙_}
-use mathlib.Core.Bool.{Bool, true, false, not}
+use mathlib.Core.Path.{_≡_, refl, ap, sym, subst, fun-ext, _∙_}
+use mathlib.Core.Bool.{Bool, true, false, not, true≢false}
 use mathlib.Core.List.{List, [], _∷_, _++_}
-use Prim.Native.Nat.{ℕ, _+_, _-_, _≤_, _<_}
+use Prim.Native.Nat.{ℕ, zero, suc, _+_, _-_, _≤_, _<_}
+use native.Mathlib.Numerals.{add-one}
+use native.Mathlib.Omega.{arith}
+use native.Mathlib.Decide.{ℕ-discrete, decLt}
 use lib.ListN.{length}
-use lib.Dec.{eqb}
-use borrow.Author.Tests.{eq-eqb, ne-eqb}
+use lib.Dec.{eqb, ltb}
+use borrow.Author.Tests.{eq-eqb, ne-eqb, lt-ltb, le-ltb}
 use Rattle.lists.specs.Tests.{if_then_else_}
-use Rattle.lists.specs.Tables.{put}
+use Rattle.lists.specs.Search.{any, member}
+use Rattle.lists.specs.Tables.{put, put-same, put-other}
 use Rattle.rules.specs.Ranges.{others}
 use Rattle.rules.specs.Setters.{setWaiting}
 use Rattle.memory.specs.declared.Shape.{Shape}
@@ -16,7 +20,7 @@ use Rattle.memory.specs.Tables.{tablesOf}
 use Rattle.memory.specs.Fits.{shapeOf, fit}
 use Rattle.client.specs.declared.Client.{Client}
 use Rattle.client.specs.View.{rows, view, stateOf}
-use Rattle.client.specs.Rows.{dropAt, length-rows, Shifted, shifted-none, shifted-all, Kept, kept-none, kept-no}
+use Rattle.client.specs.Rows.{dropAt, length-rows, Shifted, shifted-none, shifted-all, Kept, kept-none, kept-yes, kept-no, any-hit, any-miss}
 use Rattle.client.specs.Changes.{fitted, fit-push, fit-shifted, fit-kept}
 use Rattle.client.specs.Moves.{withWaiting, Stands, stands}
 
@@ -59,6 +63,21 @@ pub left : (c : Client) (m₀ m : List ℕ) (j i : ℕ) → j < c .waiting → c
 left c m₀ m j i l u s =
     waiting-stands c m₀ m (s .blocks) (c .waiting - 1) _ (s .tables) (shifted-all (blocksIn (c .shape) m₀) (fitted (c .shape .n) (s .blocks)) j i (c .waiting) l u (s .shifted) ∙ ap (dropAt j) (sym (waiting-is c m₀)))
 
+-- ---- The first place of a block among the first n, or n
+pub record FirstAt (f : ℕ → ℕ) (n b r : ℕ) : Type 0 where
+  pub le : r ≤ n
+  pub before : (x : ℕ) → x < r → eqb (f x) b ≡ false
+  pub here : r < n → f r ≡ b
+
+-- it is among them exactly where that is below n
+pub waits-is : (c : Client) (m : List ℕ) (b r : ℕ) → FirstAt (blocksIn (c .shape) m) (c .waiting) b r → ltb r (c .waiting) ≡ member b (stateOf c m .waiting)
+unfolding member
+waits-is c m b r f = rw waiting-is (go (decLt r (c .waiting)))
+  where
+    go : Dec (r < c .waiting) → ltb r (c .waiting) ≡ any (eqb b) (rows (blocksIn (c .shape) m) (c .waiting))
+    go (yes l) = lt-ltb r (c .waiting) l ∙ sym (any-hit (eqb b) _ _ r l (eq-eqb b _ (sym (f .here l))))
+    go (no l) = le-ltb r (c .waiting) (omega arith) ∙ sym (any-miss (eqb b) _ _ (λ x h. ne-eqb b _ (λ e. true≢false (sym (eq-eqb _ b (sym e)) ∙ f .before x (omega (arith, f .le))))))
+
 -- ---- One is renewed: the first k blocks are those of the first i that are not b
 abbrev pub other : ℕ → ℕ → Bool
 other b a = not (eqb a b)
@@ -82,8 +101,20 @@ module _ (h : Shape) (m : List ℕ) (k i b : ℕ) where
       let f : eqb (blocksIn h m i) b ≡ false = ne-eqb (blocksIn h m i) b (λ q. n (e ∙ q)) in
       record { count = rw f; tables = rw f (rw e at t) }
 
-pub renewing-none : (h : Shape) (b : ℕ) (m : List ℕ) → Renewing h b m m 0 0
-renewing-none h b m = record { blocks = tablesOf (shapeOf h) m .waiting; tables = refl; kept = kept-none (other b) (blocksIn h m) }
+-- nothing changes while b is not met
+kept-all : (p : ℕ → Bool) (g : ℕ → ℕ) (j : ℕ) → ((x : ℕ) → x < j → p (g x) ≡ true) → Kept p g g j j
+kept-all p g zero f = kept-none p g
+kept-all p g (suc j) f = subst (λ (u : ℕ → ℕ). Kept p g u (suc j) (suc j)) same (rw (add-one j) at (kept-yes p g g j j (f j (omega arith)) (kept-all p g j (λ x l. f x (omega arith)))))
+  where
+    same : put j (g j) g ≡ g
+    same = fun-ext (λ x. go x (ℕ-discrete x j))
+      where
+        go : (x : ℕ) → Dec (x ≡ j) → put j (g j) g x ≡ g x
+        go x (yes e) = rw e (put-same j (g j) g)
+        go x (no n) = put-other j (g j) g x n
+
+pub renewing-from : (h : Shape) (b : ℕ) (m : List ℕ) (n j : ℕ) → FirstAt (blocksIn h m) n b j → Renewing h b m m j j
+renewing-from h b m n j f = record { blocks = tablesOf (shapeOf h) m .waiting; tables = refl; kept = kept-all (other b) (blocksIn h m) j (λ x l. ap not (f .before x l)) }
 
 pub renewing-more : (h : Shape) (b : ℕ) (m₀ m m′ : List ℕ) (k i r : ℕ) → 1 ≤ h .n → Joined h m m′ k i b r → Renewing h b m₀ m k i → Renewing h b m₀ m′ r (i + 1)
 renewing-more h b m₀ m m′ k i r l j s = go (eqb (blocksIn h m i) b) refl (j .count) (j .tables)

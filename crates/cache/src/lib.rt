@@ -12,22 +12,30 @@ ghost use Rattle.client.specs.View.{stateOf};
 ghost use Rattle.client.specs.Rows.{dropAt};
 ghost use Rattle.client.specs.Moves.{withWaiting, Room, Stands};
 ghost use Rattle.cache.specs.Longest.{Longest};
-ghost use Rattle.cache.specs.Waiting.{Joined};
+ghost use Rattle.cache.specs.Waiting.{blocksIn, FirstAt, Joined};
+
+// The first place of block b in the cache, or the number of those that wait.
+fn place(c: Client, m: &[u8], b: usize) -> usize
+    requires { ⌜ Room c (now m) × (c .waiting ≤ c .shape .n) ⌝ }
+    ensures { λ r. ⌜ FirstAt (blocksIn (c .shape) (now (m .entry))) (c .waiting) b r ⌝ }
+{
+    let n = c.waiting;
+    let mut i = 0;
+    while i < n {
+        if memory::tables::waiting(c.shape, m, i) == b {
+            return i;
+        }
+        i += 1;
+    }
+    n
+}
 
 // Whether block b waits.
 pub fn is_waiting(c: Client, m: &[u8], b: usize) -> bool
     requires { ⌜ Room c (now m) × (c .waiting ≤ c .shape .n) ⌝ }
     ensures { λ r. ⌜ r ≡ member b (stateOf c (now (m .entry)) .waiting) ⌝ }
 {
-    let n = c.waiting;
-    let mut i = 0;
-    while i < n {
-        if memory::tables::waiting(c.shape, m, i) == b {
-            return true;
-        }
-        i += 1;
-    }
-    false
+    place(c, m, b) < c.waiting
 }
 
 // The place in the cache of the block that has waited longest for partition q.
@@ -62,14 +70,14 @@ pub fn leave(c: Client, m: &mut [u8], j: usize) -> Client
     c.with_waiting(last)
 }
 
-// Block b leaves the cache wherever it waits, and joins its young end.
+// Block b leaves the cache wherever it waits, and joins its young end. Those before its first place stay where they are.
 pub fn renew(c: Client, m: &mut [u8], b: usize) -> Client
     requires { ⌜ Room c (now m) × (c .waiting ≤ c .shape .n) × (b < c .shape .n) × (length (others (stateOf c (now m) .waiting) b) < c .shape .n) ⌝ }
     ensures { λ r. ⌜ (r ≡ withWaiting (length (others (stateOf c (now (m .entry)) .waiting) b) + 1) c) × Stands r (now (m .entry)) (now (m .exit)) (setWaiting (others (stateOf c (now (m .entry)) .waiting) b ++ (b ∷ [])) (stateOf c (now (m .entry)))) ⌝ }
 {
     let n = c.waiting;
-    let mut k = 0;
-    let mut i = 0;
+    let mut k = place(c, m, b);
+    let mut i = k;
     while i < n {
         k = join(c, m, k, i, b);
         i += 1;

@@ -3,14 +3,18 @@ use client::Client;
 use client::Found;
 use memory::Shape;
 ghost use mathlib.Core.Path.{_≡_};
-ghost use Prim.Native.Nat.{_*_, _<_, _≤_};
+ghost use mathlib.Core.Bool.{_&&_};
+ghost use Prim.Native.Nat.{_+_, _*_, _<_, _≤_};
+ghost use lib.ListN.{length};
+ghost use lib.Dec.{eqb};
 ghost use Rattle.rules.specs.Shape.{slots, cell as cellOf};
 ghost use Rattle.rules.specs.Levels.{sources as sourcesOf};
 ghost use Rattle.rules.specs.Blocks.{blocksIn};
 ghost use Rattle.rules.specs.Request.{dummy as dummyOf};
 ghost use Rattle.rules.specs.Rebuild.{unread as unreadOf};
 ghost use Rattle.rules.specs.Turn.{markRead};
-ghost use Rattle.memory.specs.Fits.{shapeOf};
+ghost use Rattle.memory.specs.Tables.{tablesOf};
+ghost use Rattle.memory.specs.Fits.{shapeOf, fit, Fits};
 ghost use Rattle.client.specs.View.{stateOf, foundOf};
 ghost use Rattle.client.specs.Moves.{Room, Stands};
 ghost use Rattle.levels.specs.Next.{NextFilled, spotOf};
@@ -44,6 +48,17 @@ pub fn next_filled(levels: usize, counter: usize, from: usize) -> usize
     l
 }
 
+// Whether the slot at cell x is an unread dummy. Most slots that are asked about hold a block, so that is asked first.
+fn is_dummy(h: Shape, m: &[u8], x: usize) -> bool
+    requires { ⌜ Fits (shapeOf h) (length (now m)) × (x < h .p * slots (h .l)) ⌝ }
+    ensures { λ r. ⌜ r ≡ (eqb (fit (h .n + 1) (tablesOf (shapeOf h) (now (m .entry)) .holds x)) 0 && eqb (fit 2 (tablesOf (shapeOf h) (now (m .entry)) .mark x)) 1) ⌝ }
+{
+    if memory::tables::holds(h, m, x) != 0 {
+        return false;
+    }
+    memory::tables::mark(h, m, x) == 1
+}
+
 // The slot of the lowest-numbered unread dummy item of level l of partition q.
 pub fn dummy(c: Client, m: &[u8], q: usize, l: usize) -> Found
     requires { ⌜ Room c (now m) × (q < c .shape .p) × (l < c .shape .l) ⌝ }
@@ -54,9 +69,7 @@ pub fn dummy(c: Client, m: &[u8], q: usize, l: usize) -> Found
     let mut k = 0;
     while k < n {
         let i = memory::tables::order(c.shape, m, n, base + k);
-        if (memory::tables::holds(c.shape, m, base + i) == 0)
-            & (memory::tables::mark(c.shape, m, base + i) == 1)
-        {
+        if is_dummy(c.shape, m, base + i) {
             return Found::At(i);
         }
         k += 1;

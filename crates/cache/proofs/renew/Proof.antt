@@ -3,7 +3,7 @@ use Prim.Native.Nat.{_+_, _-_, _≤_}
 use native.Mathlib.Omega.{arith}
 use lib.ListN.{length}
 use Rattle.client.specs.Moves.{withWaiting}
-use Rattle.cache.specs.Waiting.{Renewing, renewing-none, renewing-more, count-is, renewed}
+use Rattle.cache.specs.Waiting.{Renewing, renewing-from, renewing-more, count-is, renewed}
 use Rattle.cache.proofs.renew.Statement.{statement}
 use Rattle.cache.proofs.renew.Tie as tie
 
@@ -13,8 +13,11 @@ Inv-loop c m₀ b n k₀ i₀ m k i = (i ≤ n) × (length m ≡ length m₀) ×
 abbrev μ-loop : tie.MeasureT-loop
 μ-loop c m₀ b n k₀ i₀ m k i = n - i
 
+place-requires : tie.Need-place-requires Inv-loop μ-loop
+place-requires c κs = omega arith
+
 loop-holds : tie.Need-loop-holds Inv-loop μ-loop
-loop-holds c = (omega arith, refl, renewing-none _ _ _)
+loop-holds c = (c .place .ensures .le, refl, renewing-from _ _ _ _ _ (c .place .ensures))
 
 join-requires : tie.Need-join-requires Inv-loop μ-loop
 join-requires c κs = omega arith
@@ -33,7 +36,7 @@ loop-again c =
 set-waiting-requires : tie.Need-set-waiting-requires Inv-loop μ-loop
 set-waiting-requires c κs =
     let l = c .before .before .loop in
-    let a = c .before .before .before .before .args in
+    let a = c .before .before .before .before .before .before .args in
     omega (arith, count-is (a .c) (a .b) (a .m .now) (l .m) (l .k) (l .i) (omega arith) (l .inv .2))
 
 add-with-waiting : tie.Need-add-with-waiting Inv-loop μ-loop
@@ -48,7 +51,7 @@ same-length c = omega arith
 returns : tie.Need-returns Inv-loop μ-loop
 returns c =
     let l = c .before .before .before .before .before .before .loop in
-    let a = c .before .before .before .before .before .before .before .before .args in
+    let a = c .before .before .before .before .before .before .before .before .before .before .args in
     let e : l .i ≡ a .c .waiting = omega arith in (
       c .with-waiting .ensures ∙ ap (λ k. withWaiting (k + 1) (a .c)) (count-is (a .c) (a .b) (a .m .now) (l .m) (l .k) (l .i) e (l .inv .2)),
       rw (c .with-waiting .ensures) (renewed (a .c) (a .b) (a .m .now) (l .m) (l .k) (l .i) e (l .inv .2) _ (omega arith) (omega arith) (c .before .before .before .set-waiting .ensures)),
@@ -60,6 +63,7 @@ renew-spec =
     (tie.spec
     Inv-loop
     μ-loop
+    place-requires
     loop-holds
     join-requires
     add-i

@@ -1,9 +1,10 @@
-use mathlib.Core.Path.{_≡_, sym, _∙_}
+use mathlib.Core.Path.{_≡_, refl, sym, _∙_}
 use Prim.Native.Nat.{_+_, _*_, _-_, _<_}
 use native.Mathlib.Omega.{arith}
 use Rattle.rules.specs.Shape.{slots}
 use Rattle.rules.specs.Request.{dummy}
-use Rattle.memory.specs.Fits.{shapeOf}
+use Rattle.memory.specs.Tables.{tablesOf}
+use Rattle.memory.specs.Fits.{shapeOf, fit}
 use Rattle.client.specs.View.{stateOf}
 use Rattle.levels.specs.Slots.{cell-lt, slot-lt}
 use Rattle.levels.specs.Dummies.{itemsFrom, Item, items-all, items-done, items-hit, items-miss}
@@ -24,18 +25,20 @@ slot-cell c =
     cell-lt (shapeOf (a .args .c .shape)) _ _ (b .cell .result) (c .order .result) (b .cell .ensures .0) (a .pre .1) (a .pre .2) (slot-lt _ _ _ _ (b .before .pow2 .ensures .0) (c .order .ensures))
 
 -- what was read in a turn of the loop
-item : (c : tie.After-mark Inv-loop μ-loop) → let o = c .before .before in let b = o .before .before .before in let a = b .before .before .before in Item (a .args .c) (a .args .m .now) (a .args .q) (a .args .l) (b .before .pow2 .result) (b .cell .result) (o .before .before .loop .k) (o .order .result) (c .mark .result) (c .before .holds .result)
+item : (c : tie.After-order Inv-loop μ-loop) → let b = c .before .before .before in let a = b .before .before .before in
+    Item (a .args .c) (a .args .m .now) (a .args .q) (a .args .l) (b .before .pow2 .result) (b .cell .result) (c .before .before .loop .k) (c .order .result)
+    (fit 2 (tablesOf (shapeOf (a .args .c .shape)) (a .args .m .now) .mark (b .cell .result + c .order .result)))
+    (fit (a .args .c .shape .n + 1) (tablesOf (shapeOf (a .args .c .shape)) (a .args .m .now) .holds (b .cell .result + c .order .result)))
 item c =
-    let o = c .before .before in
-    let b = o .before .before .before in
+    let b = c .before .before .before in
     record {
       size = b .before .pow2 .ensures .0;
       start = b .cell .ensures .0;
       level = b .before .before .before .pre .2;
-      item = o .before .loop-test .taken;
-      slot = o .order .ensures;
-      marked = c .mark .ensures;
-      held = c .before .holds .ensures;
+      item = c .before .loop-test .taken;
+      slot = c .order .ensures;
+      marked = refl;
+      held = refl;
     }
 
 add-pow2 : tie.Need-add-pow2 Inv-loop μ-loop
@@ -59,20 +62,14 @@ order-requires c κs =
     let a = b .before .before .before in
     (a .pre .0, cell-lt (shapeOf (a .args .c .shape)) _ _ _ _ (b .cell .ensures .0) (a .pre .1) (a .pre .2) (omega arith))
 
-add-holds : tie.Need-add-holds Inv-loop μ-loop
-add-holds c = omega (arith, slot-cell c)
+add-is-dummy : tie.Need-add-is-dummy Inv-loop μ-loop
+add-is-dummy c = omega (arith, slot-cell c)
 
-holds-requires : tie.Need-holds-requires Inv-loop μ-loop
-holds-requires c κs = omega (arith, slot-cell c)
-
-add-mark : tie.Need-add-mark Inv-loop μ-loop
-add-mark c = omega (arith, slot-cell (c .before))
-
-mark-requires : tie.Need-mark-requires Inv-loop μ-loop
-mark-requires c κs = omega (arith, slot-cell (c .before))
+is-dummy-requires : tie.Need-is-dummy-requires Inv-loop μ-loop
+is-dummy-requires c κs = (c .before .before .before .before .before .before .pre .0, slot-cell c)
 
 returns : tie.Need-returns Inv-loop μ-loop
-returns c = sym (items-hit _ _ _ _ _ _ _ _ _ _ (item (c .before)) (c .if1 .taken)) ∙ c .before .before .before .before .before .loop .inv
+returns c = sym (items-hit _ _ _ _ _ _ _ _ _ _ (item (c .before .before)) (sym (c .before .is-dummy .ensures) ∙ c .if1 .taken)) ∙ c .before .before .before .before .loop .inv
 
 add-k : tie.Need-add-k Inv-loop μ-loop
 add-k c = omega arith
@@ -81,7 +78,7 @@ loop-less : tie.Need-loop-less Inv-loop μ-loop
 loop-less c = omega arith
 
 loop-again : tie.Need-loop-again Inv-loop μ-loop
-loop-again c = sym (items-miss _ _ _ _ _ _ _ _ _ _ (item (c .before)) (c .if1 .left)) ∙ c .before .before .before .before .before .loop .inv
+loop-again c = sym (items-miss _ _ _ _ _ _ _ _ _ _ (item (c .before .before)) (sym (c .before .is-dummy .ensures) ∙ c .if1 .left)) ∙ c .before .before .before .before .loop .inv
 
 returns-2 : tie.Need-returns-2 Inv-loop μ-loop
 returns-2 c = sym (items-done _ _ _ _ _ (c .loop-test .left)) ∙ c .before .loop .inv
@@ -98,10 +95,8 @@ dummy-spec =
     loop-holds
     add-order
     order-requires
-    add-holds
-    holds-requires
-    add-mark
-    mark-requires
+    add-is-dummy
+    is-dummy-requires
     returns
     add-k
     loop-less
