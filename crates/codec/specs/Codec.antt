@@ -29,12 +29,19 @@ clientOf w = record {
   out = w 30;
 }
 
--- words with the numbers of a shape, of a request
+-- words with the numbers of a shape; with those that say what a request asks for
 abbrev pub withShape : Shape → (ℕ → ℕ) → ℕ → ℕ
 withShape h w = put 10 (h .w % 65536) (put 8 (h .e % 65536) (put 6 (h .b % 65536) (put 4 (h .l % 65536) (put 2 (h .p % 65536) (put 0 (h .n % 65536) w)))))
 
-abbrev pub withRequest : Request → (ℕ → ℕ) → ℕ → ℕ
-withRequest r w = put 20 (r .level % 65536) (put 18 (r .evict % 65536) (put 16 (r .next % 65536) (put 14 (r .block % 65536) (put 12 (r .kind % 65536) w))))
+abbrev pub withAsked : Request → (ℕ → ℕ) → ℕ → ℕ
+withAsked r w = put 18 (r .evict % 65536) (put 16 (r .next % 65536) (put 14 (r .block % 65536) (put 12 (r .kind % 65536) w)))
+
+-- words with the numbers that tell how far a client is, and with all but its shape
+abbrev pub withProgress : Client → (ℕ → ℕ) → ℕ → ℕ
+withProgress c w = put 30 (c .out % 65536) (put 28 (c .waiting % 65536) (put 26 (c .sent % 65536) (put 24 (c .cursor % 65536) (put 22 (c .jobs % 65536) (put 20 (c .request .level % 65536) w)))))
+
+abbrev pub withRest : Client → (ℕ → ℕ) → ℕ → ℕ
+withRest c w = withProgress c (withAsked (c .request) w)
 
 -- each number modulo 2^16
 abbrev pub lowShape : Shape → Shape
@@ -55,14 +62,26 @@ lowClient c = record {
 abbrev pub reshaped : Shape → Client → Client
 reshaped h c = record { shape = h; request = c .request; jobs = c .jobs; cursor = c .cursor; sent = c .sent; waiting = c .waiting; out = c .out }
 
--- words with the numbers of a client but its shape
-abbrev pub withRest : Client → (ℕ → ℕ) → ℕ → ℕ
-withRest c w = put 30 (c .out % 65536) (put 28 (c .waiting % 65536) (put 26 (c .sent % 65536) (put 24 (c .cursor % 65536) (put 22 (c .jobs % 65536) (withRequest (c .request) w)))))
+-- how far d is, with what c's request asks for and c's shape
+abbrev pub progressed : Client → Client → Client
+progressed c d = record {
+  shape = c .shape;
+  request = record { kind = c .request .kind; block = c .request .block; next = c .request .next; evict = c .request .evict; level = d .request .level };
+  jobs = d .jobs;
+  cursor = d .cursor;
+  sent = d .sent;
+  waiting = d .waiting;
+  out = d .out;
+}
 
 -- numbers stored are read again
 pub rest-is : (c : Client) (w : ℕ → ℕ) → clientOf (withRest c w) ≡ reshaped (clientOf w .shape) (lowClient c)
 unfolding put
 rest-is c w = refl
+
+pub progress-is : (c : Client) (w : ℕ → ℕ) → clientOf (withProgress c w) ≡ progressed (clientOf w) (lowClient c)
+unfolding put
+progress-is c w = refl
 
 pub stored-is : (c : Client) (w : ℕ → ℕ) → clientOf (withRest c (withShape (c .shape) w)) ≡ lowClient c
 unfolding put
@@ -75,10 +94,11 @@ Between w w′ = (k : ℕ) → w′ (k * 2 + 1) ≡ w (k * 2 + 1)
 between : (n v : ℕ) (w w′ : ℕ → ℕ) → Between w w′ → Between w (put (n * 2) v w′)
 between n v w w′ h k = put-other (n * 2) v w′ (k * 2 + 1) (λ e. omega arith) ∙ h k
 
+pub between-progress : (c : Client) (w w′ : ℕ → ℕ) → Between w w′ → Between w (withProgress c w′)
+between-progress c w w′ h = between 15 _ w _ (between 14 _ w _ (between 13 _ w _ (between 12 _ w _ (between 11 _ w _ (between 10 _ w w′ h)))))
+
 pub between-rest : (c : Client) (w w′ : ℕ → ℕ) → Between w w′ → Between w (withRest c w′)
-between-rest c w w′ h =
-    between 15 _ w _ (between 14 _ w _ (between 13 _ w _ (between 12 _ w _ (between 11 _ w _ (
-    between 10 _ w _ (between 9 _ w _ (between 8 _ w _ (between 7 _ w _ (between 6 _ w w′ h)))))))))
+between-rest c w w′ h = between-progress c w _ (between 9 _ w _ (between 8 _ w _ (between 7 _ w _ (between 6 _ w w′ h))))
 
 pub between-shape : (h : Shape) (w : ℕ → ℕ) → Between w (withShape h w)
 between-shape h w = between 5 _ w _ (between 4 _ w _ (between 3 _ w _ (between 2 _ w _ (between 1 _ w _ (between 0 _ w w (λ k. refl))))))

@@ -8,7 +8,7 @@ ghost use Prim.Native.Nat.{_*_, _%_, _<_};
 ghost use lib.ListN.{length};
 ghost use Rattle.lists.specs.Tables.{put as putAt};
 ghost use Rattle.memory.specs.Words.{wordAt};
-ghost use Rattle.codec.specs.Codec.{stateLength, clientOf, withShape, withRequest, withRest, packed};
+ghost use Rattle.codec.specs.Codec.{stateLength, clientOf, withShape, withAsked, withProgress, withRest, packed};
 
 // Number k of the state.
 fn number(s: &[u8], k: usize) -> usize
@@ -79,15 +79,28 @@ fn put_shape(s: &mut [u8], h: Shape)
     set_number(s, 5, h.w);
 }
 
+// What the request asks for.
 fn put_request(s: &mut [u8], r: Request)
     requires { ⌜ length (now s) ≡ stateLength ⌝ }
-    ensures { λ _. ⌜ wordAt (now (s .exit)) ≡ withRequest r (wordAt (now (s .entry))) ⌝ }
+    ensures { λ _. ⌜ wordAt (now (s .exit)) ≡ withAsked r (wordAt (now (s .entry))) ⌝ }
 {
     set_number(s, 6, r.kind);
     set_number(s, 7, r.block);
     set_number(s, 8, r.next);
     set_number(s, 9, r.evict);
-    set_number(s, 10, r.level);
+}
+
+// Stores how far the client is: all that a turn or a completion changes.
+pub fn encode_progress(s: &mut [u8], c: Client)
+    requires { ⌜ length (now s) ≡ stateLength ⌝ }
+    ensures { λ _. ⌜ wordAt (now (s .exit)) ≡ withProgress c (wordAt (now (s .entry))) ⌝ }
+{
+    set_number(s, 10, c.request.level);
+    set_number(s, 11, c.jobs);
+    set_number(s, 12, c.cursor);
+    set_number(s, 13, c.sent);
+    set_number(s, 14, c.waiting);
+    set_number(s, 15, c.out);
 }
 
 // Stores all but the shape, which only an open changes.
@@ -96,11 +109,7 @@ pub fn encode_rest(s: &mut [u8], c: Client)
     ensures { λ _. ⌜ wordAt (now (s .exit)) ≡ withRest c (wordAt (now (s .entry))) ⌝ }
 {
     put_request(s, c.request);
-    set_number(s, 11, c.jobs);
-    set_number(s, 12, c.cursor);
-    set_number(s, 13, c.sent);
-    set_number(s, 14, c.waiting);
-    set_number(s, 15, c.out);
+    encode_progress(s, c);
 }
 
 pub fn encode(s: &mut [u8], c: Client)

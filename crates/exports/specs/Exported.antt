@@ -14,6 +14,7 @@ use Rattle.rules.specs.Draws.{draws}
 use Rattle.rules.specs.Questions.{Ask, opening, Call, bounds, number}
 use Rattle.rules.specs.Run.{Outcome, step, act, accepted, refused, sentCommand, numbersOf}
 use Rattle.rules.specs.Laws.Shapes.{act-shape}
+use Rattle.rules.specs.Laws.Asked.{asked}
 use Rattle.rules.specs.Laws.Answers.{opens, number-le, step-number, step-accepted, refused-outcome, accepted-passed, accepted-taken}
 use Rattle.rules.specs.Laws.Range.{InRange}
 use Rattle.rules.specs.Laws.Kept.{accepted-in}
@@ -26,7 +27,8 @@ use Rattle.tape.specs.Tape.{wordsOf}
 use Rattle.meets.specs.declared.Answer.{Answer}
 use Rattle.meets.specs.Answers.{clearedClient}
 use Rattle.meets.specs.Meets.{Meets, callOf, commandOf}
-use Rattle.codec.specs.Codec.{stateLength, clientOf, reshaped, lowShape, lowClient, withShape, withRest, rest-is, stored-is, Between, between-rest, between-shape, packed, answerOf}
+use Rattle.codec.specs.Codec.{stateLength, clientOf, reshaped, lowShape, lowClient, withShape, withProgress, withRest, rest-is, progress-is, stored-is, Between, between-progress, between-rest, between-shape, packed, answerOf}
+use Rattle.exports.specs.Progress.{same-state}
 use Rattle.exports.specs.Small.{SmallCommand, accepted-small, low-shape, low-client}
 
 -- the client that 64 bytes say
@@ -100,30 +102,30 @@ unpacked r f x = ap (λ u. answerOf u x) (packed-sum r f) ∙ (λ k. record {
 -- ---- From a call's contract to the exported one's
 
 module _ (c : Client) (s : State) (a : Ask) (m tape b : List ℕ) (r : Answer) (m′ b′ : List ℕ) (k : Meets c s a m tape b r m′ b′) where
-  abbrev asked : Call
-  asked = callOf a m tape b
+  abbrev made : Call
+  made = callOf a m tape b
 
-  is-number : r .number ≡ number s asked
-  is-number = k .number ∙ step-number s asked
+  is-number : r .number ≡ number s made
+  is-number = k .number ∙ step-number s made
 
   -- a refusal's answer is small
   refused-small : (r .number ≡ 0 → ⊥) → Small r
   unfolding refused
   refused-small n =
-      let e = refused-outcome s asked (λ z. n (is-number ∙ z)) in
+      let e = refused-outcome s made (λ z. n (is-number ∙ z)) in
       let o = k .command ∙ ap (λ (x : Outcome). x .command) e in
       let z : (r .kind ≡ 0) × (r .partition ≡ 0) × (r .level ≡ 0) × (r .slot ≡ 0) = (ap (λ (x : Command). x .kind) o, ap (λ (x : Command). x .partition) o, ap (λ (x : Command). x .level) o, ap (λ (x : Command). x .slot) o) in
       let w : r .taken ≡ 0 = k .taken ∙ ap (λ (x : Outcome). x .taken) e in
-      record { number = omega (arith, is-number, number-le s asked); taken = omega arith; kind = omega arith; partition = omega arith; level = omega arith; slot = omega arith }
+      record { number = omega (arith, is-number, number-le s made); taken = omega arith; kind = omega arith; partition = omega arith; level = omega arith; slot = omega arith }
 
   -- an accepted call's too
   accepted-fits : r .number ≡ 0 → Small r
   unfolding accepted
   accepted-fits z =
-      let e : number s asked ≡ 0 = sym is-number ∙ z in
-      let f = accepted-small s a (length m) (wordsOf tape) (length b) (accepted-passed s asked e) in
-      let o : commandOf r ≡ sentCommand s a = k .command ∙ ap (λ (x : State × Outcome). x .1 .command) (step-accepted s asked e) in
-      let t : r .taken ≡ length (bounds s a) = k .taken ∙ accepted-taken s asked e in
+      let e : number s made ≡ 0 = sym is-number ∙ z in
+      let f = accepted-small s a (length m) (wordsOf tape) (length b) (accepted-passed s made e) in
+      let o : commandOf r ≡ sentCommand s a = k .command ∙ ap (λ (x : State × Outcome). x .1 .command) (step-accepted s made e) in
+      let t : r .taken ≡ length (bounds s a) = k .taken ∙ accepted-taken s made e in
       let d : SmallCommand (commandOf r) = rw o (f .0) in
       record { number = omega arith; taken = omega (arith, f .1); kind = d .kind; partition = d .partition; level = d .level; slot = d .slot }
 
@@ -131,9 +133,9 @@ module _ (c : Client) (s : State) (a : Ask) (m tape b : List ℕ) (r : Answer) (
   left-in : r .number ≡ 0 → InRange (stateOf (r .client) m′)
   unfolding accepted
   left-in z =
-      let e : number s asked ≡ 0 = sym is-number ∙ z in
-      let w : stateOf (r .client) m′ ≡ act s a (numbersOf (draws (bounds s a) (wordsOf tape))) = k .state ∙ ap (λ (x : State × Outcome). x .0) (step-accepted s asked e) in
-      rw w (accepted-in s a (length m) (wordsOf tape) (length b) (accepted-passed s asked e))
+      let e : number s made ≡ 0 = sym is-number ∙ z in
+      let w : stateOf (r .client) m′ ≡ act s a (numbersOf (draws (bounds s a) (wordsOf tape))) = k .state ∙ ap (λ (x : State × Outcome). x .0) (step-accepted s made e) in
+      rw w (accepted-in s a (length m) (wordsOf tape) (length b) (accepted-passed s made e))
 
   -- the same answer with another client that stands for the same state
   repacked : Small r → (x : Client) → stateOf x m′ ≡ stateOf (r .client) m′ → ((r .number ≡ 0 → ⊥) → x ≡ c) → Meets c s a m tape b (answerOf (packed r) x) m′ b′
@@ -150,27 +152,39 @@ module _ (c : Client) (s : State) (a : Ask) (m tape b : List ℕ) (r : Answer) (
   pub meets-refused : (r .number ≡ 0 → ⊥) → Meets c s a m tape b (answerOf (packed r) c) m′ b′
   meets-refused n = repacked (refused-small n) c (ap (λ x. stateOf x m′) (sym (k .refused n .1))) (λ z. refl)
 
-  pub meets-accepted : r .number ≡ 0 → (x : Client) → x ≡ lowClient (r .client) → Meets c s a m tape b (answerOf (packed r) x) m′ b′
-  meets-accepted z x e = repacked (accepted-fits z) x (ap (λ y. stateOf y m′) e ∙ low-client (r .client) m′ (left-in z)) (λ n. absurd (n z))
+  pub meets-accepted : r .number ≡ 0 → (x : Client) → stateOf x m′ ≡ stateOf (r .client) m′ → Meets c s a m tape b (answerOf (packed r) x) m′ b′
+  meets-accepted z x e = repacked (accepted-fits z) x e (λ n. absurd (n z))
+
+  -- numbers modulo 2^16 stand for the same state
+  pub left-low : r .number ≡ 0 → stateOf (lowClient (r .client)) m′ ≡ stateOf (r .client) m′
+  left-low z = low-client (r .client) m′ (left-in z)
+
+  -- what the rules keep of the request in hand
+  pub left-asked : r .number ≡ 0 → ((js : List ℕ) → asked (act s a js .request) ≡ asked (s .request)) → asked (stateOf (r .client) m′ .request) ≡ asked (s .request)
+  unfolding accepted
+  left-asked z h =
+      let e : number s made ≡ 0 = sym is-number ∙ z in
+      ap (λ (x : State). asked (x .request)) (k .state ∙ ap (λ (x : State × Outcome). x .0) (step-accepted s made e)) ∙ h (numbersOf (draws (bounds s a) (wordsOf tape)))
 
   -- a call that does not open keeps the shape
   pub shape-kept : r .number ≡ 0 → opens a ≡ false → shapeOf (r .client .shape) ≡ s .shape
   unfolding accepted stateOf view
   shape-kept z four =
-      let e : number s asked ≡ 0 = sym is-number ∙ z in
-      ap (λ (x : State). x .shape) (k .state ∙ ap (λ (x : State × Outcome). x .0) (step-accepted s asked e)) ∙ act-shape s a (numbersOf (draws (bounds s a) (wordsOf tape))) four
+      let e : number s made ≡ 0 = sym is-number ∙ z in
+      ap (λ (x : State). x .shape) (k .state ∙ ap (λ (x : State × Outcome). x .0) (step-accepted s made e)) ∙ act-shape s a (numbersOf (draws (bounds s a) (wordsOf tape))) four
 
   pub left-within : r .number ≡ 0 → within (shapeOf (r .client .shape)) ≡ true
   left-within z = unfold stateOf view in left-in z .shape
 
   pub number-packed : packed r % 256 ≡ r .number
-  number-packed = omega (arith, is-number, number-le s asked)
+  number-packed = omega (arith, is-number, number-le s made)
 
 -- ---- The state as it is handed back
 
-pub record HandedBack (r : Answer) (u : ℕ) (st st′ : List ℕ) : Type 0 where
+-- `stored` makes the words after an accepted call of those before it
+pub record HandedBack (stored : (ℕ → ℕ) → ℕ → ℕ) (r : Answer) (u : ℕ) (st st′ : List ℕ) : Type 0 where
   pub answer : u ≡ packed r
-  pub accepted : r .number ≡ 0 → wordAt st′ ≡ withRest (r .client) (wordAt st)
+  pub accepted : r .number ≡ 0 → wordAt st′ ≡ stored (wordAt st)
   pub refused : (r .number ≡ 0 → ⊥) → st′ ≡ st
 
 pub record HandedBackOpened (r : Answer) (u : ℕ) (st st′ : List ℕ) : Type 0 where
@@ -185,27 +199,43 @@ shape-same : (g h : M.Shape) → shapeOf g ≡ shapeOf h → g ≡ h
 shape-same g h e = λ k. record { n = e k .N; p = e k .P; l = e k .L; b = e k .B; e = e k .E; w = e k .W }
 
 -- a call that meets the rules, handed back
-pub exported : (a : Ask) → opens a ≡ false → (st m tape b : List ℕ) (r : Answer) (u : ℕ) (st′ m′ b′ : List ℕ) → length st ≡ stateLength
-    → Meets (clientIn st) (stateOf (clientIn st) m) a m tape b r m′ b′ → HandedBack r u st st′ → Exported a st m tape b u st′ m′ b′
-exported a four st m tape b r u st′ m′ b′ l k h = record {
-  meets = λ _. rw (h .answer) (go (ℕ-discrete (r .number) 0));
-  refused = λ n. h .refused (λ z. n (rw (h .answer) (number-packed (clientIn st) (stateOf (clientIn st) m) a m tape b r m′ b′ k ∙ z)));
-  between = kept (ℕ-discrete (r .number) 0);
-  other = λ n. absurd (n l);
-}
-  where
-    kept : Dec (r .number ≡ 0) → Between (wordAt st) (wordAt st′)
-    kept (yes z) = rw (h .accepted z) (between-rest (r .client) (wordAt st) (wordAt st) (λ k. refl))
-    kept (no n) = rw (h .refused n) (λ k. refl)
+module _ (a : Ask) (four : opens a ≡ false) (st m tape b : List ℕ) (r : Answer) (u : ℕ) (st′ m′ b′ : List ℕ) (l : length st ≡ stateLength) (k : Meets (clientIn st) (stateOf (clientIn st) m) a m tape b r m′ b′) where
+  abbrev s : State
+  s = stateOf (clientIn st) m
 
-    go : Dec (r .number ≡ 0) → Meets (clientIn st) (stateOf (clientIn st) m) a m tape b (answerOf (packed r) (clientIn st′)) m′ b′
-    go (yes z) = meets-accepted (clientIn st) (stateOf (clientIn st) m) a m tape b r m′ b′ k z (clientIn st′) (ap clientOf (h .accepted z) ∙ rest-is (r .client) (wordAt st) ∙ ap (λ x. reshaped x (lowClient (r .client))) (same z))
-      where
-        same : r .number ≡ 0 → clientIn st .shape ≡ lowShape (r .client .shape)
-        same z =
-            sym (shape-same (r .client .shape) (clientIn st .shape) (unfold stateOf view in shape-kept (clientIn st) (stateOf (clientIn st) m) a m tape b r m′ b′ k z four))
-            ∙ sym (low-shape (r .client .shape) (left-within (clientIn st) (stateOf (clientIn st) m) a m tape b r m′ b′ k z))
-    go (no n) = rw (h .refused n) (meets-refused (clientIn st) (stateOf (clientIn st) m) a m tape b r m′ b′ k n)
+  handed : (stored : (ℕ → ℕ) → ℕ → ℕ) → HandedBack stored r u st st′ → Between (wordAt st) (stored (wordAt st)) → (r .number ≡ 0 → stateOf (clientOf (stored (wordAt st))) m′ ≡ stateOf (r .client) m′) → Exported a st m tape b u st′ m′ b′
+  handed stored h between same = record {
+    meets = λ _. rw (h .answer) (go (ℕ-discrete (r .number) 0));
+    refused = λ n. h .refused (λ z. n (rw (h .answer) (number-packed (clientIn st) s a m tape b r m′ b′ k ∙ z)));
+    between = kept (ℕ-discrete (r .number) 0);
+    other = λ n. absurd (n l);
+  }
+    where
+      kept : Dec (r .number ≡ 0) → Between (wordAt st) (wordAt st′)
+      kept (yes z) = rw (h .accepted z) between
+      kept (no n) = rw (h .refused n) (λ k. refl)
+
+      go : Dec (r .number ≡ 0) → Meets (clientIn st) s a m tape b (answerOf (packed r) (clientIn st′)) m′ b′
+      go (yes z) = meets-accepted (clientIn st) s a m tape b r m′ b′ k z (clientIn st′) (ap (λ x. stateOf (clientOf x) m′) (h .accepted z) ∙ same z)
+      go (no n) = rw (h .refused n) (meets-refused (clientIn st) s a m tape b r m′ b′ k n)
+
+  -- the shape is still that of the bytes
+  shape-low : r .number ≡ 0 → clientIn st .shape ≡ lowShape (r .client .shape)
+  shape-low z =
+      sym (shape-same (r .client .shape) (clientIn st .shape) (unfold stateOf view in shape-kept (clientIn st) s a m tape b r m′ b′ k z four))
+      ∙ sym (low-shape (r .client .shape) (left-within (clientIn st) s a m tape b r m′ b′ k z))
+
+  pub exported : HandedBack (withRest (r .client)) r u st st′ → Exported a st m tape b u st′ m′ b′
+  exported h = handed (withRest (r .client)) h (between-rest (r .client) (wordAt st) (wordAt st) (λ k. refl)) (λ z.
+      ap (λ x. stateOf x m′) (rest-is (r .client) (wordAt st) ∙ ap (λ x. reshaped x (lowClient (r .client))) (shape-low z)) ∙ left-low (clientIn st) s a m tape b r m′ b′ k z)
+
+  -- ..by a call that changes no more of the request than its level
+  pub exported-progress : ((js : List ℕ) → asked (act s a js .request) ≡ asked (s .request)) → HandedBack (withProgress (r .client)) r u st st′ → Exported a st m tape b u st′ m′ b′
+  exported-progress e h = handed (withProgress (r .client)) h (between-progress (r .client) (wordAt st) (wordAt st) (λ k. refl)) (λ z.
+      let low = left-low (clientIn st) s a m tape b r m′ b′ k z in
+      ap (λ x. stateOf x m′) (progress-is (r .client) (wordAt st))
+      ∙ same-state (clientIn st) (lowClient (r .client)) m m′ (shape-low z) (ap (λ (x : State). asked (x .request)) low ∙ left-asked (clientIn st) s a m tape b r m′ b′ k z e)
+      ∙ low)
 
 -- an open
 pub exported-open : (h : Shape) (st m tape : List ℕ) (r : Answer) (u : ℕ) (st′ m′ : List ℕ) → length st ≡ stateLength
@@ -221,5 +251,5 @@ exported-open h st m tape r u st′ m′ l k b = record {
     zeros-say = unfold wordAt in refl
 
     go : Dec (r .number ≡ 0) → Meets clearedClient closed (opening h) m tape [] (answerOf (packed r) (clientIn st′)) m′ []
-    go (yes z) = meets-accepted clearedClient closed (opening h) m tape [] r m′ [] k z (clientIn st′) (ap clientOf (b .accepted z) ∙ stored-is (r .client) (wordAt st))
+    go (yes z) = meets-accepted clearedClient closed (opening h) m tape [] r m′ [] k z (clientIn st′) (ap (λ x. stateOf x m′) (ap clientOf (b .accepted z) ∙ stored-is (r .client) (wordAt st)) ∙ left-low clearedClient closed (opening h) m tape [] r m′ [] k z)
     go (no n) = rw (b .refused n, zeros-say) (meets-refused clearedClient closed (opening h) m tape [] r m′ [] k n)

@@ -89,7 +89,7 @@ accepted-small s collect m ws n p = (record { kind = omega arith; partition = om
 low : (x : ℕ) → x < 65536 → x % 65536 ≡ x
 low x l = mod-eq-of-lt l
 
-abbrev inHand : Request → List ℕ → R.Request
+abbrev pub inHand : Request → List ℕ → R.Request
 inHand r bs = record { kind = r .kind; block = r .block; bytes = if eqb (r .kind) write then bs else []; next = r .next; evict = r .evict; level = r .level }
 
 abbrev lowRequest : Request → Request

@@ -7,18 +7,30 @@ ghost use mathlib.Core.List.{[]};
 ghost use lib.ListN.{length};
 ghost use Rattle.rules.specs.State.{cmd};
 ghost use Rattle.rules.specs.Questions.{request, turn, completion as completionOf, collect};
-ghost use Rattle.codec.specs.Codec.{stateLength};
+ghost use Rattle.codec.specs.Codec.{stateLength, withProgress, withRest};
 ghost use Rattle.exports.specs.Exported.{Opened, Exported, HandedBack, HandedBackOpened, numbers};
 
 // The next state is handed back where the call was accepted. No call but an open changes the shape.
 fn hand_back(state: &mut [u8], r: Answer) -> u64
     requires { ⌜ length (now state) ≡ stateLength ⌝ }
-    ensures { λ u. ⌜ HandedBack r u (now (state .entry)) (now (state .exit)) ⌝ }
+    ensures { λ u. ⌜ HandedBack (withRest (r .client)) r u (now (state .entry)) (now (state .exit)) ⌝ }
 {
     if r.number != 0 {
         return codec::pack(r);
     }
     codec::encode_rest(state, r.client);
+    codec::pack(r)
+}
+
+// So it is by a turn and a completion, which don't change what the request asks for either.
+fn hand_back_progress(state: &mut [u8], r: Answer) -> u64
+    requires { ⌜ length (now state) ≡ stateLength ⌝ }
+    ensures { λ u. ⌜ HandedBack (withProgress (r .client)) r u (now (state .entry)) (now (state .exit)) ⌝ }
+{
+    if r.number != 0 {
+        return codec::pack(r);
+    }
+    codec::encode_progress(state, r.client);
     codec::pack(r)
 }
 
@@ -89,7 +101,7 @@ pub extern "C" fn rinwolfedd_turn(
     }
     let c = codec::decode(state);
     let r = turning::turn(c, memory, tape, buffer);
-    hand_back(state, r)
+    hand_back_progress(state, r)
 }
 
 #[no_mangle]
@@ -109,7 +121,7 @@ pub extern "C" fn rinwolfedd_completion(
     }
     let c = codec::decode(state);
     let r = completing::completion(c, memory, kind, partition, level, slot, bytes);
-    hand_back(state, r)
+    hand_back_progress(state, r)
 }
 
 #[no_mangle]

@@ -8,3 +8,4 @@ pub mod RangeSetters
 pub mod Decided
 pub mod Kept
 pub mod Shapes
+pub mod Asked

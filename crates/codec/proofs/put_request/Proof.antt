@@ -15,9 +15,6 @@ set-number-requires-3 c κs = omega arith
 set-number-requires-4 : tie.Need-set-number-requires-4
 set-number-requires-4 c κs = omega arith
 
-set-number-requires-5 : tie.Need-set-number-requires-5
-set-number-requires-5 c κs = omega arith
-
 same-length : tie.Need-same-length
 same-length c = omega arith
 
@@ -32,6 +29,5 @@ put-request-spec =
     set-number-requires-2
     set-number-requires-3
     set-number-requires-4
-    set-number-requires-5
     same-length
     returns)

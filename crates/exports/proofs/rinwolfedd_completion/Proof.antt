@@ -4,7 +4,8 @@ use native.Mathlib.Omega.{arith}
 use Rattle.rules.specs.State.{cmd}
 use Rattle.rules.specs.Questions.{completion}
 use Rattle.rules.specs.Laws.Answers.{opens}
-use Rattle.exports.specs.Exported.{exported}
+use Rattle.rules.specs.Laws.Asked.{completion-asked}
+use Rattle.exports.specs.Exported.{exported-progress}
 use Rattle.exports.proofs.rinwolfedd_completion.Statement.{statement}
 use Rattle.exports.proofs.rinwolfedd_completion.Tie as tie
 
@@ -17,8 +18,8 @@ decode-requires c κs = omega arith
 completion-requires : tie.Need-completion-requires
 completion-requires c κs = omega arith
 
-hand-back-requires : tie.Need-hand-back-requires
-hand-back-requires c κs = omega arith
+hand-back-progress-requires : tie.Need-hand-back-progress-requires
+hand-back-progress-requires c κs = omega arith
 
 same-length : tie.Need-same-length
 same-length c = omega arith
@@ -28,11 +29,11 @@ same-length-2 c = omega arith
 
 returns-2 : tie.Need-returns-2
 returns-2 c =
-    let h = c .before .before .hand-back in
+    let h = c .before .before .hand-back-progress in
     let r = c .before .before .before .before .before .before .completion in
     let d = c .before .before .before .before .before .before .before .before .decode in
     let a = c .before .before .before .before .before .before .before .before .before .before .before .before .before .before .args in
-    exported (completion (cmd (a .kind) (a .partition) (a .level) (a .slot)) (a .bytes .now)) (unfold opens in refl) (a .state .now) (a .memory .now) [] [] (r .result) (h .result) _ _ _ (c .before .before .before .before .before .before .before .before .before .before .if1 .left) (rw (← d .ensures) (r .ensures)) (h .ensures)
+    exported-progress (completion (cmd (a .kind) (a .partition) (a .level) (a .slot)) (a .bytes .now)) (unfold opens in refl) (a .state .now) (a .memory .now) [] [] (r .result) (h .result) _ _ _ (c .before .before .before .before .before .before .before .before .before .before .if1 .left) (rw (← d .ensures) (r .ensures)) (completion-asked _ _ _) (h .ensures)
 
 pub rinwolfedd-completion-spec : {M : Type 1} → statement M
 rinwolfedd-completion-spec =
@@ -41,7 +42,7 @@ rinwolfedd-completion-spec =
     returns
     decode-requires
     completion-requires
-    hand-back-requires
+    hand-back-progress-requires
     same-length
     same-length-2
     returns-2)

@@ -1,5 +1,5 @@
--- No call but an open changes the shape.
-use mathlib.Core.Path.{_≡_, refl}
+-- No call but an open changes the shape, and a completion not the request in hand.
+use mathlib.Core.Path.{_≡_, refl, ap}
 use mathlib.Core.Bool.{Bool, true, false, true≢false}
 use mathlib.Core.List.{List, [], _∷_}
 use mathlib.Core.Option.{Option, none, some}
@@ -14,6 +14,7 @@ use Rattle.rules.specs.Questions.{Ask, opening, request, turn, completio
 use Rattle.rules.specs.Rebuild.{doRebuild}
 use Rattle.rules.specs.Request.{accept}
 use Rattle.rules.specs.Run.{act}
+use Rattle.rules.specs.Shape.{Shape}
 use Rattle.rules.specs.State.{State, Command, Request}
 use Rattle.rules.specs.Turn.{Step, idle, noDummy, readForRequest, readForJob, rebuild, writeNext, decide, doStep, markRead, send}
 
@@ -26,18 +27,22 @@ turn-shape s (readForJob q ℓ i) js = refl
 turn-shape s (rebuild q t) js = refl
 turn-shape s (writeNext q t i) js = refl
 
-complete-shape : (s : State) (c : Command) (bs : List ℕ) → complete c bs s .shape ≡ s .shape
+abbrev pub both : State → Shape × Option Request
+both s = (s .shape, s .request)
+
+-- a completion changes neither the shape nor the request in hand
+pub complete-keeps : (s : State) (c : Command) (bs : List ℕ) → both (complete c bs s) ≡ both s
 unfolding complete completeRead completeWrite completed gatherBytes finishJob endJob
-complete-shape s c bs = go (eqb (c .kind) 1) (holder s (c .partition) (c .level) (c .slot)) (s .queue)
+complete-keeps s c bs = go (eqb (c .kind) 1) (holder s (c .partition) (c .level) (c .slot)) (s .queue)
   where
     s′ : State
     s′ = completed c s
 
-    ended : (q : ℕ) (qs : List ℕ) (t : Bool) → (if t then endJob q qs s′ else s′) .shape ≡ s .shape
+    ended : (q : ℕ) (qs : List ℕ) (t : Bool) → both (if t then endJob q qs s′ else s′) ≡ both s
     ended q qs true = refl
     ended q qs false = refl
 
-    go : (t : Bool) (b : Option ℕ) (qs : List ℕ) → (if t then gatherBytes b bs s′ else finishJob qs s′) .shape ≡ s .shape
+    go : (t : Bool) (b : Option ℕ) (qs : List ℕ) → both (if t then gatherBytes b bs s′ else finishJob qs s′) ≡ both s
     go true none qs = refl
     go true (some b) qs = refl
     go false b [] = refl
@@ -53,5 +58,5 @@ unfolding act accept opens
 act-shape s (opening h) js o = absurd (true≢false o)
 act-shape s (request k b bs) js o = refl
 act-shape s turn js o = turn-shape s (decide s) js
-act-shape s (completion c bs) js o = complete-shape s c bs
+act-shape s (completion c bs) js o = ap (λ (x : Shape × Option Request). x .0) (complete-keeps s c bs)
 act-shape s collect js o = collect-shape s (s .request)

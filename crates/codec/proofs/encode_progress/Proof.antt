@@ -1,0 +1,41 @@
+use native.Mathlib.Omega.{arith}
+use Rattle.codec.proofs.encode_progress.Statement.{statement}
+use Rattle.codec.proofs.encode_progress.Tie as tie
+use Rattle.codec.proofs.set_number.Reads as set-number-reads
+
+set-number-requires : tie.Need-set-number-requires
+set-number-requires c κs = omega arith
+
+set-number-requires-2 : tie.Need-set-number-requires-2
+set-number-requires-2 c κs = omega arith
+
+set-number-requires-3 : tie.Need-set-number-requires-3
+set-number-requires-3 c κs = omega arith
+
+set-number-requires-4 : tie.Need-set-number-requires-4
+set-number-requires-4 c κs = omega arith
+
+set-number-requires-5 : tie.Need-set-number-requires-5
+set-number-requires-5 c κs = omega arith
+
+set-number-requires-6 : tie.Need-set-number-requires-6
+set-number-requires-6 c κs = omega arith
+
+same-length : tie.Need-same-length
+same-length c = omega arith
+
+returns : tie.Need-returns
+returns c = cc
+
+pub encode-progress-spec : {M : Type 1} → statement M
+encode-progress-spec =
+    tie.close
+    (tie.spec
+    set-number-requires
+    set-number-requires-2
+    set-number-requires-3
+    set-number-requires-4
+    set-number-requires-5
+    set-number-requires-6
+    same-length
+    returns)
