@@ -1,5 +1,5 @@
 -- The search of a level's items for an unread dummy.
-use mathlib.Core.Path.{_≡_, ap, _∙_}
+use mathlib.Core.Path.{_≡_, sym, ap, _∙_}
 use mathlib.Core.Bool.{Bool, true, false, _&&_, and-comm}
 use mathlib.Core.List.{List, [], append-nil}
 use mathlib.Core.Option.{Option, none, some}
@@ -11,52 +11,64 @@ use Rattle.rules.specs.Shape.{slots, cell}
 use Rattle.rules.specs.State.{State}
 use Rattle.rules.specs.Blocks.{holder, isUnread}
 use Rattle.rules.specs.Request.{dummy}
+use Rattle.memory.specs.Words.{wordAt, Numbers}
 use Rattle.memory.specs.Tables.{tablesOf}
-use Rattle.memory.specs.Fits.{shapeOf, fit}
+use Rattle.memory.specs.Fits.{shapeOf, fit, fit-lt}
 use Rattle.client.specs.declared.Client.{Client}
 use Rattle.client.specs.View.{stateOf}
-use Rattle.levels.specs.Walks.{first, first-hit, first-miss, first-done, first-all}
+use Rattle.levels.specs.Walks.{first, first-hit, first-miss, first-done, first-all, first-same}
 use Rattle.levels.specs.Slots.{unread-is, dummy-is, order-is}
 
-abbrev pub isDummy : State → ℕ → ℕ → ℕ → Bool
-isDummy s q ℓ i = isUnread s q ℓ i && isNone (holder s q ℓ i)
+-- whether slot i is an unread dummy, by what the slots hold and by their marks
+abbrev pub freeAt : ℕ → (ℕ → ℕ) → (ℕ → ℕ) → ℕ → Bool
+freeAt bound held marks i = eqb (fit bound (held i)) 0 && eqb (fit 2 (marks i)) 1
 
-abbrev pub slotOf : State → ℕ → ℕ → ℕ → ℕ
-slotOf s q ℓ k = s .order (cell (s .shape) q ℓ k)
+-- the slot of item k of n
+abbrev pub itemAt : ℕ → (ℕ → ℕ) → ℕ → ℕ
+itemAt n order k = fit n (order k)
 
 -- what the items from k up to n give
-unfoldable pub itemsFrom : State → ℕ → ℕ → ℕ → ℕ → Option ℕ
-itemsFrom s q ℓ n k = first (isDummy s q ℓ) (slotOf s q ℓ) [] n k
+unfoldable pub itemsFrom : ℕ → ℕ → (ℕ → ℕ) → (ℕ → ℕ) → (ℕ → ℕ) → ℕ → Option ℕ
+itemsFrom n bound order held marks k = first (freeAt bound held marks) (itemAt n order) [] n k
 
-pub items-all : (s : State) (q ℓ n : ℕ) → n ≡ slots ℓ → itemsFrom s q ℓ n 0 ≡ dummy s q ℓ
-unfolding itemsFrom dummy
-items-all s q ℓ n e = rw e (first-all (isDummy s q ℓ) (slotOf s q ℓ) [] (slots ℓ) ∙ ap (find (isDummy s q ℓ)) (append-nil _))
-
-pub items-done : (s : State) (q ℓ n k : ℕ) → n ≤ k → itemsFrom s q ℓ n k ≡ none
+pub items-done : (n bound : ℕ) (order held marks : ℕ → ℕ) (k : ℕ) → n ≤ k → itemsFrom n bound order held marks k ≡ none
 unfolding itemsFrom find
-items-done s q ℓ n k h = first-done (isDummy s q ℓ) (slotOf s q ℓ) [] n k h
+items-done n bound order held marks k h = first-done (freeAt bound held marks) (itemAt n order) [] n k h
 
--- item k is at slot i, and what is read of that
-pub record Item (c : Client) (m : List ℕ) (q ℓ n base k i mark holds : ℕ) : Type 0 where
-  pub size : n ≡ slots ℓ
-  pub start : base ≡ cell (shapeOf (c .shape)) q ℓ 0
-  pub level : ℓ < c .shape .l
-  pub item : k < n
-  pub slot : i ≡ fit n (tablesOf (shapeOf (c .shape)) m .order (base + k))
-  pub marked : mark ≡ fit 2 (tablesOf (shapeOf (c .shape)) m .mark (base + i))
-  pub held : holds ≡ fit (c .shape .n + 1) (tablesOf (shapeOf (c .shape)) m .holds (base + i))
-
-module _ (c : Client) (m : List ℕ) (q ℓ n base k i mark holds : ℕ) (r : Item c m q ℓ n base k i mark holds) where
-  slot-is : slotOf (stateOf c m) q ℓ k ≡ i
-  slot-is = order-is c m q ℓ base k i (r .start) n (r .size) (r .level) (omega (arith, r .size, r .item)) (r .slot)
-
-  test-is : isDummy (stateOf c m) q ℓ (slotOf (stateOf c m) q ℓ k) ≡ (eqb holds 0 && eqb mark 1)
-  test-is = rw (slot-is, unread-is c m q ℓ base i mark (r .start) (r .marked), dummy-is c m q ℓ base i holds (r .start) (r .held)) (and-comm (eqb mark 1) (eqb holds 0))
-
-  pub items-hit : (eqb holds 0 && eqb mark 1) ≡ true → itemsFrom (stateOf c m) q ℓ n k ≡ some i
+module _ (n bound : ℕ) (order held marks : ℕ → ℕ) (k : ℕ) (l : k < n) where
+  pub items-hit : freeAt bound held marks (itemAt n order k) ≡ true → itemsFrom n bound order held marks k ≡ some (itemAt n order k)
   unfolding itemsFrom
-  items-hit e = first-hit (isDummy (stateOf c m) q ℓ) (slotOf (stateOf c m) q ℓ) [] n k (r .item) (test-is ∙ e) ∙ ap some slot-is
+  items-hit e = first-hit (freeAt bound held marks) (itemAt n order) [] n k l e
 
-  pub items-miss : (eqb holds 0 && eqb mark 1) ≡ false → itemsFrom (stateOf c m) q ℓ n k ≡ itemsFrom (stateOf c m) q ℓ n (k + 1)
+  pub items-miss : freeAt bound held marks (itemAt n order k) ≡ false → itemsFrom n bound order held marks k ≡ itemsFrom n bound order held marks (k + 1)
   unfolding itemsFrom
-  items-miss e = first-miss (isDummy (stateOf c m) q ℓ) (slotOf (stateOf c m) q ℓ) [] n k (r .item) (test-is ∙ e)
+  items-miss e = first-miss (freeAt bound held marks) (itemAt n order) [] n k l e
+
+-- By the numbers of a level's slots they give the rules' dummy
+module _ (c : Client) (m : List ℕ) (q ℓ n base : ℕ) (order held marks : List ℕ) (size : n ≡ slots ℓ) (start : base ≡ cell (shapeOf (c .shape)) q ℓ 0) (level : ℓ < c .shape .l)
+    (o : Numbers order n (λ i. tablesOf (shapeOf (c .shape)) m .order (base + i))) (h : Numbers held n (λ i. tablesOf (shapeOf (c .shape)) m .holds (base + i))) (x : Numbers marks n (λ i. tablesOf (shapeOf (c .shape)) m .mark (base + i))) where
+  abbrev s : State
+  s = stateOf c m
+
+  abbrev slot : ℕ → ℕ
+  slot = itemAt n (wordAt order)
+
+  abbrev isDummy : ℕ → Bool
+  isDummy i = isUnread s q ℓ i && isNone (holder s q ℓ i)
+
+  slot-is : (k : ℕ) → k < n → slot k ≡ s .order (cell (s .shape) q ℓ k)
+  slot-is k l = sym (order-is c m q ℓ base k (slot k) start n size level (omega (arith, size, l)) (ap (fit n) (o .number k l)))
+
+  test-is : (k : ℕ) → k < n → freeAt (c .shape .n + 1) (wordAt held) (wordAt marks) (slot k) ≡ isDummy (s .order (cell (s .shape) q ℓ k))
+  test-is k l =
+      let i = slot k in
+      let inside : i < n = fit-lt n (wordAt order k) (omega arith) in
+      let unread = unread-is c m q ℓ base i (fit 2 (wordAt marks i)) start (ap (fit 2) (x .number i inside)) in
+      let empty = dummy-is c m q ℓ base i (fit (c .shape .n + 1) (wordAt held i)) start (ap (fit (c .shape .n + 1)) (h .number i inside)) in
+      rw (← slot-is k l, unread, empty) (and-comm (eqb (fit (c .shape .n + 1) (wordAt held i)) 0) (eqb (fit 2 (wordAt marks i)) 1))
+
+  pub items-dummy : itemsFrom n (c .shape .n + 1) (wordAt order) (wordAt held) (wordAt marks) 0 ≡ dummy s q ℓ
+  unfolding itemsFrom dummy
+  items-dummy =
+      first-same (freeAt (c .shape .n + 1) (wordAt held) (wordAt marks)) isDummy slot (λ k. s .order (cell (s .shape) q ℓ k)) n slot-is test-is
+      ∙ rw size (first-all isDummy (λ k. s .order (cell (s .shape) q ℓ k)) [] (slots ℓ) ∙ ap (find isDummy) (append-nil _))

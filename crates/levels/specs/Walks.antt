@@ -66,6 +66,22 @@ module _ {A : Type 0} (p : A → Bool) (f : ℕ → A) (rest : List A) (n : ℕ)
   unfolding first below
   first-all = rw sub-zero
 
+-- tests and tables that agree find the same
+pub first-same : {A : Type 0} (p r : A → Bool) (f g : ℕ → A) (n : ℕ) → ((k : ℕ) → k < n → f k ≡ g k) → ((k : ℕ) → k < n → p (f k) ≡ r (g k)) → first p f [] n 0 ≡ first r g [] n 0
+unfolding find
+first-same p r f g n same agree = from n 0 (omega arith)
+  where
+    step : (k : ℕ) → k < n → first p f [] n (k + 1) ≡ first r g [] n (k + 1) → first p f [] n k ≡ first r g [] n k
+    step k here next = go (p (f k)) refl
+      where
+        go : (b : Bool) → p (f k) ≡ b → first p f [] n k ≡ first r g [] n k
+        go true t = first-hit p f [] n k here t ∙ ap some (same k here) ∙ sym (first-hit r g [] n k here (sym (agree k here) ∙ t))
+        go false t = first-miss p f [] n k here t ∙ next ∙ sym (first-miss r g [] n k here (sym (agree k here) ∙ t))
+
+    from : (left k : ℕ) → n - k ≡ left → first p f [] n k ≡ first r g [] n k
+    from zero k e = first-done p f [] n k (omega arith) ∙ sym (first-done r g [] n k (omega arith))
+    from (suc left) k e = step k (omega arith) (from left (k + 1) (omega arith))
+
 -- ---- How many entries of a table pass a test, from entry k up to n
 module _ (p : ℕ → Bool) (f : ℕ → ℕ) (n : ℕ) where
   unfoldable pub tally : ℕ → ℕ

@@ -3,20 +3,19 @@ use client::Client;
 use client::Found;
 use memory::Shape;
 ghost use mathlib.Core.Path.{_≡_};
-ghost use mathlib.Core.Bool.{_&&_};
 ghost use Prim.Native.Nat.{_+_, _*_, _<_, _≤_};
 ghost use lib.ListN.{length};
-ghost use lib.Dec.{eqb};
 ghost use Rattle.rules.specs.Shape.{slots, cell as cellOf};
 ghost use Rattle.rules.specs.Levels.{sources as sourcesOf};
 ghost use Rattle.rules.specs.Blocks.{blocksIn};
 ghost use Rattle.rules.specs.Request.{dummy as dummyOf};
 ghost use Rattle.rules.specs.Rebuild.{unread as unreadOf};
 ghost use Rattle.rules.specs.Turn.{markRead};
-ghost use Rattle.memory.specs.Tables.{tablesOf};
-ghost use Rattle.memory.specs.Fits.{shapeOf, fit, Fits};
+ghost use Rattle.memory.specs.Words.{wordAt};
+ghost use Rattle.memory.specs.Fits.{shapeOf};
 ghost use Rattle.client.specs.View.{stateOf, foundOf};
 ghost use Rattle.client.specs.Moves.{Room, Stands};
+ghost use Rattle.levels.specs.Dummies.{freeAt, itemsFrom};
 ghost use Rattle.levels.specs.Next.{NextFilled, spotOf};
 
 // A slot: level and number; or none.
@@ -48,15 +47,31 @@ pub fn next_filled(levels: usize, counter: usize, from: usize) -> usize
     l
 }
 
-// Whether the slot at cell x is an unread dummy. Most slots that are asked about hold a block, so that is asked first.
-fn is_dummy(h: Shape, m: &[u8], x: usize) -> bool
-    requires { ⌜ Fits (shapeOf h) (length (now m)) × (x < h .p * slots (h .l)) ⌝ }
-    ensures { λ r. ⌜ r ≡ (eqb (fit (h .n + 1) (tablesOf (shapeOf h) (now (m .entry)) .holds x)) 0 && eqb (fit 2 (tablesOf (shapeOf h) (now (m .entry)) .mark x)) 1) ⌝ }
+// Whether slot i is an unread dummy, by what the slots hold and by their marks. Most slots that are asked about hold a block, so that is asked first.
+fn is_dummy(held: &[u8], marks: &[u8], bound: usize, i: usize) -> bool
+    requires { ⌜ (i * 2 + 1 < length (now held)) × (i * 2 + 1 < length (now marks)) ⌝ }
+    ensures { λ r. ⌜ r ≡ freeAt bound (wordAt (now (held .entry))) (wordAt (now (marks .entry))) i ⌝ }
 {
-    if memory::tables::holds(h, m, x) != 0 {
+    if memory::tables::fit(bound, memory::word(held, i)) != 0 {
         return false;
     }
-    memory::tables::mark(h, m, x) == 1
+    memory::tables::fit(2, memory::word(marks, i)) == 1
+}
+
+// The slot of the lowest of n items that is an unread dummy, by the order of the items and what there is of their slots.
+fn lowest_dummy(order: &[u8], held: &[u8], marks: &[u8], n: usize, bound: usize) -> Found
+    requires { ⌜ (n ≤ 65536) × (length (now order) ≡ n * 2) × (length (now held) ≡ n * 2) × (length (now marks) ≡ n * 2) ⌝ }
+    ensures { λ r. ⌜ foundOf r ≡ itemsFrom n bound (wordAt (now (order .entry))) (wordAt (now (held .entry))) (wordAt (now (marks .entry))) 0 ⌝ }
+{
+    let mut k = 0;
+    while k < n {
+        let i = memory::tables::fit(n, memory::word(order, k));
+        if is_dummy(held, marks, bound, i) {
+            return Found::At(i);
+        }
+        k += 1;
+    }
+    Found::Nothing
 }
 
 // The slot of the lowest-numbered unread dummy item of level l of partition q.
@@ -66,15 +81,10 @@ pub fn dummy(c: Client, m: &[u8], q: usize, l: usize) -> Found
 {
     let n = bits::pow2(l + 1);
     let base = cell(c.shape, q, l, 0);
-    let mut k = 0;
-    while k < n {
-        let i = memory::tables::order(c.shape, m, n, base + k);
-        if is_dummy(c.shape, m, base + i) {
-            return Found::At(i);
-        }
-        k += 1;
-    }
-    Found::Nothing
+    let order = memory::tables::orders(c.shape, m, base, n);
+    let held = memory::tables::held(c.shape, m, base, n);
+    let marks = memory::tables::marks(c.shape, m, base, n);
+    lowest_dummy(order, held, marks, n, c.shape.n + 1)
 }
 
 // The next unread slot of the levels below `sources` of partition q, levels ascending, and slots ascending within a level.

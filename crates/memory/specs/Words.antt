@@ -1,6 +1,6 @@
 -- Numbers below 65,536 in lent bytes, two bytes each, low byte first. Every list of bytes decodes: a byte is read modulo 256, so that no law asks
 -- anything of the list's elements.
-use mathlib.Core.Path.{_≡_, refl, sym, fun-ext, _∙_}
+use mathlib.Core.Path.{_≡_, refl, ap, sym, fun-ext, _∙_}
 use mathlib.Core.List.{List}
 use Prim.Native.Nat.{ℕ, _+_, _*_, _/_, _%_, _≤_, _<_}
 use native.Mathlib.Omega.{arith}
@@ -8,8 +8,8 @@ use native.Mathlib.Decide.{ℕ-discrete, decLt}
 use mathlib.Core.Bool.{true, false}
 use lib.Dec.{ltb}
 use borrow.Author.Tests.{lt-ltb, le-ltb}
-use lib.ListN.{length, getD, set, length-set}
-use lib.Seq.{getD-set-same, getD-set-other}
+use lib.ListN.{length, getD, set, take, drop, length-set, length-drop}
+use lib.Seq.{getD-set-same, getD-set-other, getD-take, getD-drop, length-take-le}
 use Rattle.lists.specs.Tables.{put, put-same, put-other}
 
 -- number k of a list of bytes
@@ -78,3 +78,21 @@ window-else base n m k v h = fun-ext (λ j. go j (decLt j n))
     go : (j : ℕ) → Dec (j < n) → window base n (setWord m k v) j ≡ window base n m j
     go j (yes l) = window-in base n (setWord m k v) j l ∙ word-other m k v (base + j) (λ e. h (omega arith) (omega arith)) ∙ sym (window-in base n m j l)
     go j (no l) = window-past base n (setWord m k v) j (omega arith) ∙ sym (window-past base n m j (omega arith))
+
+-- ---- A part of the bytes: n numbers, given by f
+pub record Numbers (bytes : List ℕ) (n : ℕ) (f : ℕ → ℕ) : Type 0 where
+  pub size : length bytes ≡ n * 2
+  pub number : (i : ℕ) → i < n → wordAt bytes i ≡ f i
+
+pub numbers-of : (m : List ℕ) (k n : ℕ) → (k + n) * 2 ≤ length m → Numbers (take (n * 2) (drop (k * 2) m)) n (λ i. wordAt m (k + i))
+unfolding wordAt
+numbers-of m k n h = record {
+  size = length-take-le (n * 2) (drop (k * 2) m) (omega (arith, length-drop (k * 2) m));
+  number = λ i l. rw (byte (i * 2) ((k + i) * 2) (omega arith) (omega arith), byte (i * 2 + 1) ((k + i) * 2 + 1) (omega arith) (omega arith)) refl;
+}
+  where
+    byte : (x y : ℕ) → x < n * 2 → k * 2 + x ≡ y → getD (take (n * 2) (drop (k * 2) m)) x 0 ≡ getD m y 0
+    byte x y l e = getD-take (n * 2) (drop (k * 2) m) x 0 l ∙ getD-drop (k * 2) m x 0 ∙ ap (λ z. getD m z 0) e
+
+pub numbers-by : (bytes : List ℕ) (n : ℕ) (f g : ℕ → ℕ) → Numbers bytes n f → ((i : ℕ) → i < n → f i ≡ g i) → Numbers bytes n g
+numbers-by bytes n f g h e = record { size = h .size; number = λ i l. h .number i l ∙ e i l }

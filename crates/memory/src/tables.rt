@@ -6,6 +6,7 @@ ghost use lib.ListN.{length};
 ghost use Rattle.lists.specs.Tables.{put as putAt};
 ghost use Rattle.rules.specs.Shape.{slots};
 ghost use Rattle.memory.specs.Tables.{tablesOf, withQueue, withKinds, withSpots, withCounter, withPartition, withPlace, withWaiting, withOrder, withHolds, withMark};
+ghost use Rattle.memory.specs.Words.{wordAt, Numbers};
 ghost use Rattle.memory.specs.Fits.{shapeOf, Fits, fit as fitOf};
 
 // x where it is below the bound, else 0.
@@ -179,4 +180,38 @@ pub fn set_mark(h: Shape, m: &mut [u8], c: usize, v: usize)
 {
     let n = cells(h);
     crate::set_word(m, 192 + 3 * h.n + 2 * n + c, v);
+}
+
+// The bytes of the n numbers from number k on.
+fn numbers(m: &[u8], k: usize, n: usize) -> &[u8]
+    requires { ⌜ ((k + n) * 2 ≤ length (now m)) × (k + n ≤ 131072) ⌝ }
+    ensures { λ r. ⌜ Numbers (now r) n (λ i. wordAt (now (m .entry)) (k + i)) ⌝ }
+{
+    let a = k * 2;
+    let e = a + n * 2;
+    &m[a..e]
+}
+
+// Of the n slots from cell c on: the bytes of their order, of what they hold, of their marks. A loop over these has one index to go by.
+pub fn orders(h: Shape, m: &[u8], c: usize, n: usize) -> &[u8]
+    requires { ⌜ Fits (shapeOf h) (length (now m)) × (c + n ≤ h .p * slots (h .l)) ⌝ }
+    ensures { λ r. ⌜ Numbers (now r) n (λ i. tablesOf (shapeOf h) (now (m .entry)) .order (c + i)) ⌝ }
+{
+    numbers(m, 192 + 3 * h.n + c, n)
+}
+
+pub fn held(h: Shape, m: &[u8], c: usize, n: usize) -> &[u8]
+    requires { ⌜ Fits (shapeOf h) (length (now m)) × (c + n ≤ h .p * slots (h .l)) ⌝ }
+    ensures { λ r. ⌜ Numbers (now r) n (λ i. tablesOf (shapeOf h) (now (m .entry)) .holds (c + i)) ⌝ }
+{
+    let all = cells(h);
+    numbers(m, 192 + 3 * h.n + all + c, n)
+}
+
+pub fn marks(h: Shape, m: &[u8], c: usize, n: usize) -> &[u8]
+    requires { ⌜ Fits (shapeOf h) (length (now m)) × (c + n ≤ h .p * slots (h .l)) ⌝ }
+    ensures { λ r. ⌜ Numbers (now r) n (λ i. tablesOf (shapeOf h) (now (m .entry)) .mark (c + i)) ⌝ }
+{
+    let all = cells(h);
+    numbers(m, 192 + 3 * h.n + 2 * all + c, n)
 }

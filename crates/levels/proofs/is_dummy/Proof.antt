@@ -1,22 +1,39 @@
+use mathlib.Core.Path.{sym, ap, _∙_}
 use native.Mathlib.Omega.{arith}
+use lib.Dec.{eqb}
 use borrow.Author.Tests.{eq-eqb, ne-eqb}
-use mathlib.Core.Path.{sym, _∙_}
+use Rattle.memory.specs.Fits.{fit}
 use Rattle.levels.proofs.is_dummy.Statement.{statement}
 use Rattle.levels.proofs.is_dummy.Tie as tie
-use Rattle.memory.proofs.tables.holds.Reads as holds-reads
-use Rattle.memory.proofs.tables.mark.Reads as mark-reads
+use Rattle.memory.proofs.tables.fit.Reads as fit-reads
+use Rattle.memory.proofs.word.Reads as word-reads
 
-holds-requires : tie.Need-holds-requires
-holds-requires c κs = omega arith
+word-requires : tie.Need-word-requires
+word-requires c κs = omega arith
+
+fit-requires : tie.Need-fit-requires
+fit-requires c κs = omega arith
 
 returns : tie.Need-returns
-returns c = rw (← c .before .holds .ensures, ne-eqb (c .before .holds .result) 0 (c .if1 .taken))
+returns c =
+    let f = c .before in
+    let w = f .before in
+    rw (← w .word .ensures .0, ← f .fit .ensures, ne-eqb (f .fit .result) 0 (c .if1 .taken))
 
-mark-requires : tie.Need-mark-requires
-mark-requires c κs = omega arith
+word-requires-2 : tie.Need-word-requires-2
+word-requires-2 c κs = omega arith
+
+fit-requires-2 : tie.Need-fit-requires-2
+fit-requires-2 c κs = omega arith
 
 returns-2 : tie.Need-returns-2
-returns-2 c = rw (← c .before .before .holds .ensures, eq-eqb (c .before .before .holds .result) 0 (omega arith), c .mark .ensures)
+returns-2 c =
+    let w2 = c .before in
+    let f = w2 .before .before in
+    let w = f .before in
+    rw (← w .word .ensures .0, ← f .fit .ensures, eq-eqb (f .fit .result) 0 (omega arith), ← w2 .word2 .ensures .0, ← c .fit2 .ensures)
 
 pub is-dummy-spec : {M : Type 1} → statement M
-is-dummy-spec = tie.close (tie.spec holds-requires returns mark-requires returns-2)
+is-dummy-spec =
+    tie.close
+    (tie.spec word-requires fit-requires returns word-requires-2 fit-requires-2 returns-2)
