@@ -23,7 +23,7 @@ use std::path::Path;
 use std::process::ExitCode;
 
 const LOOK_UPS: usize = 2048;
-const REPEATS: usize = 10;
+const REPEATS: usize = 50;
 
 /// N alone grows.
 const GROWING: [Shape; 4] = [
@@ -50,6 +50,8 @@ pub struct Row {
     pub shape: Shape,
     /// Commands of a look-up, on average.
     pub commands: f64,
+    /// Blocks that wait in the cache after a look-up, on average.
+    pub waiting: f64,
     /// With a host in memory, and with one that does nothing.
     pub memory: Times,
     pub nothing: Times,
@@ -80,12 +82,25 @@ fn compare<H: Host>(shape: Shape) -> (Times, f64) {
     (times, commands / LOOK_UPS as f64)
 }
 
+/// Blocks that wait after each of as many look-ups, on average.
+fn waiting(shape: Shape) -> f64 {
+    let mut look_ups = LookUps::<Proved, Nothing>::open(shape, 1).expect("the shape is in bounds");
+    look_ups.warm_up().expect("no look-up is refused");
+    let mut all = 0;
+    for _ in 0..LOOK_UPS {
+        look_ups.measure(1).expect("no look-up is refused");
+        all += usize::from(look_ups.client.waiting());
+    }
+    all as f64 / LOOK_UPS as f64
+}
+
 fn row(shape: Shape) -> Row {
     let (memory, commands) = compare::<Memory>(shape);
     let (nothing, _) = compare::<Nothing>(shape);
     Row {
         shape,
         commands,
+        waiting: waiting(shape),
         memory,
         nothing,
     }

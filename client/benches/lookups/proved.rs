@@ -11,6 +11,13 @@ pub struct Proved {
     memory: Vec<u8>,
 }
 
+impl Proved {
+    /// How many blocks wait in the cache: number 14 of the state (docs/MEMORY.md).
+    pub fn waiting(&self) -> u16 {
+        u16::from_le_bytes([self.state[4 * 14], self.state[4 * 14 + 1]])
+    }
+}
+
 fn answer(from: Answer) -> fast::Answer {
     fast::Answer {
         number: from.number,

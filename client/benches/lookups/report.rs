@@ -22,17 +22,18 @@ fn machine() -> String {
 
 fn table(rows: &[Row]) -> String {
     let mut text = String::new();
-    text += "| N | P | L | B | commands | memory: proved | plain | ratio | nothing: proved | plain | ratio |\n";
-    text += "|--:|--:|--:|--:|--:|--:|--:|--:|--:|--:|--:|\n";
+    text += "| N | P | L | B | commands | waiting | memory: proved | plain | ratio | nothing: proved | plain | ratio |\n";
+    text += "|--:|--:|--:|--:|--:|--:|--:|--:|--:|--:|--:|--:|\n";
     for row in rows {
         let (h, a, b) = (row.shape, row.memory, row.nothing);
         text += &format!(
-            "| {} | {} | {} | {} | {:.1} | {:.1} | {:.1} | {:.2} | {:.1} | {:.1} | {:.2} |\n",
+            "| {} | {} | {} | {} | {:.1} | {:.1} | {:.1} | {:.1} | {:.2} | {:.1} | {:.1} | {:.2} |\n",
             h.blocks,
             h.partitions,
             h.levels,
             h.bytes,
             row.commands,
+            row.waiting,
             a.proved,
             a.plain,
             a.ratio(),
