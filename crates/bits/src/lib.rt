@@ -40,6 +40,15 @@ pub fn target(sources: usize, levels: usize) -> usize
     }
 }
 
+// The level of slot x of a partition, whose slots are counted level by level: level l begins at 2^(l+1) - 2.
+pub fn level_of(x: usize) -> usize
+    requires { ⌜ x ≤ 65536 ⌝ }
+    ensures { λ r. ⌜ (2 ^ (r + 1) ≤ x + 2) × (x + 2 < 2 ^ (r + 2)) ⌝ }
+{
+    let zeros = wide(usize::leading_zeros(x + 2));
+    62 - zeros
+}
+
 // A number of 32 bits as a usize.
 fn wide(x: u32) -> usize
     ensures { λ r. ⌜ r ≡ x ⌝ }

@@ -1,16 +1,18 @@
 -- The search of levels and their slots for the next unread one.
-use mathlib.Core.Path.{_≡_, sym, ap, _∙_}
+use mathlib.Core.Path.{_≡_, refl, sym, ap, _∙_}
 use mathlib.Core.Bool.{Bool, _&&_}
 use mathlib.Core.List.{List}
 use mathlib.Core.Option.{Option, none, some}
-use Prim.Native.Nat.{ℕ, _+_, _-_, _≤_, _<_}
-use native.Mathlib.Nat.{sub-zero}
+use Prim.Native.Nat.{ℕ, zero, suc, _+_, _*_, _-_, _^_, _≤_, _<_}
+use native.Mathlib.Nat.{sub-zero, pow-suc}
+use native.Mathlib.Decide.{decLt}
 use native.Mathlib.Omega.{arith}
 use lib.Dec.{eqb, leb}
 use borrow.Author.Tests.{le-leb, lt-leb, eq-eqb, ne-eqb}
 use Rattle.lists.specs.Search.{find}
 use Rattle.rules.specs.Shape.{slots, cell, offset}
 use Rattle.rules.specs.State.{State}
+use Rattle.rules.specs.Laws.Levels.{two-slots}
 use Rattle.rules.specs.Levels.{sources}
 use Rattle.rules.specs.Blocks.{isUnread}
 use Rattle.rules.specs.Rebuild.{unread}
@@ -53,6 +55,22 @@ module _ (c : Client) (m : List ℕ) (q t : ℕ) where
       (ap (find (isNext (stateOf c m) q)) (from-step ℓ t h)
       ∙ sym (first-all (isNext (stateOf c m) q) (λ i. (ℓ, i)) (slotsFrom (ℓ + 1) (t - (ℓ + 1))) (slots ℓ))
       ∙ first-skip (isNext (stateOf c m) q) (λ i. (ℓ, i)) (slotsFrom (ℓ + 1) (t - (ℓ + 1))) (slots ℓ) start (λ j l. rw (lt-leb (c .cursor) (slots ℓ - 2 + j) (omega arith))))
+
+  -- and so have the levels that end before the cursor
+  pub levels-passed : (ℓ : ℕ) → 2 ^ (ℓ + 1) ≤ c .cursor + 2 → fromLevel (stateOf c m) q t 0 ≡ fromLevel (stateOf c m) q t ℓ
+  levels-passed zero h = refl
+  levels-passed (suc ℓ) h =
+      let e : ℓ + 1 ≡ suc ℓ = omega arith in
+      let n : suc ℓ + 1 ≡ suc (ℓ + 1) = omega arith in
+      let p : 2 ^ (suc ℓ + 1) ≡ 2 ^ (ℓ + 1) * 2 = ap (λ x. 2 ^ x) n ∙ pow-suc 2 (ℓ + 1) in
+      levels-passed ℓ (omega arith) ∙ rw (← e) (passed ℓ (omega arith))
+    where
+      passed : (ℓ : ℕ) → 2 * slots ℓ ≤ c .cursor + 2 → fromLevel (stateOf c m) q t ℓ ≡ fromLevel (stateOf c m) q t (ℓ + 1)
+      passed ℓ h = go (decLt ℓ t)
+        where
+          go : Dec (ℓ < t) → fromLevel (stateOf c m) q t ℓ ≡ fromLevel (stateOf c m) q t (ℓ + 1)
+          go (yes l) = level-enter ℓ (slots ℓ) (c .cursor - (slots ℓ - 2)) l refl refl ∙ level-done (stateOf c m) q t ℓ (slots ℓ) (c .cursor - (slots ℓ - 2)) (omega (arith, two-slots ℓ))
+          go (no n) = levels-done (stateOf c m) q t ℓ (omega arith) ∙ sym (levels-done (stateOf c m) q t (ℓ + 1) (omega arith))
 
   -- slot i has the mark x
   module _ (ℓ n base i x : ℕ) (size : n ≡ slots ℓ) (start : base ≡ cell (shapeOf (c .shape)) q ℓ 0) (inside : i < n) (ahead : c .cursor ≤ n - 2 + i)

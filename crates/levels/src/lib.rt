@@ -87,14 +87,16 @@ pub fn dummy(c: Client, m: &[u8], q: usize, l: usize) -> Found
     lowest_dummy(order, held, marks, n, c.shape.n + 1)
 }
 
-// The next unread slot of the levels below `sources` of partition q, levels ascending, and slots ascending within a level.
+// The next unread slot of the levels below `sources` of partition q, levels ascending, and slots ascending within a level. The levels below that
+// of the cursor have been gone over.
 pub fn unread(c: Client, m: &[u8], q: usize, sources: usize) -> Spot
-    requires { ⌜ Room c (now m) × (q < c .shape .p) × (sources ≡ sourcesOf (shapeOf (c .shape)) (stateOf c (now m) .counter q)) × (sources ≤ c .shape .l) ⌝ }
+    requires { ⌜ Room c (now m) × (q < c .shape .p) × (sources ≡ sourcesOf (shapeOf (c .shape)) (stateOf c (now m) .counter q)) × (sources ≤ c .shape .l) × (c .cursor ≤ 65536) ⌝ }
     ensures { λ r. ⌜ spotOf r ≡ unreadOf (stateOf c (now (m .entry))) q ⌝ }
 {
     let cursor = c.cursor;
+    let from = bits::level_of(cursor);
     let mut found = Spot::Nothing;
-    'levels: for l in 0..sources {
+    'levels: for l in from..sources {
         let n = bits::pow2(l + 1);
         let base = cell(c.shape, q, l, 0);
         let first = if n - 2 < cursor { cursor - (n - 2) } else { 0 };

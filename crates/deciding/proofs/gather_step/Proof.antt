@@ -12,7 +12,7 @@ unread-requires : tie.Need-unread-requires
 unread-requires c κs =
     let a = c .before in
     let p = a .pre in
-    (p .0 .room, p .1, p .2, omega (arith, p .2, sources-le (shapeOf (a .args .c .shape)) (stateOf (a .args .c) (a .args .m .now) .counter (a .args .q))))
+    (p .0 .room, p .1, p .2, omega (arith, p .2, sources-le (shapeOf (a .args .c .shape)) (stateOf (a .args .c) (a .args .m .now) .counter (a .args .q))), omega (arith, p .0 .counts .cursor, p .0 .room .stride))
 
 enum-known-spot : tie.Need-enum-known-spot
 enum-known-spot c = omega arith

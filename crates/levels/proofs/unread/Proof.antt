@@ -9,24 +9,29 @@ use Rattle.client.specs.View.{stateOf}
 use Rattle.levels.specs.declared.Spot.the-variants.{Nothing}
 use Rattle.levels.specs.Next.{spotOf}
 use Rattle.levels.specs.Slots.{cell-lt}
-use Rattle.levels.specs.Unread.{fromLevel, fromSlot, levels-all, levels-done, level-enter, level-done, slot-hit, slot-miss}
+use Rattle.levels.specs.Unread.{fromLevel, fromSlot, levels-all, levels-passed, levels-done, level-enter, level-done, slot-hit, slot-miss}
 use Rattle.levels.proofs.unread.Statement.{statement}
 use Rattle.levels.proofs.unread.Tie as tie
 
 abbrev Inv-loop : tie.InvT-loop
-Inv-loop c m q sources cursor found₀ l n base first i₀ found i = (found ≡ Nothing) × (cursor ≤ n - 2 + i) × (fromSlot (stateOf c m) q sources l n i ≡ unread (stateOf c m) q)
+Inv-loop c m q sources cursor from found₀ l n base first i₀ found i = (found ≡ Nothing) × (cursor ≤ n - 2 + i) × (fromSlot (stateOf c m) q sources l n i ≡ unread (stateOf c m) q)
 
 abbrev μ-loop : tie.MeasureT-loop
-μ-loop c m q sources cursor found₀ l n base first i₀ found i = n - i
+μ-loop c m q sources cursor from found₀ l n base first i₀ found i = n - i
 
 abbrev Inv-levels : tie.InvT-levels
-Inv-levels c m q sources cursor found₀ l₀ found l = (l ≤ sources) × (found ≡ Nothing) × (fromLevel (stateOf c m) q sources l ≡ unread (stateOf c m) q)
+Inv-levels c m q sources cursor from found₀ l₀ found l = (found ≡ Nothing) × (fromLevel (stateOf c m) q sources l ≡ unread (stateOf c m) q)
 
 abbrev μ-levels : tie.MeasureT-levels
-μ-levels c m q sources cursor found₀ l₀ found l = sources - l
+μ-levels c m q sources cursor from found₀ l₀ found l = sources - l
 
 levels-holds : tie.Need-levels-holds Inv-loop μ-loop Inv-levels μ-levels
-levels-holds c = (omega arith, refl, levels-all _ _ _ _ (c .before .pre .2))
+levels-holds c =
+    let a = c .before .before in
+    (refl, sym (levels-passed _ _ _ _ (c .level-of .result) (c .level-of .ensures .0)) ∙ levels-all _ _ _ _ (a .pre .2))
+
+level-of-requires : tie.Need-level-of-requires Inv-loop μ-loop Inv-levels μ-levels
+level-of-requires c κs = omega arith
 
 add-pow2 : tie.Need-add-pow2 Inv-loop μ-loop Inv-levels μ-levels
 add-pow2 c = omega arith
@@ -49,10 +54,10 @@ sub-first-2 c = omega arith
 loop-holds : tie.Need-loop-holds Inv-loop μ-loop Inv-levels μ-levels
 loop-holds c =
     let l = c .before .before .before .before .levels in
-    let a = c .before .before .before .before .before .before .args in
+    let a = c .before .before .before .before .before .before .before .args in
     let p = c .before .before .pow2 in
     let e : c .if1 .first ≡ a .c .cursor - (p .result - 2) = ⊎-elim (λ w. omega arith) (λ w. omega arith) (c .if1 .came) in
-    (l .inv .1, omega arith, sym (level-enter _ _ _ _ _ (p .result) (c .if1 .first) (c .before .before .before .levels-test .taken) (p .ensures .0) e) ∙ l .inv .2)
+    (l .inv .0, omega arith, sym (level-enter _ _ _ _ _ (p .result) (c .if1 .first) (c .before .before .before .levels-test .taken) (p .ensures .0) e) ∙ l .inv .1)
 
 add-mark : tie.Need-add-mark Inv-loop μ-loop Inv-levels μ-levels
 add-mark c = omega arith
@@ -60,7 +65,7 @@ add-mark c = omega arith
 mark-requires : tie.Need-mark-requires Inv-loop μ-loop Inv-levels μ-levels
 mark-requires c κs =
     let b = c .before .before .before .before in
-    let a = b .before .before .before .before .before in
+    let a = b .before .before .before .before .before .before in
     (a .pre .0, cell-lt (shapeOf (a .args .c .shape)) _ _ _ _ (b .cell .ensures .0) (a .pre .1) (omega arith) (omega arith))
 
 add-i : tie.Need-add-i Inv-loop μ-loop Inv-levels μ-levels
@@ -84,12 +89,12 @@ levels-less c = omega arith
 levels-again : tie.Need-levels-again Inv-loop μ-loop Inv-levels μ-levels
 levels-again c =
     let l = c .before .loop in
-    (omega arith, l .inv .0, sym (level-done _ _ _ _ _ (l .i) (c .loop-test .left)) ∙ l .inv .2)
+    (l .inv .0, sym (level-done _ _ _ _ _ (l .i) (c .loop-test .left)) ∙ l .inv .2)
 
 returns : tie.Need-returns Inv-loop μ-loop Inv-levels μ-levels
 returns c =
     let l = c .before .levels in
-    ap spotOf (l .inv .1) ∙ sym (levels-done _ _ _ (l .l) (c .levels-test .left)) ∙ l .inv .2
+    ap spotOf (l .inv .0) ∙ sym (levels-done _ _ _ (l .l) (c .levels-test .left)) ∙ l .inv .1
 
 returns-2 : tie.Need-returns-2 Inv-loop μ-loop Inv-levels μ-levels
 returns-2 c =
@@ -105,6 +110,7 @@ unread-spec =
     μ-loop
     Inv-levels
     μ-levels
+    level-of-requires
     levels-holds
     add-pow2
     pow2-requires
