@@ -1,0 +1,107 @@
+//! Numbers as wide as a host can pass, at the five calls themselves: each value
+//! is answered, and a refusal changes nothing.
+
+use rinwolfedd::calls::{self, READ, STATE, Shape, WRITE};
+
+const SHAPE: Shape = Shape {
+    blocks: 8,
+    partitions: 2,
+    levels: 3,
+    bytes: 4,
+    places: 8,
+    window: 4,
+};
+
+/// Numbers that agree with a small one in their low 8, 16 or 32 bits.
+fn wide(small: usize) -> [usize; 5] {
+    [8, 16, 32, 40, 60].map(|bit| small + (1 << bit))
+}
+
+fn opened() -> ([u8; STATE], Vec<u8>) {
+    let mut state = [0; STATE];
+    let mut memory = vec![0; SHAPE.needed().expect("a shape within bounds")];
+    let answer = calls::open(&mut state, &mut memory, SHAPE, &[0; 16]);
+    assert_eq!(answer.number, 0);
+    (state, memory)
+}
+
+#[test]
+fn requests() {
+    let (mut state, mut memory) = opened();
+    let before = (state, memory.clone());
+    let mut number =
+        |kind, block| calls::request(&mut state, &mut memory, kind, block, &[], &[0; 4]).number;
+    for block in wide(3) {
+        assert_eq!(number(READ.into(), block), 5, "block {block}");
+    }
+    for kind in [0, 3, 9]
+        .into_iter()
+        .chain(wide(READ.into()))
+        .chain(wide(WRITE.into()))
+    {
+        assert_eq!(number(kind, 3), 2, "kind {kind}");
+    }
+    assert_eq!((state, memory), before);
+}
+
+#[test]
+fn completions() {
+    let (mut state, mut memory) = opened();
+    // a request, collected at once, queues two jobs; the first writes two slots of level 0
+    let asked = calls::request(&mut state, &mut memory, READ.into(), 3, &[], &[0; 4]);
+    let collected = calls::collect(&mut state, &mut memory, &mut [0; 4]);
+    let sent = calls::turn(&mut state, &mut memory, &[0; 2], &mut [0; 4]);
+    assert_eq!([asked.number, collected.number, sent.number], [0; 3]);
+    let before = (state, memory.clone());
+    let mut number =
+        |kind, slot| calls::completion(&mut state, &mut memory, kind, slot, &[]).number;
+    for place in 0..3 {
+        for value in wide(0) {
+            let mut slot = [0; 3];
+            slot[place] = value;
+            assert_eq!(number(WRITE.into(), slot), 11, "slot {slot:?}");
+        }
+    }
+    for kind in wide(WRITE.into()) {
+        assert_eq!(number(kind, [0; 3]), 2, "kind {kind}");
+    }
+    assert_eq!((state, memory), before);
+}
+
+#[test]
+fn opens() {
+    for bit in [8, 16, 32, 40, 60] {
+        let add = 1 << bit;
+        let shapes = [
+            Shape {
+                blocks: SHAPE.blocks + add,
+                ..SHAPE
+            },
+            Shape {
+                partitions: SHAPE.partitions + add,
+                ..SHAPE
+            },
+            Shape {
+                levels: SHAPE.levels + add,
+                ..SHAPE
+            },
+            Shape {
+                bytes: SHAPE.bytes + 2 * add,
+                ..SHAPE
+            },
+            Shape {
+                places: SHAPE.places + add,
+                ..SHAPE
+            },
+            Shape {
+                window: SHAPE.window + add,
+                ..SHAPE
+            },
+        ];
+        for shape in shapes {
+            let mut state = [1; STATE];
+            let answer = calls::open(&mut state, &mut [0; 4096], shape, &[0; 16]);
+            assert_eq!((answer.number, state), (1, [0; STATE]), "{shape:?}");
+        }
+    }
+}
