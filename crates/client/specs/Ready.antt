@@ -26,8 +26,9 @@ use Rattle.memory.specs.Tables.{Tables}
 use Rattle.memory.specs.Fits.{shapeOf, fit, fit-lt, fit-in}
 use Rattle.client.specs.declared.Client.{Client}
 use Rattle.client.specs.declared.Request.{Request}
-use Rattle.client.specs.View.{levelOf, placeOf, spotOf, commandOf, levelAt, requestOf, rows, view}
+use Rattle.client.specs.View.{levelOf, placeOf, spotOf, commandOf, levelAt, heldBy, requestOf, rows, view}
 use Rattle.client.specs.Rows.{length-rows}
+use Rattle.client.specs.Readings.{jobs-are, waiting-are}
 use Rattle.client.specs.Changes.{cell-level}
 
 -- the numbers of a request in hand
@@ -177,23 +178,8 @@ module _ (c : Client) (t : Tables) (w : within (shapeOf (c .shape)) ≡ true) (f
   abbrev Hand : Option R.Request → Type 0
   Hand o = IfSome (RequestIn h) o × JobsIn (view c t .queue) o × Waits (h .E) (view c t .waiting) o
 
-  jobs-is : length (view c t .queue) ≡ c .jobs
-  unfolding view
-  jobs-is = length-rows _ (c .jobs)
-
-  waiting-is : length (view c t .waiting) ≡ c .waiting
-  unfolding view
-  waiting-is = length-rows _ (c .waiting)
-
   abbrev inHand : R.Request
-  inHand = record {
-    kind = c .request .kind;
-    block = c .request .block;
-    bytes = if eqb (c .request .kind) write then t .blocks (c .shape .n) else [];
-    next = c .request .next;
-    evict = c .request .evict;
-    level = c .request .level;
-  }
+  inHand = heldBy (c .request) (t .blocks (c .shape .n))
 
   bytes-length : (b : Bool) → length (if b then t .blocks (c .shape .n) else []) ≡ (if b then c .shape .b else 0)
   bytes-length true = full
@@ -211,7 +197,7 @@ module _ (c : Client) (t : Tables) (w : within (shapeOf (c .shape)) ≡ true) (f
       go : (b : Bool) → eqb (c .request .kind) 0 ≡ b
           → (if b then leb (c .jobs) 64 else ((requestFits h (c .request) && leb (c .jobs) 62) && (ltb (c .waiting) (c .shape .e) || waits))) ≡ true
           → Hand (if b then none else some inHand)
-      go true e f = (tt, omega (arith, jobs-is, leb-true (c .jobs) 64 f), omega (arith, waiting-is))
+      go true e f = (tt, omega (arith, jobs-are c t, leb-true (c .jobs) 64 f), omega (arith, waiting-are c t))
       go false e f =
           let x = and-l (requestFits h (c .request) && leb (c .jobs) 62) (ltb (c .waiting) (c .shape .e) || waits) f in
           let a = asked-facts h (c .request) (and-l (requestFits h (c .request)) (leb (c .jobs) 62) x) in
@@ -225,12 +211,12 @@ module _ (c : Client) (t : Tables) (w : within (shapeOf (c .shape)) ≡ true) (f
               evict = a .evict;
               level = a .level;
             },
-            omega (arith, jobs-is, j),
-            (omega (arith, waiting-is), others-room (h .E) (c .request .block) (view c t .waiting) (omega (arith, waiting-is)) (room-is y)),
+            omega (arith, jobs-are c t, j),
+            (omega (arith, waiting-are c t), others-room (h .E) (c .request .block) (view c t .waiting) (omega (arith, waiting-are c t)) (room-is y)),
           )
         where
           room-is : (ltb (c .waiting) (c .shape .e) || waits) ≡ true → (ltb (length (view c t .waiting)) (c .shape .e) || member (c .request .block) (view c t .waiting)) ≡ true
-          room-is y = rw waiting-is (unfold ownWaits in y)
+          room-is y = rw (waiting-are c t) (unfold ownWaits in y)
 
   back : Hand (view c t .request) → handFits c waits ≡ true
   unfolding handFits view requestOf
@@ -238,7 +224,7 @@ module _ (c : Client) (t : Tables) (w : within (shapeOf (c .shape)) ≡ true) (f
     where
       go : (b : Bool) → eqb (c .request .kind) 0 ≡ b → Hand (if b then none else some inHand)
           → (if b then leb (c .jobs) 64 else ((requestFits h (c .request) && leb (c .jobs) 62) && (ltb (c .waiting) (c .shape .e) || waits))) ≡ true
-      go true e f = le-leb (c .jobs) 64 (omega (arith, jobs-is, f .1))
+      go true e f = le-leb (c .jobs) 64 (omega (arith, jobs-are c t, f .1))
       go false e f =
           let k : (leb 1 (c .request .kind) && leb (c .request .kind) 2) ≡ true = sym kind-is ∙ f .0 .kind in
           let a : Asked h (c .request) = record {
@@ -249,10 +235,10 @@ module _ (c : Client) (t : Tables) (w : within (shapeOf (c .shape)) ≡ true) (f
             evict = f .0 .evict;
             level = f .0 .level;
           } in
-          and-true (and-true (facts-asked h (c .request) a) (le-leb (c .jobs) 62 (omega (arith, jobs-is, f .1)))) (room-is (room-others (h .E) (c .request .block) (view c t .waiting) (f .2 .1)))
+          and-true (and-true (facts-asked h (c .request) a) (le-leb (c .jobs) 62 (omega (arith, jobs-are c t, f .1)))) (room-is (room-others (h .E) (c .request .block) (view c t .waiting) (f .2 .1)))
         where
           room-is : (ltb (length (view c t .waiting)) (c .shape .e) || member (c .request .block) (view c t .waiting)) ≡ true → (ltb (c .waiting) (c .shape .e) || waits) ≡ true
-          room-is y = unfold ownWaits in (rw waiting-is at y)
+          room-is y = unfold ownWaits in (rw (waiting-are c t) at y)
 
   range-of : Counts c → Hand (view c t .request) → InRange (view c t)
   unfolding view
@@ -289,7 +275,7 @@ module _ (c : Client) (t : Tables) (w : within (shapeOf (c .shape)) ≡ true) (f
       there : inRange (view c t) ≡ true → (countsFit c && handFits c waits) ≡ true
       there e =
           let r = range-facts (view c t) e in
-          let f : Counts c = unfold view in (record { cursor = r .cursor; sent = r .sent; out = omega (arith, r .free, length-rows (λ i. commandOf h (t .kinds i) (t .spots i)) (c .out)); waiting = omega (arith, waiting-is, waits-le (h .E) (view c t .waiting) (view c t .request) (r .cache)) }) in
+          let f : Counts c = unfold view in (record { cursor = r .cursor; sent = r .sent; out = omega (arith, r .free, length-rows (λ i. commandOf h (t .kinds i) (t .spots i)) (c .out)); waiting = omega (arith, waiting-are c t, waits-le (h .E) (view c t .waiting) (view c t .request) (r .cache)) }) in
           and-true (facts-counts c f) (back (r .request, r .jobs, r .cache))
 
       here : (countsFit c && handFits c waits) ≡ true → inRange (view c t) ≡ true

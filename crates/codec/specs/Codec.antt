@@ -47,10 +47,13 @@ withRest c w = withProgress c (withAsked (c .request) w)
 abbrev pub lowShape : Shape → Shape
 lowShape h = record { n = h .n % 65536; p = h .p % 65536; l = h .l % 65536; b = h .b % 65536; e = h .e % 65536; w = h .w % 65536 }
 
+abbrev pub lowRequest : Request → Request
+lowRequest r = record { kind = r .kind % 65536; block = r .block % 65536; next = r .next % 65536; evict = r .evict % 65536; level = r .level % 65536 }
+
 abbrev pub lowClient : Client → Client
 lowClient c = record {
   shape = lowShape (c .shape);
-  request = record { kind = c .request .kind % 65536; block = c .request .block % 65536; next = c .request .next % 65536; evict = c .request .evict % 65536; level = c .request .level % 65536 };
+  request = lowRequest (c .request);
   jobs = c .jobs % 65536;
   cursor = c .cursor % 65536;
   sent = c .sent % 65536;

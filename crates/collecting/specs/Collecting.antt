@@ -29,6 +29,7 @@ use Rattle.memory.specs.Fits.{shapeOf, fit}
 use Rattle.client.specs.declared.Client.{Client}
 use Rattle.client.specs.declared.Request.{Request}
 use Rattle.client.specs.View.{stateOf, view, requestOf, bytesIn, placeOf, levelOf}
+use Rattle.client.specs.Readings.{heldOf, held-none, held-some}
 use Rattle.client.specs.Changes.{view-bytes, view-holds, view-place, view-partition, place-nowhere, level-le}
 use Rattle.client.specs.Ready.{Asked}
 use Rattle.client.specs.Moves.{withRequest, withWaiting, withJobs, Room, Stands, stands, then as next}
@@ -39,17 +40,6 @@ use Rattle.ready.specs.Usable.{Usable, usable}
 -- the call, by the length of its buffer
 abbrev pub callWith : List ℕ → ℕ → Call
 callWith m len = record { ask = collect; memory = length m; words = wordsOf []; buffer = len }
-
--- the request in hand
-abbrev pub heldOf : Client → List ℕ → R.Request
-heldOf c m = record {
-  kind = c .request .kind;
-  block = c .request .block;
-  bytes = if eqb (c .request .kind) write then tablesOf (shapeOf (c .shape)) m .blocks (c .shape .n) else [];
-  next = c .request .next;
-  evict = c .request .evict;
-  level = c .request .level;
-}
 
 -- what the code goes by with a request in hand
 pub record Hand (c : Client) (m : List ℕ) : Type 0 where
@@ -69,32 +59,24 @@ few : (e : ℕ) (xs : List ℕ) (r : R.Request) (o : Option R.Request) → o ≡
 few e xs r o q w = let y : Waits e xs (some r) = subst (Waits e xs) q w in y .1
 
 module _ (c : Client) (m : List ℕ) where
-  request-none : c .request .kind ≡ 0 → stateOf c m .request ≡ none
-  unfolding stateOf view requestOf
-  request-none e = rw (eq-eqb (c .request .kind) 0 e)
-
-  request-some : (c .request .kind ≡ 0 → ⊥) → stateOf c m .request ≡ some (heldOf c m)
-  unfolding stateOf view requestOf
-  request-some n = rw (ne-eqb (c .request .kind) 0 n)
-
   -- the questions about it
   pub asked-none : c .request .kind ≡ 0 → inHand (λ r. true) (stateOf c m .request) ≡ false
   unfolding inHand
-  asked-none e = ap (inHand (λ r. true)) (request-none e)
+  asked-none e = ap (inHand (λ r. true)) (held-none c m e)
 
   pub asked-some : (c .request .kind ≡ 0 → ⊥) → inHand (λ r. true) (stateOf c m .request) ≡ true
   unfolding inHand
-  asked-some n = ap (inHand (λ r. true)) (request-some n)
+  asked-some n = ap (inHand (λ r. true)) (held-some c m n)
 
   pub asked-finished : (c .request .kind ≡ 0 → ⊥) → inHand (finished (stateOf c m)) (stateOf c m .request) ≡ finished (stateOf c m) (heldOf c m)
   unfolding inHand
-  asked-finished n = ap (inHand (finished (stateOf c m))) (request-some n)
+  asked-finished n = ap (inHand (finished (stateOf c m))) (held-some c m n)
 
   pub hand : Usable c m → (c .request .kind ≡ 0 → ⊥) → Hand c m
   unfolding stateOf view
   hand u n =
       let a = u .asked n in
-      let f = few (c .shape .e) (stateOf c m .waiting) (heldOf c m) (stateOf c m .request) (request-some n) (u .range .cache) in
+      let f = few (c .shape .e) (stateOf c m .waiting) (heldOf c m) (stateOf c m .request) (held-some c m n) (u .range .cache) in
       record {
         room = u .room;
         asked = a .0;
@@ -118,23 +100,6 @@ module _ (c : Client) (m : List ℕ) where
   unfolding stateOf view
   size-is = refl
 
-  -- numbers of the tables
-  pub partition-is : (b p : ℕ) → p ≡ fit (c .shape .p) (tablesOf (shapeOf (c .shape)) m .partition b) → stateOf c m .partition b ≡ p
-  unfolding stateOf view
-  partition-is b p e = sym e
-
-  pub counter-is : (q x : ℕ) → x ≡ fit (2 ^ c .shape .l) (tablesOf (shapeOf (c .shape)) m .counter q) → stateOf c m .counter q ≡ x
-  unfolding stateOf view
-  counter-is q x e = sym e
-
-  pub place-as : (b x : ℕ) → x ≡ fit (slots (c .shape .l)) (tablesOf (shapeOf (c .shape)) m .place b) → stateOf c m .place b ≡ placeOf (c .shape .l) x
-  unfolding stateOf view
-  place-as b x e = ap (placeOf (c .shape .l)) (sym e)
-
-  pub bytes-as : (b : ℕ) → b < c .shape .n → stateOf c m .bytes b ≡ tablesOf (shapeOf (c .shape)) m .blocks b
-  unfolding stateOf view bytesIn
-  bytes-as b l = rw (lt-ltb b (c .shape .n) l)
-
   -- where the number is 0, all answers are yes
   pub record Passed (len : ℕ) : Type 0 where
     pub some : c .request .kind ≡ 0 → ⊥
@@ -151,11 +116,11 @@ module _ (c : Client) (m : List ℕ) where
   -- what the accepted call leaves and hands out
   pub collected-is : (c .request .kind ≡ 0 → ⊥) → collected (stateOf c m .request) (stateOf c m) ≡ finish (heldOf c m) (stateOf c m)
   unfolding collected
-  collected-is n = ap (λ o. collected o (stateOf c m)) (request-some n)
+  collected-is n = ap (λ o. collected o (stateOf c m)) (held-some c m n)
 
   pub answer-is : (xs ys : List ℕ) → (c .request .kind ≡ 0 → ⊥) → ys ≡ contents (stateOf c m) (c .request .block) → 1 ≤ length ys → ys ≡ handedTo xs (answer (stateOf c m) (stateOf c m .request))
   unfolding answer
-  answer-is xs ys n e l = handed-all xs ys l ∙ ap (handedTo xs) (e ∙ sym (ap (answer (stateOf c m)) (request-some n)))
+  answer-is xs ys n e l = handed-all xs ys l ∙ ap (handedTo xs) (e ∙ sym (ap (answer (stateOf c m)) (held-some c m n)))
 
 -- ---- Whether it is finished
 

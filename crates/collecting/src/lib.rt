@@ -11,10 +11,11 @@ ghost use Rattle.lists.specs.Search.{member};
 ghost use Rattle.rules.specs.Blocks.{isNowhere, contents};
 ghost use Rattle.rules.specs.Collect.{finished, finish as finishOf};
 ghost use Rattle.rules.specs.Questions.{collect as collectOf, number as numberOf};
+ghost use Rattle.client.specs.Readings.{heldOf};
 ghost use Rattle.client.specs.View.{stateOf};
 ghost use Rattle.client.specs.Moves.{Room, Stands};
 ghost use Rattle.meets.specs.Meets.{Meets};
-ghost use Rattle.collecting.specs.Collecting.{callWith, heldOf, Hand, newBytes, emptySlot, Settled, Queued};
+ghost use Rattle.collecting.specs.Collecting.{callWith, Hand, newBytes, emptySlot, Settled, Queued};
 
 // A request is finished when it isn't held and all its reads are sent and completed.
 fn is_finished(c: Client, m: &[u8]) -> bool

@@ -22,6 +22,7 @@ use Rattle.memory.specs.Fits.{shapeOf, fit}
 use Rattle.memory.specs.Tables.{tablesOf}
 use Rattle.client.specs.declared.Client.{Client}
 use Rattle.client.specs.View.{levelOf, placeOf, requestOf, rows, view, stateOf}
+use Rattle.client.specs.Readings.{heldOf, held-none, held-some}
 use Rattle.client.specs.Changes.{place-is}
 use Rattle.ready.specs.Usable.{Usable}
 use Rattle.commands.specs.Outstanding.{ofPartition}
@@ -113,26 +114,11 @@ module _ (c : Client) (m : List ℕ) where
   s = stateOf c m
 
   abbrev asked : Request
-  asked = record {
-    kind = c .request .kind;
-    block = c .request .block;
-    bytes = if eqb (c .request .kind) write then tablesOf (shapeOf (c .shape)) m .blocks (c .shape .n) else [];
-    next = c .request .next;
-    evict = c .request .evict;
-    level = c .request .level;
-  }
-
-  none-asked : c .request .kind ≡ 0 → s .request ≡ none
-  unfolding stateOf view requestOf
-  none-asked e = rw (eq-eqb (c .request .kind) 0 e)
-
-  some-asked : (c .request .kind ≡ 0 → ⊥) → s .request ≡ some asked
-  unfolding stateOf view requestOf
-  some-asked n = rw (ne-eqb (c .request .kind) 0 n)
+  asked = heldOf c m
 
   pub request-none : c .request .kind ≡ 0 → requestStep s (s .request) ≡ none
   unfolding requestStep
-  request-none e = ap (requestStep s) (none-asked e)
+  request-none e = ap (requestStep s) (held-none c m e)
 
   module _ (q : ℕ) (r : Reads c m q) where
     is-held : (t : Bool) → member q (s .queue) ≡ t → held s asked ≡ t
@@ -140,7 +126,7 @@ module _ (c : Client) (m : List ℕ) where
     is-held t e = ap (λ p. member p (s .queue)) (sym (r .partition)) ∙ e
 
     pub request-held : member q (s .queue) ≡ true → requestStep s (s .request) ≡ none
-    request-held e = ap (requestStep s) (some-asked (r .some)) ∙ held-step s asked (is-held true e)
+    request-held e = ap (requestStep s) (held-some c m (r .some)) ∙ held-step s asked (is-held true e)
 
     levels-is : s .shape .L ≡ c .shape .l
     unfolding stateOf view
@@ -150,7 +136,7 @@ module _ (c : Client) (m : List ℕ) where
         → requestStep s (s .request) ≡ firstRead q (s .place (c .request .block)) (dummy s q) (keep (filled (s .counter q)) (count (c .request .level) (c .shape .l - c .request .level)))
     unfolding levelsLeft
     request-free e =
-        ap (requestStep s) (some-asked (r .some)) ∙ free-step s asked (is-held false e)
+        ap (requestStep s) (held-some c m (r .some)) ∙ free-step s asked (is-held false e)
         ∙ ap (λ p. firstRead p (s .place (c .request .block)) (dummy s p) (keep (filled (s .counter p)) (count (c .request .level) (s .shape .L - c .request .level)))) (sym (r .partition))
         ∙ ap (λ n. firstRead q (s .place (c .request .block)) (dummy s q) (keep (filled (s .counter q)) (count (c .request .level) (n - c .request .level)))) levels-is
 
@@ -207,12 +193,7 @@ pub job-none : (c : Client) (m : List ℕ) → c .jobs ≡ 0 → Turn.idle ≡ j
 unfolding stateOf view rows below count jobStep
 job-none c m e = ap (λ n. jobStep (stateOf c m) (rows (λ i. fit (c .shape .p) (tablesOf (shapeOf (c .shape)) m .queue i)) n)) (sym e)
 
--- its sources and its target
-module _ (c : Client) (m : List ℕ) (q n k : ℕ) (e : k ≡ fit (2 ^ c .shape .l) (tablesOf (shapeOf (c .shape)) m .counter q)) where
-  pub sources-is : n ≡ trailingOnes (c .shape .l) k → n ≡ sources (shapeOf (c .shape)) (stateOf c m .counter q)
-  unfolding stateOf view sources
-  sources-is f = f ∙ ap (trailingOnes (c .shape .l)) e
-
+-- its target
 pub target-is : (h : Shape) (k n t : ℕ) → n ≡ sources h k → t ≡ min n (h .L - 1) → t ≡ target h k
 unfolding target
 target-is h k n t e f = f ∙ ap (λ x. min x (h .L - 1)) e

@@ -12,26 +12,25 @@ use Rattle.rules.specs.Setters.{setRequest}
 use Rattle.rules.specs.Laws.Asked.{asked}
 use Rattle.client.specs.declared.Client.{Client}
 use Rattle.client.specs.declared.Request.{Request}
-use Rattle.client.specs.View.{stateOf, view, requestOf}
+use Rattle.client.specs.View.{stateOf, view, heldBy, requestOf}
 use Rattle.codec.specs.Codec.{progressed}
-use Rattle.exports.specs.Small.{inHand}
 
 -- two requests that ask for the same differ in their level alone
 module _ (c d : Request) (bs bs′ : List ℕ) where
   mixed : Request
   mixed = record { kind = c .kind; block = c .block; next = c .next; evict = c .evict; level = d .level }
 
-  same-hand : asked (some (inHand d bs′)) ≡ asked (some (inHand c bs)) → inHand mixed bs′ ≡ inHand d bs′
+  same-hand : asked (some (heldBy d bs′)) ≡ asked (some (heldBy c bs)) → heldBy mixed bs′ ≡ heldBy d bs′
   unfolding mixed
   same-hand e =
-      let f = sym (ap (λ o. Option·getD o (inHand d bs′)) e) in
+      let f = sym (ap (λ o. Option·getD o (heldBy d bs′)) e) in
       λ k. record { kind = f k .kind; block = f k .block; bytes = if eqb (f k .kind) write then bs′ else []; next = f k .next; evict = f k .evict; level = d .level }
 
   same-request : asked (requestOf d bs′) ≡ asked (requestOf c bs) → requestOf mixed bs′ ≡ requestOf d bs′
   unfolding requestOf mixed isNone
   same-request e = go (eqb (c .kind) 0) (eqb (d .kind) 0) e
     where
-      go : (x y : Bool) → asked (if y then none else some (inHand d bs′)) ≡ asked (if x then none else some (inHand c bs)) → (if x then none else some (inHand mixed bs′)) ≡ (if y then none else some (inHand d bs′))
+      go : (x y : Bool) → asked (if y then none else some (heldBy d bs′)) ≡ asked (if x then none else some (heldBy c bs)) → (if x then none else some (heldBy mixed bs′)) ≡ (if y then none else some (heldBy d bs′))
       go true true e = refl
       go true false e = absurd (true≢false (sym (ap isNone e)))
       go false true e = absurd (true≢false (ap isNone e))

@@ -31,10 +31,10 @@ use Rattle.memory.specs.Fits.{shapeOf, parts-le, fit}
 use Rattle.memory.specs.Tables.{tablesOf}
 use Rattle.client.specs.declared.Client.{Client}
 use Rattle.client.specs.declared.Request.{Request}
-use Rattle.client.specs.View.{stateOf, view, requestOf, commandOf, rows}
+use Rattle.client.specs.View.{stateOf, view, heldBy, requestOf, commandOf, rows}
 use Rattle.client.specs.Rows.{length-rows}
 use Rattle.memory.specs.declared.Shape as M
-use Rattle.codec.specs.Codec.{lowShape, lowClient}
+use Rattle.codec.specs.Codec.{lowShape, lowRequest, lowClient}
 
 -- ---- Counts of words and commands
 
@@ -89,19 +89,13 @@ accepted-small s collect m ws n p = (record { kind = omega arith; partition = om
 low : (x : ℕ) → x < 65536 → x % 65536 ≡ x
 low x l = mod-eq-of-lt l
 
-abbrev pub inHand : Request → List ℕ → R.Request
-inHand r bs = record { kind = r .kind; block = r .block; bytes = if eqb (r .kind) write then bs else []; next = r .next; evict = r .evict; level = r .level }
-
-abbrev lowRequest : Request → Request
-lowRequest r = record { kind = r .kind % 65536; block = r .block % 65536; next = r .next % 65536; evict = r .evict % 65536; level = r .level % 65536 }
-
 -- a request that is not in hand is none, whatever its numbers; the numbers of one in hand are small
 request-low : (r : Request) (bs : List ℕ) (h : Shape) → within h ≡ true → IfSome (RequestIn h) (requestOf r bs) → requestOf (lowRequest r) bs ≡ requestOf r bs
 unfolding requestOf
 request-low r bs h w f = go (eqb (r .kind) 0) refl f
   where
-    go : (t : Bool) → eqb (r .kind) 0 ≡ t → IfSome (RequestIn h) (if t then none else some (inHand r bs))
-        → (if eqb (r .kind % 65536) 0 then none else some (inHand (lowRequest r) bs)) ≡ (if t then none else some (inHand r bs))
+    go : (t : Bool) → eqb (r .kind) 0 ≡ t → IfSome (RequestIn h) (if t then none else some (heldBy r bs))
+        → (if eqb (r .kind % 65536) 0 then none else some (heldBy (lowRequest r) bs)) ≡ (if t then none else some (heldBy r bs))
     go true e f =
         let z : r .kind ≡ 0 = eqb-true (r .kind) 0 e in
         let k : r .kind % 65536 ≡ 0 = rw z in
@@ -113,7 +107,7 @@ request-low r bs h w f = go (eqb (r .kind) 0) refl f
         let l = levels-le h w in
         rw (low (r .kind) (omega arith), e, low (r .block) (omega (arith, f .block)), low (r .next) (omega (arith, f .next)), low (r .evict) (omega (arith, f .evict)), low (r .level) (omega (arith, f .level)))
       where
-        kind-le : RequestIn h (inHand r bs) → r .kind ≤ 2
+        kind-le : RequestIn h (heldBy r bs) → r .kind ≤ 2
         kind-le f = unfold isKind between in (leb-true (r .kind) 2 (and-r (leb 1 (r .kind)) (leb (r .kind) 2) (f .kind)))
 
 others-le : (h : Shape) → within h ≡ true → (h .B ≤ 512) × (h .E ≤ h .N) × (h .W ≤ 32)

@@ -27,7 +27,7 @@ use Rattle.memory.specs.declared.Shape.{Shape as Numbers}
 use Rattle.client.specs.declared.Client.{Client}
 use Rattle.client.specs.declared.Request.{Request}
 use Rattle.client.specs.View.{stateOf, view, requestOf}
-use Rattle.client.specs.Rows.{length-rows}
+use Rattle.client.specs.Readings.{jobs-count, waiting-count}
 use Rattle.client.specs.Changes.{view-asked}
 use Rattle.client.specs.Moves.{withRequest, Stands, stands}
 use Rattle.tape.specs.Tape.{wordsOf, draws-enough, draws-number}
@@ -68,14 +68,6 @@ module _ (c : Client) (m : List ℕ) where
       go true r = refl
       go false r = refl
 
-  jobs-is : length (stateOf c m .queue) ≡ c .jobs
-  unfolding stateOf view
-  jobs-is = length-rows _ (c .jobs)
-
-  waiting-is : length (stateOf c m .waiting) ≡ c .waiting
-  unfolding stateOf view
-  waiting-is = length-rows _ (c .waiting)
-
   shape-is : stateOf c m .shape ≡ shapeOf (c .shape)
   unfolding stateOf view
   shape-is = refl
@@ -83,7 +75,7 @@ module _ (c : Client) (m : List ℕ) where
   pub request-number : (k b : ℕ) (bs tape : List ℕ) → number (stateOf c m) (callOf (request k b bs) m tape []) ≡ requestNumber c m k b (length bs) (length (wordsOf tape))
   unfolding number questions requestNumber bounds
   request-number k b bs tape =
-      rw (shape-is, none-is, jobs-is, waiting-is, draws-enough (c .shape .p ∷ c .shape .p ∷ []) (wordsOf tape))
+      rw (shape-is, none-is, jobs-count c m, waiting-count c m, draws-enough (c .shape .p ∷ c .shape .p ∷ []) (wordsOf tape))
 
   -- where it is 0, all answers are yes
   pub record Asked (k : ℕ) (bs tape : List ℕ) : Type 0 where

@@ -25,7 +25,8 @@ use Rattle.client.specs.declared.Client.{Client}
 use Rattle.client.specs.View.{stateOf, view}
 use Rattle.client.specs.declared.Found.{Found}
 use Rattle.client.specs.declared.Found.the-variants.{At, Nothing}
-use Rattle.client.specs.Rows.{dropAt, length-rows, getD-rows}
+use Rattle.client.specs.Rows.{dropAt}
+use Rattle.client.specs.Readings.{waiting-count}
 use Rattle.cache.specs.Longest.{Longest}
 use Rattle.gather.specs.Gathered.{extraOf, Gathers}
 
@@ -89,22 +90,8 @@ pub gathered-below : (s : State) (q : ℕ) → All (λ b. b < s .shape .N) (gath
 unfolding gathered
 gathered-below s q = all-keep _ (below-below (s .shape .N))
 
--- ---- The cache and the counters as the code reads them
-module _ (c : Client) (m : List ℕ) where
-  pub waiting-is : length (stateOf c m .waiting) ≡ c .waiting
-  unfolding stateOf view
-  waiting-is = length-rows _ (c .waiting)
-
-  pub place-below : (q : ℕ) (x : Found) → Chosen (stateOf c m) q x → PlaceBelow (c .waiting) x
-  place-below q x k = rw (sym waiting-is) (k .place)
-
-  pub block-at : (j : ℕ) → j < c .waiting → getD (stateOf c m .waiting) j 0 ≡ fit (c .shape .n) (tablesOf (shapeOf (c .shape)) m .waiting j)
-  unfolding stateOf view
-  block-at j l = getD-rows (λ i. fit (c .shape .n) (tablesOf (shapeOf (c .shape)) m .waiting i)) (c .waiting) j 0 l
-
-  pub sources-is : (q v n : ℕ) → v ≡ fit (2 ^ c .shape .l) (tablesOf (shapeOf (c .shape)) m .counter q) → n ≡ trailingOnes (c .shape .l) v → n ≡ sources (shapeOf (c .shape)) (stateOf c m .counter q)
-  unfolding stateOf view sources
-  sources-is q v n e k = k ∙ ap (trailingOnes (c .shape .l)) e
+pub place-below : (c : Client) (m : List ℕ) (q : ℕ) (x : Found) → Chosen (stateOf c m) q x → PlaceBelow (c .waiting) x
+place-below c m q x k = rw (sym (waiting-count c m)) (k .place)
 
 -- the target has room for the gathered blocks, or not
 pub room-yes : (s : State) (q t k : ℕ) (l : List ℕ) → take k l ≡ gathered s q → k ≤ 2 ^ t → possible s (rebuild q t) ≡ true

@@ -28,7 +28,7 @@ use Rattle.memory.specs.Fits.{shapeOf, fit, fit-lt}
 use Rattle.memory.specs.Tables.{tablesOf}
 use Rattle.client.specs.declared.Client.{Client}
 use Rattle.client.specs.declared.Request.{Request}
-use Rattle.client.specs.View.{stateOf, view, requestOf, bytesIn}
+use Rattle.client.specs.View.{stateOf, view, heldBy, requestOf, bytesIn}
 use Rattle.client.specs.Rows.{length-rows}
 use Rattle.client.specs.Moves.{withRequest, withCursor, withSent, withOut, Stands, then as next}
 use Rattle.tape.specs.Tape.{wordsOf, draws-enough, taken-all}
@@ -164,10 +164,12 @@ passed-is l c m = ap (λ o. setRequest o (stateOf c m)) (go (eqb (c .request .ki
     bs : List ℕ
     bs = tablesOf (shapeOf (c .shape)) m .blocks (c .shape .n)
 
-    go : (t : Bool) → (if t then none else some (record { kind = c .request .kind; block = c .request .block; bytes = if eqb (c .request .kind) write then bs else []; next = c .request .next; evict = c .request .evict; level = l + 1 }))
-        ≡ passLevel l (if t then none else some (record { kind = c .request .kind; block = c .request .block; bytes = if eqb (c .request .kind) write then bs else []; next = c .request .next; evict = c .request .evict; level = c .request .level }))
+    at : ℕ → Request
+    at n = record { kind = c .request .kind; block = c .request .block; next = c .request .next; evict = c .request .evict; level = n }
+
+    go : (t : Bool) → (if t then none else some (heldBy (at (l + 1)) bs)) ≡ passLevel l (if t then none else some (heldBy (c .request) bs))
     go true = refl
-    go false = ap (λ n. some (record { kind = c .request .kind; block = c .request .block; bytes = if eqb (c .request .kind) write then bs else []; next = c .request .next; evict = c .request .evict; level = n })) (omega arith)
+    go false = ap (λ n. some (heldBy (at n) bs)) (omega arith)
 
 module _ (c d e : Client) (m m₁ m₂ : List ℕ) where
   abbrev S : State

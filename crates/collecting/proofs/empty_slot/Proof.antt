@@ -8,7 +8,8 @@ use Rattle.memory.specs.Fits.{shapeOf, fit-lt}
 use Rattle.lists.specs.Tables.{put}
 use Rattle.client.specs.View.{stateOf, placeOf}
 use Rattle.levels.specs.Slots.{stride-le}
-use Rattle.collecting.specs.Collecting.{place-as, slot-none, slot-some}
+use Rattle.client.specs.Readings.{place-as}
+use Rattle.collecting.specs.Collecting.{slot-none, slot-some}
 use Rattle.collecting.proofs.empty_slot.Statement.{statement}
 use Rattle.collecting.proofs.empty_slot.Tie as tie
 

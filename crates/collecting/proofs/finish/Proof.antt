@@ -8,7 +8,8 @@ use Rattle.memory.specs.Fits.{shapeOf, fit-lt}
 use Rattle.client.specs.declared.Client.{Client}
 use Rattle.client.specs.View.{stateOf}
 use Rattle.client.specs.Moves.{Stands}
-use Rattle.collecting.specs.Collecting.{heldOf, Hand, hand-kept, partition-is, newBytes, emptySlot, moved, renewed, queued, finish-is, after}
+use Rattle.client.specs.Readings.{heldOf, partition-is}
+use Rattle.collecting.specs.Collecting.{Hand, hand-kept, newBytes, emptySlot, moved, renewed, queued, finish-is, after}
 use Rattle.collecting.proofs.finish.Statement.{statement}
 use Rattle.collecting.proofs.finish.Tie as tie
 

@@ -2,7 +2,8 @@ use mathlib.Core.Path.{ap, sym, _∙_}
 use native.Mathlib.Omega.{arith}
 use lib.ListN.{replicate}
 use Rattle.client.specs.View.{stateOf, view}
-use Rattle.collecting.specs.Collecting.{contents-zeros, contents-bytes, bytes-as}
+use Rattle.client.specs.Readings.{bytes-as}
+use Rattle.collecting.specs.Collecting.{contents-zeros, contents-bytes}
 use Rattle.collecting.proofs.hand_out.Statement.{statement}
 use Rattle.collecting.proofs.hand_out.Tie as tie
 

@@ -5,7 +5,8 @@ use Rattle.lists.specs.Search.{member}
 use Rattle.memory.specs.Tables.{tablesOf}
 use Rattle.memory.specs.Fits.{shapeOf, fit-lt}
 use Rattle.client.specs.View.{stateOf, view}
-use Rattle.collecting.specs.Collecting.{heldOf, partition-is, counter-is, unfinished-held, unfinished-reads, finished-sent}
+use Rattle.client.specs.Readings.{heldOf, partition-is, counter-is}
+use Rattle.collecting.specs.Collecting.{unfinished-held, unfinished-reads, finished-sent}
 use Rattle.collecting.proofs.is_finished.Statement.{statement}
 use Rattle.collecting.proofs.is_finished.Tie as tie
 

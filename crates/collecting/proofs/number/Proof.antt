@@ -7,7 +7,8 @@ use Rattle.rules.specs.Collect.{finished}
 use Rattle.rules.specs.Questions.{ready, questions, firstNo, number}
 use Rattle.client.specs.View.{stateOf}
 use Rattle.ready.specs.Usable.{usable}
-use Rattle.collecting.specs.Collecting.{heldOf, asked-none, asked-some, asked-finished, hand, size-is}
+use Rattle.client.specs.Readings.{heldOf}
+use Rattle.collecting.specs.Collecting.{asked-none, asked-some, asked-finished, hand, size-is}
 use Rattle.collecting.proofs.number.Statement.{statement}
 use Rattle.collecting.proofs.number.Tie as tie
 

@@ -3,7 +3,8 @@ use native.Mathlib.Omega.{arith}
 use Rattle.rules.specs.Levels.{sources}
 use Rattle.memory.specs.Fits.{shapeOf}
 use Rattle.client.specs.View.{stateOf, view}
-use Rattle.deciding.specs.Steps.{job-none, job-gathers, job-writes, sources-is, target-is}
+use Rattle.client.specs.Readings.{sources-is}
+use Rattle.deciding.specs.Steps.{job-none, job-gathers, job-writes, target-is}
 use Rattle.deciding.proofs.job_step.Statement.{statement}
 use Rattle.deciding.proofs.job_step.Tie as tie
 
@@ -24,7 +25,7 @@ read-from : (c : tie.After-sources) → let a = c .before .before .before .befor
 read-from c =
     let k = c .before in
     let a = k .before .before .before .before .before .args in
-    sources-is (a .c) (a .m .now) (k .before .front .result) (c .sources .result) (k .counter .result) (k .counter .ensures) (c .sources .ensures .0)
+    sources-is (a .c) (a .m .now) (k .before .front .result) (k .counter .result) (c .sources .result) (k .counter .ensures) (c .sources .ensures .0)
 
 gather-step-requires : tie.Need-gather-step-requires
 gather-step-requires c κs =

@@ -1,7 +1,7 @@
 use Prim.Native.Nat.{_<_}
 use Rattle.memory.specs.Fits.{shapeOf, fit, fit-lt}
 use Rattle.memory.specs.Tables.{tablesOf}
-use Rattle.sending.specs.Chosen.{block-at}
+use Rattle.client.specs.Readings.{waiting-at}
 use native.Mathlib.Omega.{arith}
 use borrow.Author.Needs.{needs}
 use Rattle.sending.proofs.extra.Statement.{statement}
@@ -33,7 +33,7 @@ returns c =
     let g = c .before .before .x .given in
     let a = c .before .before .before .before .before in
     let l : g .0 .0 < a .args .c .waiting = rw (g .1) at (a .pre .1) in
-    let v = block-at (a .args .c) (a .args .m .now) (g .0 .0) l in
+    let v = waiting-at (a .args .c) (a .args .m .now) (g .0 .0) l in
     let b : fit (a .args .c .shape .n) (tablesOf (shapeOf (a .args .c .shape)) (a .args .m .now) .waiting (g .0 .0)) < a .args .c .shape .n = fit-lt (a .args .c .shape .n) _ (omega arith) in
     rw (g .1) (omega (arith, v, c .waiting .ensures), omega (arith, c .waiting .ensures))
 

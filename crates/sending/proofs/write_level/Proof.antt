@@ -5,7 +5,8 @@ use Prim.Native.Nat.{_+_, _^_, _≤_, _<_}
 use lib.Pow.{pow-mono}
 use Rattle.rules.specs.Shape.{slots}
 use Rattle.client.specs.View.{stateOf, view}
-use Rattle.sending.specs.Chosen.{gathered-once, gathered-below, place-below, sources-is}
+use Rattle.client.specs.Readings.{sources-is}
+use Rattle.sending.specs.Chosen.{gathered-once, gathered-below, place-below}
 use Rattle.sending.specs.Turning.{rebuilt-stands}
 use native.Mathlib.Omega.{arith}
 use borrow.Author.Needs.{needs}

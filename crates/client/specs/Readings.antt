@@ -1,0 +1,71 @@
+-- What the code reads of the client and of the tables is what the state has.
+use mathlib.Core.Path.{_≡_, ap, sym, _∙_}
+use mathlib.Core.List.{List}
+use mathlib.Core.Option.{none, some}
+use Prim.Native.Nat.{ℕ, _^_, _<_}
+use lib.ListN.{length, getD}
+use borrow.Author.Tests.{eq-eqb, ne-eqb, lt-ltb}
+use Rattle.rules.specs.Shape.{slots}
+use Rattle.rules.specs.State as R
+use Rattle.rules.specs.Levels.{trailingOnes, sources}
+use Rattle.memory.specs.Tables.{Tables, tablesOf}
+use Rattle.memory.specs.Fits.{shapeOf, fit}
+use Rattle.client.specs.declared.Client.{Client}
+use Rattle.client.specs.View.{stateOf, view, heldBy, requestOf, bytesIn, placeOf}
+use Rattle.client.specs.Rows.{length-rows, getD-rows}
+
+-- how many jobs are queued, and blocks wait
+module _ (c : Client) (t : Tables) where
+  pub jobs-are : length (view c t .queue) ≡ c .jobs
+  unfolding view
+  jobs-are = length-rows _ (c .jobs)
+
+  pub waiting-are : length (view c t .waiting) ≡ c .waiting
+  unfolding view
+  waiting-are = length-rows _ (c .waiting)
+
+module _ (c : Client) (m : List ℕ) where
+  pub jobs-count : length (stateOf c m .queue) ≡ c .jobs
+  unfolding stateOf
+  jobs-count = jobs-are c (tablesOf (shapeOf (c .shape)) m)
+
+  pub waiting-count : length (stateOf c m .waiting) ≡ c .waiting
+  unfolding stateOf
+  waiting-count = waiting-are c (tablesOf (shapeOf (c .shape)) m)
+
+  -- the request in hand
+  abbrev pub heldOf : R.Request
+  heldOf = heldBy (c .request) (tablesOf (shapeOf (c .shape)) m .blocks (c .shape .n))
+
+  pub held-none : c .request .kind ≡ 0 → stateOf c m .request ≡ none
+  unfolding stateOf view requestOf
+  held-none e = rw (eq-eqb (c .request .kind) 0 e)
+
+  pub held-some : (c .request .kind ≡ 0 → ⊥) → stateOf c m .request ≡ some heldOf
+  unfolding stateOf view requestOf
+  held-some n = rw (ne-eqb (c .request .kind) 0 n)
+
+  -- numbers of the tables
+  pub partition-is : (b p : ℕ) → p ≡ fit (c .shape .p) (tablesOf (shapeOf (c .shape)) m .partition b) → stateOf c m .partition b ≡ p
+  unfolding stateOf view
+  partition-is b p e = sym e
+
+  pub counter-is : (q x : ℕ) → x ≡ fit (2 ^ c .shape .l) (tablesOf (shapeOf (c .shape)) m .counter q) → stateOf c m .counter q ≡ x
+  unfolding stateOf view
+  counter-is q x e = sym e
+
+  pub sources-is : (q v n : ℕ) → v ≡ fit (2 ^ c .shape .l) (tablesOf (shapeOf (c .shape)) m .counter q) → n ≡ trailingOnes (c .shape .l) v → n ≡ sources (shapeOf (c .shape)) (stateOf c m .counter q)
+  unfolding sources
+  sources-is q v n e k = k ∙ ap (trailingOnes (c .shape .l)) (sym (counter-is q v e))
+
+  pub place-as : (b x : ℕ) → x ≡ fit (slots (c .shape .l)) (tablesOf (shapeOf (c .shape)) m .place b) → stateOf c m .place b ≡ placeOf (c .shape .l) x
+  unfolding stateOf view
+  place-as b x e = ap (placeOf (c .shape .l)) (sym e)
+
+  pub bytes-as : (b : ℕ) → b < c .shape .n → stateOf c m .bytes b ≡ tablesOf (shapeOf (c .shape)) m .blocks b
+  unfolding stateOf view bytesIn
+  bytes-as b l = rw (lt-ltb b (c .shape .n) l)
+
+  pub waiting-at : (j : ℕ) → j < c .waiting → getD (stateOf c m .waiting) j 0 ≡ fit (c .shape .n) (tablesOf (shapeOf (c .shape)) m .waiting j)
+  unfolding stateOf view
+  waiting-at j l = getD-rows (λ i. fit (c .shape .n) (tablesOf (shapeOf (c .shape)) m .waiting i)) (c .waiting) j 0 l
