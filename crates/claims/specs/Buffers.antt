@@ -1,29 +1,22 @@
 -- The buffer after a call has the bytes that the rules hand out, where they hand out any.
-use mathlib.Core.Path.{_≡_, refl, sym}
-use mathlib.Core.Bool.{Bool, true, false, not, _&&_, true≢false}
+use mathlib.Core.Path.{_≡_, refl}
+use mathlib.Core.Bool.{Bool, true, false, _&&_}
 use mathlib.Core.List.{List, [], _∷_}
-use mathlib.Core.Option.{Option, none, some}
-use Prim.Native.Nat.{ℕ, _≤_}
-use native.Mathlib.Omega.{arith}
+use mathlib.Core.Option.{some}
+use Prim.Native.Nat.{ℕ}
 use native.Mathlib.Decide.{ℕ-discrete}
-use lib.Dec.{eqb, leb}
-use lib.ListN.{length, length-replicate}
-use borrow.Author.Tests.{leb-true, ne-eqb}
-use Rattle.lists.specs.Tests.{if_then_else_, and-l}
-use Rattle.lists.specs.Search.{member}
-use Rattle.rules.specs.Blocks.{zeros, contents, slotBytes, isNowhere, holder}
+use lib.Dec.{eqb}
+use lib.ListN.{length}
+use borrow.Author.Tests.{ne-eqb}
+use Rattle.lists.specs.Tests.{if_then_else_}
+use Rattle.rules.specs.Blocks.{slotBytes, holder}
 use Rattle.rules.specs.Collect.{answer}
 use Rattle.rules.specs.Draws.{draws}
-use Rattle.rules.specs.Laws.Answers.{Passed, accepted-passed, step-accepted, refused-outcome, opens}
-use Rattle.rules.specs.Laws.Kept.{given-in}
-use Rattle.rules.specs.Memory.{needed}
-use Rattle.rules.specs.Questions.{Ask, opening, request, turn, completion, collect, Call, ready, questions, bounds, number, inHand}
-use Rattle.rules.specs.Ranges.{isKind}
-use Rattle.rules.specs.Rebuild.{doRebuild}
+use Rattle.rules.specs.Laws.Answers.{Passed, accepted-passed, step-accepted, refused-outcome}
+use Rattle.rules.specs.Questions.{Ask, opening, request, turn, completion, collect, Call, questions, bounds, number}
 use Rattle.rules.specs.Run.{Outcome, act, step, accepted, refused, sentCommand, handed, written, numbersOf}
-use Rattle.rules.specs.State.{State, Request, write}
-use Rattle.rules.specs.Turn.{Step, idle, noDummy, readForRequest, readForJob, rebuild, writeNext, decide, command, doStep, markRead, send}
-use Rattle.memory.specs.Fits.{fits}
+use Rattle.rules.specs.State.{State, write}
+use Rattle.rules.specs.Turn.{decide, command}
 use Rattle.meets.specs.Meets.{handedTo}
 use Rattle.meets.specs.Buffers.{Whole, filled, written-some, answer-some}
 use Rattle.claims.specs.Claim.{handsOut}

@@ -1,15 +1,11 @@
 -- The memory from its start, as far as it is lent: it stands for the same state as the whole where it has what the shape needs.
 use mathlib.Core.Path.{_≡_, sym, ap, fun-ext, _∙_}
-use mathlib.Core.Bool.{Bool, true, false}
 use mathlib.Core.List.{List, _++_}
-use Prim.Native.Nat.{ℕ, suc, _+_, _*_, _≤_, _<_}
-use native.Mathlib.Nat.{suc-mul, mul-le-mul-right}
+use Prim.Native.Nat.{ℕ, _+_, _*_, _≤_, _<_}
 use native.Mathlib.Omega.{arith}
 use native.Mathlib.Decide.{decLt}
-use lib.ListN.{length, take, drop, replicate, length-drop, length-replicate, List·getD-append}
-use lib.Dec.{ltb}
-use lib.Seq.{take-append-le, drop-append-le, length-take-le}
-use Rattle.lists.specs.Tests.{if_then_else_}
+use lib.ListN.{length, take, drop, length-drop, List·getD-append}
+use lib.Seq.{take-append-le, drop-append-le}
 use Rattle.rules.specs.Shape.{Shape}
 use Rattle.rules.specs.Memory.{needed}
 use Rattle.memory.specs.Words.{wordAt, window, window-in, window-past}

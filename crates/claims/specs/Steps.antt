@@ -1,30 +1,25 @@
 -- One exported call is the rules' step, from the state that the whole memory stands for to the one that it stands for after the call.
 use mathlib.Core.Path.{_≡_, refl, ap, sym, _∙_}
-use mathlib.Core.Bool.{Bool, true, false, true≢false}
+use mathlib.Core.Bool.{true, false, true≢false}
 use mathlib.Core.List.{List, [], _∷_, _++_}
-use mathlib.Core.Option.{Option, none, some}
+use mathlib.Core.Option.{none}
 use Prim.Native.Nat.{ℕ, _%_, _≤_, _<_}
 use native.Mathlib.Omega.{arith}
 use native.Mathlib.Decide.{ℕ-discrete, decLt}
 use lib.Dec.{eqb}
 use lib.ListN.{length, replicate}
 use borrow.Author.Tests.{lt-leb, leb-true}
-use Rattle.lists.specs.Tests.{if_then_else_}
-use Rattle.rules.specs.Blocks.{holder}
-use Rattle.rules.specs.Collect.{collected, finish}
-use Rattle.rules.specs.Completion.{complete, completeRead, completeWrite, completed, gatherBytes, finishJob, endJob, jobDone}
 use Rattle.rules.specs.Draws.{draws}
 use Rattle.rules.specs.Laws.Answers.{accepted-passed, step-accepted, step-number, opens, refused-keeps, refused-outcome, refused-open}
 use Rattle.rules.specs.Laws.Shapes.{act-shape}
 use Rattle.rules.specs.Memory.{needed}
 use Rattle.rules.specs.Open.{fresh}
 use Rattle.rules.specs.Questions.{Ask, opening, request, turn, completion, collect, Call, ready, questions, firstNo, bounds, number}
-use Rattle.rules.specs.Rebuild.{doRebuild}
 use Rattle.rules.specs.Request.{accept}
 use Rattle.rules.specs.Run.{Outcome, act, step, accepted, refused, refuse, numbersOf, sentCommand, handed}
 use Rattle.rules.specs.Shape.{Shape}
-use Rattle.rules.specs.State.{State, Command, Request, closed}
-use Rattle.rules.specs.Turn.{Step, idle, noDummy, readForRequest, readForJob, rebuild, writeNext, decide, doStep, markRead, send}
+use Rattle.rules.specs.State.{State, Command, closed}
+use Rattle.rules.specs.Turn.{Step}
 use Rattle.memory.specs.Words.{wordAt}
 use Rattle.client.specs.declared.Client.{Client}
 use Rattle.client.specs.View.{stateOf, view}

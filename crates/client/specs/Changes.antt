@@ -2,19 +2,19 @@
 use mathlib.Core.Path.{_≡_, refl, ap, sym, _∙_, subst, fun-ext}
 use mathlib.Core.Bool.{Bool, true, false}
 use mathlib.Core.List.{List, [], _∷_, _++_}
-use mathlib.Core.Option.{none, some}
+use mathlib.Core.Option.{some}
 use Prim.Native.Nat.{ℕ, zero, suc, _+_, _-_, _*_, _%_, _^_, _≤_, _<_}
 use native.Mathlib.Nat.{add-mul-mod-self-right, mod-eq-of-lt}
 use native.Mathlib.Omega.{arith}
 use native.Mathlib.Decide.{ℕ-discrete, decLt}
-use lib.ListN.{length, replicate}
-use lib.Dec.{ltb, leb, eqb}
-use lib.Pow.{pow-mono, pow-pos}
-use borrow.Author.Tests.{leb-true, lt-ltb, le-ltb, le-leb, lt-leb, eq-eqb, ne-eqb}
+use lib.ListN.{replicate}
+use lib.Dec.{ltb, leb}
+use lib.Pow.{pow-mono}
+use borrow.Author.Tests.{leb-true, lt-ltb, le-ltb, le-leb, lt-leb}
 use Rattle.lists.specs.Tests.{if_then_else_}
 use Rattle.lists.specs.Tables.{put, put-same, put-other}
 use Rattle.rules.specs.Shape.{Shape, slots, cell}
-use Rattle.rules.specs.State.{State, Command, cmd, read, write, Place, nowhere, stored}
+use Rattle.rules.specs.State.{Place, nowhere, stored}
 use Rattle.rules.specs.Setters.{setPartition, setPlace, setBytes, setCounter, setOrder, setMark, setHolds, setRequest}
 use Rattle.rules.specs.Laws.Levels.{two-slots}
 use Rattle.memory.specs.Tables.{Tables, withPartition, withPlace, withCounter, withOrder, withMark, withHolds, withBlocks}

@@ -2,7 +2,6 @@
 -- only the client's numbers, in constant time but where the cache is full.
 use mathlib.Core.Path.{_≡_, refl, ap, sym, _∙_}
 use mathlib.Core.Bool.{Bool, true, false, _&&_, _||_, true≢false}
-use mathlib.Core.Logic.{inl, inr}
 use mathlib.Core.List.{List, [], _∷_, map}
 use mathlib.Core.Option.{Option, none, some}
 use Prim.Native.Nat.{ℕ, zero, suc, _+_, _-_, _%_, _^_, _≤_, _<_}
@@ -11,22 +10,22 @@ use native.Mathlib.Decide.{decLt}
 use lib.ListN.{length}
 use lib.Dec.{ltb, leb, eqb}
 use lib.Pow.{pow-mono, pow-pos}
-use borrow.Author.Tests.{eqb-true, eqb-false, eq-eqb, ne-eqb, ltb-true, lt-ltb, le-ltb, leb-true, le-leb, lt-leb}
-use Rattle.lists.specs.Tests.{if_then_else_, between, every-yes, and-l, and-r, and-true, or-left, or-right, or-true, both-true}
+use borrow.Author.Tests.{ltb-true, lt-ltb, le-ltb, leb-true, le-leb}
+use Rattle.lists.specs.Tests.{if_then_else_, between, every-yes, and-l, and-r, and-true, both-true}
 use Rattle.lists.specs.Search.{below, count, member}
-use Rattle.lists.specs.All.{All, nil, cons, IfSome, map-below}
+use Rattle.lists.specs.All.{All, nil, cons, IfSome}
 use Rattle.rules.specs.Shape.{Shape, within, slots, cell}
 use Rattle.rules.specs.State as R
-use Rattle.rules.specs.State.{State, Command, read, write, Place, nowhere, stored}
+use Rattle.rules.specs.State.{Command, read, write, Place, nowhere, stored}
 use Rattle.rules.specs.Ranges.{isKind, bytesOf, others, inRange}
 use Rattle.rules.specs.Laws.Levels.{levels-pos, partitions-pos}
 use Rattle.rules.specs.Laws.Waiting.{Waits, waits-le, others-room, room-others}
 use Rattle.rules.specs.Laws.Range.{PlaceIn, CommandIn, RequestIn, JobsIn, InRange, range-facts, facts-range}
 use Rattle.memory.specs.Tables.{Tables}
-use Rattle.memory.specs.Fits.{shapeOf, fit, fit-lt, fit-in}
+use Rattle.memory.specs.Fits.{shapeOf, fit, fit-lt}
 use Rattle.client.specs.declared.Client.{Client}
 use Rattle.client.specs.declared.Request.{Request}
-use Rattle.client.specs.View.{levelOf, placeOf, spotOf, commandOf, levelAt, heldBy, requestOf, rows, view}
+use Rattle.client.specs.View.{levelOf, placeOf, spotOf, commandOf, heldBy, requestOf, rows, view}
 use Rattle.client.specs.Rows.{length-rows}
 use Rattle.client.specs.Readings.{jobs-are, waiting-are}
 use Rattle.client.specs.Changes.{cell-level}

@@ -1,15 +1,14 @@
 -- A list that lies in a table: pushing an entry, taking one out.
 use mathlib.Core.Path.{_≡_, refl, ap, sym, _∙_, fun-ext}
 use mathlib.Core.Bool.{Bool, true, false}
-use mathlib.Core.Logic.{_⊎_, inl, inr}
 use mathlib.Core.List.{List, [], _∷_, _++_, map, append-nil}
-use mathlib.Core.Option.{Option, none, some}
+use mathlib.Core.Option.{none, some}
 use Prim.Native.Nat.{ℕ, zero, suc, _+_, _-_, _≤_, _<_}
 use native.Mathlib.Omega.{arith}
-use native.Mathlib.Decide.{ℕ-discrete, decLt}
+use native.Mathlib.Decide.{ℕ-discrete}
 use lib.ListN.{length, getD, length-map}
 use Rattle.lists.specs.Tests.{or-left, or-right}
-use Rattle.lists.specs.Search.{find, any, all, keep, without, below, count, member, find-yes, find-no, without-yes, without-no, keep-yes, keep-no}
+use Rattle.lists.specs.Search.{find, any, all, keep, without, below, count, find-yes, find-no, without-yes, without-no, keep-yes, keep-no}
 use Rattle.lists.specs.Lengths.{length-below}
 use Rattle.lists.specs.Tables.{put, put-same, put-other}
 use Rattle.client.specs.View.{rows}

@@ -1,5 +1,5 @@
 -- The state of the rules that a client and the lent memory stand for. Every content of the memory stands for one.
-use mathlib.Core.Bool.{Bool, true, false}
+use mathlib.Core.Bool.{true, false}
 use mathlib.Core.List.{List, [], map}
 use mathlib.Core.Option.{Option, none, some}
 use Prim.Native.Nat.{ℕ, zero, suc, _+_, _-_, _%_, _^_}

@@ -1,14 +1,14 @@
 -- Collect: the request in hand, and the state that each part of the call leaves.
 use mathlib.Core.Path.{_≡_, refl, ap, sym, _∙_, subst}
-use mathlib.Core.Bool.{Bool, true, false, not, _&&_, true≢false}
+use mathlib.Core.Bool.{true, false, not, _&&_, true≢false}
 use mathlib.Core.List.{List, [], _∷_, _++_, append-assoc}
 use mathlib.Core.Option.{Option, none, some}
-use Prim.Native.Nat.{ℕ, zero, suc, _+_, _-_, _*_, _^_, _≤_, _<_}
+use Prim.Native.Nat.{ℕ, zero, suc, _+_, _-_, _*_, _≤_, _<_}
 use native.Mathlib.Omega.{arith}
 use lib.ListN.{length, replicate}
-use lib.Dec.{eqb, leb}
+use lib.Dec.{eqb}
 use lib.Pow.{pow-pos}
-use borrow.Author.Tests.{eq-eqb, ne-eqb, lt-ltb, le-ltb, leb-true, eqb-true}
+use borrow.Author.Tests.{ne-eqb, lt-ltb, le-ltb, eqb-true}
 use Rattle.lists.specs.Tests.{if_then_else_}
 use Rattle.lists.specs.Search.{any, member, keep, count}
 use Rattle.lists.specs.Tables.{put}
@@ -25,10 +25,10 @@ use Rattle.rules.specs.Questions.{collect, Call, inHand, questions, number}
 use Rattle.rules.specs.Laws.Answers.{accepted-passed}
 use Rattle.rules.specs.Laws.Waiting.{Waits}
 use Rattle.memory.specs.Tables.{Tables, tablesOf, withBlocks, withHolds, withPlace, withPartition}
-use Rattle.memory.specs.Fits.{shapeOf, fit}
+use Rattle.memory.specs.Fits.{shapeOf}
 use Rattle.client.specs.declared.Client.{Client}
 use Rattle.client.specs.declared.Request.{Request}
-use Rattle.client.specs.View.{stateOf, view, requestOf, bytesIn, placeOf, levelOf}
+use Rattle.client.specs.View.{stateOf, view, requestOf, placeOf, levelOf}
 use Rattle.client.specs.Readings.{heldOf, held-none, held-some}
 use Rattle.client.specs.Changes.{view-bytes, view-holds, view-place, view-partition, place-nowhere, level-le}
 use Rattle.client.specs.Ready.{Asked}

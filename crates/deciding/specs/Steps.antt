@@ -1,7 +1,7 @@
 -- Steps as the rules say them, and the laws by which they are decided.
 use mathlib.Core.Path.{_≡_, refl, ap, sym, _∙_}
 use mathlib.Core.Bool.{Bool, true, false, _&&_, true≢false}
-use mathlib.Core.List.{List, [], _∷_}
+use mathlib.Core.List.{List, _∷_}
 use mathlib.Core.Option.{Option, none, some, Option·getD}
 use Prim.Native.Nat.{ℕ, zero, suc, _+_, _-_, _*_, _^_, _≤_, _<_, min}
 use native.Mathlib.Omega.{arith}
@@ -12,7 +12,7 @@ use Rattle.lists.specs.Tests.{if_then_else_, and-l, and-r, and-true}
 use Rattle.lists.specs.Search.{any, orElse, keep, below, count, member}
 use Rattle.rules.specs.Shape.{Shape, slots}
 use Rattle.rules.specs.State.{State, Request, write, Place, nowhere, stored}
-use Rattle.rules.specs.Levels.{filled, trailingOnes, sources, target}
+use Rattle.rules.specs.Levels.{filled, sources, target}
 use Rattle.rules.specs.Request.{held, levelsLeft, slotIn, dummy}
 use Rattle.rules.specs.Rebuild.{unread}
 use Rattle.rules.specs.Turn as Turn
@@ -21,7 +21,7 @@ use Rattle.rules.specs.Laws.Range.{PlaceIn}
 use Rattle.memory.specs.Fits.{shapeOf, fit}
 use Rattle.memory.specs.Tables.{tablesOf}
 use Rattle.client.specs.declared.Client.{Client}
-use Rattle.client.specs.View.{levelOf, placeOf, requestOf, rows, view, stateOf}
+use Rattle.client.specs.View.{levelOf, placeOf, rows, view, stateOf}
 use Rattle.client.specs.Readings.{heldOf, held-none, held-some}
 use Rattle.client.specs.Changes.{place-is}
 use Rattle.ready.specs.Usable.{Usable}

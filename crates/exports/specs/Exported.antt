@@ -2,14 +2,13 @@
 use mathlib.Core.Path.{_≡_, refl, ap, sym, _∙_}
 use mathlib.Core.Bool.{true, false}
 use mathlib.Core.List.{List, []}
-use Prim.Native.Nat.{ℕ, _+_, _*_, _/_, _%_, _≤_, _<_}
+use Prim.Native.Nat.{ℕ, _+_, _*_, _/_, _%_, _<_}
 use native.Mathlib.Nat.{mod-eq-of-lt}
 use native.Mathlib.Omega.{arith}
 use native.Mathlib.Decide.{ℕ-discrete}
-use lib.ListN.{length, drop, replicate}
+use lib.ListN.{length, replicate}
 use Rattle.rules.specs.Shape.{Shape, within}
-use Rattle.rules.specs.State.{State, Command, cmd, closed}
-use Rattle.rules.specs.Memory.{needed}
+use Rattle.rules.specs.State.{State, Command, closed}
 use Rattle.rules.specs.Draws.{draws}
 use Rattle.rules.specs.Questions.{Ask, opening, Call, bounds, number}
 use Rattle.rules.specs.Run.{Outcome, step, act, accepted, refused, sentCommand, numbersOf}

@@ -1,26 +1,25 @@
 -- What an accepted call reports and leaves is small enough for the bytes in which it is handed back.
-use mathlib.Core.Path.{_≡_, refl, ap, sym, _∙_}
+use mathlib.Core.Path.{_≡_, refl, ap}
 use mathlib.Core.Bool.{Bool, true, false}
-use mathlib.Core.List.{List, [], _∷_}
+use mathlib.Core.List.{List}
 use mathlib.Core.Option.{Option, none, some}
-use Prim.Native.Nat.{ℕ, zero, suc, _+_, _-_, _%_, _^_, _≤_, _<_}
+use Prim.Native.Nat.{ℕ, _+_, _-_, _%_, _^_, _≤_, _<_}
 use native.Mathlib.Nat.{mod-eq-of-lt}
 use native.Mathlib.Omega.{arith}
 use lib.ListN.{length, replicate, length-replicate}
 use lib.Dec.{eqb, leb}
 use lib.Pow.{pow-mono, pow-pos}
-use borrow.Author.Tests.{eqb-true, eqb-false, leb-true, eq-eqb, ne-eqb}
-use Rattle.lists.specs.Tests.{if_then_else_, and-l, and-r, every-yes, between}
+use borrow.Author.Tests.{eqb-true, leb-true, eq-eqb}
+use Rattle.lists.specs.Tests.{if_then_else_, and-r, every-yes, between}
 use Rattle.lists.specs.All.{IfSome}
 use Rattle.rules.specs.Shape.{Shape, within, slots}
 use Rattle.rules.specs.State.{State, Command, cmd, write}
 use Rattle.rules.specs.State as R
 use Rattle.rules.specs.Ranges.{isKind}
-use Rattle.rules.specs.Draws.{orderBounds}
 use Rattle.rules.specs.Turn.{Step, idle, noDummy, readForRequest, readForJob, rebuild, writeNext, decide, command, stepBounds}
-use Rattle.rules.specs.Questions.{Ask, opening, request, turn, completion, collect, Call, questions, bounds, number}
+use Rattle.rules.specs.Questions.{Ask, opening, request, turn, completion, collect, questions, bounds}
 use Rattle.rules.specs.Run.{sentCommand}
-use Rattle.rules.specs.Laws.Answers.{Passed, accepted-passed}
+use Rattle.rules.specs.Laws.Answers.{Passed}
 use Rattle.rules.specs.Laws.Range.{InRange, RequestIn, JobsIn}
 use Rattle.rules.specs.Laws.Waiting.{waits-le}
 use Rattle.rules.specs.Setters.{setRequest}

@@ -1,7 +1,7 @@
 -- Members of lists, and of lists that are searched, kept from or added to.
 use mathlib.Core.Path.{_≡_, refl, ap, sym, _∙_, subst}
 use mathlib.Core.Logic.{_⊎_, inl, inr, ⊎-elim, ite}
-use mathlib.Core.Bool.{Bool, true, false, _||_, true≢false}
+use mathlib.Core.Bool.{Bool, true, false, true≢false}
 use mathlib.Core.List.{List, [], _∷_, _++_, map}
 use mathlib.Core.Option.{none, some}
 use Prim.Native.Nat.{ℕ, zero, suc, _+_, _≤_, _<_}
@@ -11,7 +11,7 @@ use native.Mathlib.Decide.{ℕ-discrete}
 use lib.Dec.{eqb}
 use borrow.Author.Tests.{eqb-true, eqb-false, eq-eqb, ne-eqb}
 use Rattle.lists.specs.Search.{find, keep, any, without, below, count, member, keep-yes, keep-no, find-yes, find-no, without-yes, without-no, indexOf, indexFrom}
-use Rattle.lists.specs.All.{All, nil, cons, IfSome}
+use Rattle.lists.specs.All.{All, nil, cons}
 use Rattle.lists.specs.Distinct.{Mem, NoDup, index}
 use Rattle.lists.specs.Tests.{or-true, or-left, or-right}
 use Rattle.lists.specs.Lengths.{length-count}

@@ -17,7 +17,7 @@ use borrow.Author.Tests.{le-ltb}
 use Rattle.memory.specs.Words.{window, window-past}
 use Rattle.memory.specs.Blocks.{blockTable}
 use Rattle.memory.specs.Tables.{tablesOf, orderAt, markAt, holdsAt}
-use Rattle.memory.specs.Fits.{fit, fit-out, fit-lt, fit-zero}
+use Rattle.memory.specs.Fits.{fit, fit-lt, fit-zero}
 use Rattle.client.specs.declared.Client.{Client}
 use Rattle.client.specs.View.{stateOf, view, rows, requestOf, bytesIn, placeOf, levelAt}
 use Rattle.client.specs.Changes.{place-nowhere}

@@ -1,19 +1,17 @@
 -- Blocks of B bytes behind the tables, and a part of the memory that is replaced.
-use mathlib.Core.Path.{_≡_, refl, sym, ap, fun-ext, _∙_}
+use mathlib.Core.Path.{_≡_, sym, ap, fun-ext, _∙_}
 use mathlib.Core.Bool.{true, false}
-use mathlib.Core.List.{List, _++_, append-assoc}
-use Prim.Native.Nat.{ℕ, suc, _+_, _-_, _*_, _≤_, _<_}
-use native.Mathlib.Nat.{suc-mul, mul-le-mul-right}
+use mathlib.Core.List.{List}
+use Prim.Native.Nat.{ℕ, _+_, _-_, _*_, _≤_, _<_}
 use native.Mathlib.Omega.{arith}
-use native.Mathlib.Decide.{ℕ-discrete, decLt}
+use native.Mathlib.Decide.{decLt}
 use lib.Dec.{leb}
-use lib.ListN.{length, take, drop, getD, set, replicate, length-append, length-drop, List·getD-append}
-use lib.Seq.{drop-set-lt, getD-append-add, getD-take, getD-drop, length-take-le, drop-drop, ext-getD}
+use lib.ListN.{take, drop, set, replicate}
+use lib.Seq.{drop-set-lt}
 use borrow.Author.Tests.{le-leb, lt-leb}
-use Rattle.lists.specs.Tables.{put, put-same, put-other}
 use Rattle.rules.specs.Shape.{Shape, slots}
 use Rattle.rules.specs.Memory.{needed}
-use Rattle.memory.specs.Words.{wordAt, setWord, window, window-in, window-past}
+use Rattle.memory.specs.Words.{setWord}
 
 -- the cells of all levels of all partitions
 abbrev pub cells : Shape → ℕ

@@ -1,18 +1,17 @@
 -- A shape within bounds, and memory that is long enough for it.
-use mathlib.Core.Path.{_≡_, refl, sym, ap, fun-ext, _∙_}
+use mathlib.Core.Path.{_≡_, sym, ap}
 use mathlib.Core.Bool.{Bool, true, false, _||_, true≢false}
 use mathlib.Core.List.{[], _∷_}
-use Prim.Native.Nat.{ℕ, zero, suc, _+_, _*_, _^_, _≤_, _<_}
+use Prim.Native.Nat.{ℕ, zero, _+_, _*_, _≤_, _<_}
 use native.Mathlib.Nat.{mul-le-mul}
 use native.Mathlib.Omega.{arith}
 use native.Mathlib.Decide.{decLt}
 use mathlib.Core.Logic.{inl, inr}
 use lib.Dec.{eqb, ltb, leb}
-use lib.Pow.{pow-mono, pow-pos}
+use lib.Pow.{pow-mono}
 use borrow.Author.Tests.{eqb-true, leb-true, lt-ltb, le-ltb}
 use Rattle.lists.specs.Tests.{and-l, and-r, or-true, every-yes, between}
 use Rattle.lists.specs.Search.{any, member}
-use Rattle.lists.specs.Tables.{put, put-same, put-other}
 use Rattle.rules.specs.Shape.{Shape, within, slots}
 use Rattle.rules.specs.Memory.{needed}
 use Rattle.memory.specs.Blocks.{cells}

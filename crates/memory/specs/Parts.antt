@@ -1,15 +1,15 @@
 -- A part of the memory, replaced: one block, or all that a shape needs. The list is as a lent part of a slice leaves it.
-use mathlib.Core.Path.{_≡_, refl, sym, ap, fun-ext, _∙_}
+use mathlib.Core.Path.{_≡_, sym, ap, fun-ext, _∙_}
 use mathlib.Core.Logic.{_⊎_, inl, inr, ⊎-elim}
 use mathlib.Core.List.{List, _++_}
-use Prim.Native.Nat.{ℕ, suc, _+_, _-_, _*_, _%_, _≤_, _<_}
+use Prim.Native.Nat.{ℕ, suc, _+_, _-_, _*_, _≤_, _<_}
 use native.Mathlib.Nat.{suc-mul, mul-le-mul-right}
 use native.Mathlib.Omega.{arith}
 use native.Mathlib.Decide.{ℕ-discrete, decLt}
 use lib.ListN.{length, take, drop, getD, replicate, length-append, length-drop, length-take, length-replicate, getD-replicate, List·getD-append}
 use lib.Seq.{getD-append-add, getD-take, getD-drop, length-take-le, drop-drop, ext-getD}
 use Rattle.lists.specs.Tables.{put, put-same, put-other}
-use Rattle.rules.specs.Shape.{Shape, slots}
+use Rattle.rules.specs.Shape.{Shape}
 use Rattle.rules.specs.Memory.{needed}
 use Rattle.memory.specs.Words.{wordAt, window, window-in, window-past}
 use Rattle.memory.specs.Blocks.{cells, blocksAt, blockStart, blockTable, block-is, block-past}

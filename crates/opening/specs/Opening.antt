@@ -1,6 +1,6 @@
 -- Open: its number by the lengths lent, and the memory as it is filled.
 use mathlib.Core.Path.{_≡_, refl, ap, sym, _∙_, fun-ext}
-use mathlib.Core.Bool.{Bool, true, false, not}
+use mathlib.Core.Bool.{Bool, true, false}
 use mathlib.Core.List.{List, [], _∷_}
 use mathlib.Core.Option.{none}
 use Prim.Native.Nat.{ℕ, zero, suc, _+_, _%_, _^_, _≤_, _<_}
@@ -8,19 +8,18 @@ use native.Mathlib.Nat.{mod-lt}
 use native.Mathlib.Omega.{arith}
 use native.Mathlib.Decide.{ℕ-discrete, decLt}
 use lib.ListN.{length, take, drop, getD, replicate, length-replicate, getD-replicate, length-take}
-use lib.Seq.{getD-take, length-take-le}
+use lib.Seq.{getD-take}
 use lib.Dec.{leb, ltb}
-use lib.Pow.{pow-pos}
-use borrow.Author.Tests.{lt-ltb, le-ltb, leb-true}
+use borrow.Author.Tests.{leb-true}
 use Rattle.lists.specs.Tests.{if_then_else_}
-use Rattle.lists.specs.Search.{below, count, isNone}
+use Rattle.lists.specs.Search.{below, count}
 use Rattle.lists.specs.Tables.{put, put-same, put-other}
 use Rattle.rules.specs.Shape.{Shape, within, slots}
-use Rattle.rules.specs.State.{State, closed, Place, nowhere}
+use Rattle.rules.specs.State.{closed, Place, nowhere}
 use Rattle.rules.specs.Memory.{needed}
 use Rattle.rules.specs.Draws.{draws}
 use Rattle.rules.specs.Open.{fresh}
-use Rattle.rules.specs.Questions.{opening, Call, bounds, questions, firstNo, number}
+use Rattle.rules.specs.Questions.{opening, bounds, questions, firstNo, number}
 use Rattle.rules.specs.Run.{numbersOf}
 use Rattle.rules.specs.Laws.Levels.{partitions-pos}
 use Rattle.memory.specs.Tables.{Tables, tablesOf, withPartition}

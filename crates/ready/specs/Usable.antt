@@ -9,12 +9,12 @@ use lib.Dec.{eqb, leb, ltb}
 use borrow.Author.Tests.{leb-true, leb-false, le-leb, lt-leb, eqb-true}
 use Rattle.lists.specs.Tests.{if_then_else_, and-l, and-r, every, every-yes, between}
 use Rattle.rules.specs.Shape.{Shape, within}
-use Rattle.rules.specs.Ranges.{inRange, ranges}
+use Rattle.rules.specs.Ranges.{inRange}
 use Rattle.rules.specs.Memory.{needed}
 use Rattle.rules.specs.Questions.{ready}
 use Rattle.rules.specs.Laws.Range.{InRange}
 use Rattle.rules.specs.Laws.Kept.{given-in}
-use Rattle.memory.specs.Blocks.{blockTable, blockStart, block-is}
+use Rattle.memory.specs.Blocks.{blockStart, block-is}
 use Rattle.memory.specs.Tables.{Tables, tablesOf}
 use Rattle.memory.specs.Fits.{shapeOf, Fits, fits}
 use Rattle.client.specs.declared.Client.{Client}

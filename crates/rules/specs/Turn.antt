@@ -1,5 +1,4 @@
 -- Document 01, "Turn sends one command": what it is, and what it changes.
-use mathlib.Core.Bool.{Bool}
 use mathlib.Core.List.{List, [], _∷_, _++_}
 use mathlib.Core.Option.{Option, none, some, Option·getD}
 use Prim.Native.Nat.{ℕ, suc}

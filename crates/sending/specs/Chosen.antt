@@ -1,6 +1,6 @@
 -- The block that a rebuild takes from the cache, by its place there.
 use mathlib.Core.Path.{_≡_, refl, ap, sym, _∙_}
-use mathlib.Core.Bool.{Bool, true, false}
+use mathlib.Core.Bool.{true, false}
 use mathlib.Core.List.{List}
 use mathlib.Core.Option.{none}
 use Prim.Native.Nat.{ℕ, suc, _-_, _^_, _≤_, _<_}
@@ -15,14 +15,11 @@ use Rattle.lists.specs.Members.{nodup-keep, nodup-below}
 use Rattle.lists.specs.Search.{find}
 use Rattle.rules.specs.State.{State}
 use Rattle.rules.specs.Blocks.{blocksIn}
-use Rattle.rules.specs.Levels.{trailingOnes, sources}
 use Rattle.rules.specs.Rebuild.{chosen, gathered, leave}
 use Rattle.rules.specs.Turn.{rebuild}
 use Rattle.rules.specs.Questions.{possible}
-use Rattle.memory.specs.Fits.{shapeOf, fit}
-use Rattle.memory.specs.Tables.{tablesOf}
 use Rattle.client.specs.declared.Client.{Client}
-use Rattle.client.specs.View.{stateOf, view}
+use Rattle.client.specs.View.{stateOf}
 use Rattle.client.specs.declared.Found.{Found}
 use Rattle.client.specs.declared.Found.the-variants.{At, Nothing}
 use Rattle.client.specs.Rows.{dropAt}

@@ -1,28 +1,25 @@
 -- A turn by the step that it decides: its number, and what it leaves.
 use mathlib.Core.Path.{_≡_, refl, ap, sym, _∙_}
-use mathlib.Core.Bool.{Bool, true, false, not, _&&_, _||_}
+use mathlib.Core.Bool.{Bool, true, false, not, _||_}
 use mathlib.Core.List.{List, [], _∷_}
 use mathlib.Core.Option.{none, some}
-use Prim.Native.Nat.{ℕ, zero, suc, _+_, _-_, _^_, _≤_, _<_}
+use Prim.Native.Nat.{ℕ, zero, suc, _+_, _-_, _≤_, _<_}
 use native.Mathlib.Omega.{arith}
 use lib.ListN.{length, replicate}
 use lib.Dec.{eqb, leb, ltb}
-use lib.Pow.{pow-pos}
 use borrow.Author.Tests.{lt-ltb, le-ltb, le-leb, lt-leb, eq-eqb, ne-eqb}
 use Rattle.lists.specs.Tests.{if_then_else_}
-use Rattle.lists.specs.Search.{isNone}
 use Rattle.rules.specs.Shape.{slots, cell, offset}
 use Rattle.rules.specs.State.{State, Command, cmd, read, write}
 use Rattle.rules.specs.Setters.{setRequest, setCursor, setSent, setWaiting}
-use Rattle.rules.specs.Memory.{needed}
-use Rattle.rules.specs.Draws.{draws, orderBounds, newOrder}
+use Rattle.rules.specs.Draws.{draws, newOrder}
 use Rattle.rules.specs.Levels.{sources}
 use Rattle.rules.specs.Request.{passLevel}
 use Rattle.rules.specs.Blocks.{holder, slotBytes, named, zeros}
-use Rattle.rules.specs.Rebuild.{gathered, chosen, leave, doRebuild}
+use Rattle.rules.specs.Rebuild.{gathered, doRebuild}
 use Rattle.rules.specs.Turn.{Step, idle, noDummy, readForRequest, readForJob, rebuild, writeNext, decide, command, stepBounds, markRead, send, doStep}
 use Rattle.rules.specs.Questions.{turn, ready, sends, possible, questions, firstNo, number, bounds}
-use Rattle.rules.specs.Run.{act, sentCommand, handed, written, numbersOf, takenOf, refuse}
+use Rattle.rules.specs.Run.{act, sentCommand, handed, written, numbersOf, refuse}
 use Rattle.rules.specs.Laws.Decided.{StepIn, decide-in}
 use Rattle.memory.specs.Fits.{shapeOf, fit, fit-lt}
 use Rattle.memory.specs.Tables.{tablesOf}

@@ -6,14 +6,14 @@ use mathlib.Core.List.{List, []}
 use Prim.Native.Nat.{ℕ, suc, _+_, _-_, _*_, _≤_, _<_}
 use native.Mathlib.Nat.{suc-mul, mul-le-mul-right}
 use native.Mathlib.Omega.{arith}
-use native.Mathlib.Decide.{ℕ-discrete, decLt}
+use native.Mathlib.Decide.{decLt}
 use lib.ListN.{length, take, drop, length-take, length-drop}
 use lib.Seq.{getD-take, getD-drop, ext-getD}
 use lib.Dec.{leb}
 use borrow.Author.Tests.{leb-true}
 use Rattle.lists.specs.Tests.{between, every-yes, and-l}
 use Rattle.rules.specs.Shape.{Shape, within, slots, cell, offset}
-use Rattle.rules.specs.State.{Command, cmd, read, write, closed}
+use Rattle.rules.specs.State.{Command, read, write, closed}
 use Rattle.rules.specs.Questions.{request, turn, collect, Call}
 use Rattle.rules.specs.Run.{step}
 use Rattle.rules.specs.Laws.Answers.{opens as opensOf, step-number, closed-two}
@@ -25,7 +25,7 @@ use Rattle.session.specs.Session.{serves, room, call, start, fetched, an
 use Rattle.lines.specs.Lines.{Line, opens, reads, writes, turns, collects, malformed}
 use Rattle.printing.specs.Text.{numberText}
 use Rattle.session.specs.Answers.{Slot}
-use Rattle.session.specs.Slots.{product-le, room-served, blocks-served, Spot, spot}
+use Rattle.session.specs.Slots.{product-le, room-served, blocks-served, spot}
 use Rattle.session.specs.Opening.{bounds}
 
 -- "It serves N up to 64 and P × (2^(L+1) − 2) × B up to 16,384": the memory is long enough for each of these

@@ -1,20 +1,18 @@
 -- How the answer to an O comes to be what the definition gives.
-use mathlib.Core.Path.{_≡_, refl, ap, sym, _∙_}
-use mathlib.Core.Bool.{Bool, true, false, true≢false}
+use mathlib.Core.Path.{_≡_, ap, sym, _∙_}
+use mathlib.Core.Bool.{true, false}
 use mathlib.Core.List.{List, []}
 use Prim.Native.Nat.{ℕ, _+_, _*_, _-_, _≤_, _<_}
 use native.Mathlib.Omega.{arith}
-use native.Mathlib.Decide.{ℕ-discrete}
 use lib.ListN.{length, drop}
 use lib.Dec.{eqb, leb}
-use borrow.Author.Tests.{lt-leb, eq-eqb, ne-eqb, leb-true}
-use Rattle.lists.specs.Tests.{if_then_else_, between, every-yes, and-r}
+use borrow.Author.Tests.{lt-leb, ne-eqb, leb-true}
+use Rattle.lists.specs.Tests.{between, every-yes, and-r}
 use Rattle.rules.specs.Shape.{Shape, within, slots}
 use Rattle.rules.specs.State.{State, closed}
 use Rattle.rules.specs.Memory.{needed}
 use Rattle.rules.specs.Questions.{opening, Call, questions, firstNo, number}
-use Rattle.rules.specs.Run.{Outcome, step, act, accepted, numbersOf}
-use Rattle.rules.specs.Draws.{draws}
+use Rattle.rules.specs.Run.{Outcome, step, act, accepted}
 use Rattle.rules.specs.Open.{fresh}
 use Rattle.rules.specs.Laws.Answers.{step-number, step-accepted}
 use Rattle.memory.specs.Fits.{shapeOf, parts-le}
@@ -31,7 +29,7 @@ use Rattle.session.specs.Session as S
 use Rattle.session.specs.Session.{serves, room, lent, call, went, answered, replied, gives}
 use Rattle.session.specs.declared.Session.{Session}
 use Rattle.session.specs.declared.Printed.{Printed}
-use Rattle.session.specs.Answers.{kept, Served, Gives, AnswersApart}
+use Rattle.session.specs.Answers.{kept, Served, AnswersApart}
 use Rattle.session.specs.Laws.{call-no, call-yes, taken-le, went-is, number-is}
 
 -- the number of an O that is lent no memory, or of a shape out of bounds

@@ -1,7 +1,7 @@
 -- Document 01, "A session, whole": what each line does and prints, by the rules' five calls.
 use mathlib.Core.Bool.{Bool, true, false, _&&_}
 use mathlib.Core.List.{List, [], _∷_, _++_}
-use mathlib.Core.Option.{Option, none, some}
+use mathlib.Core.Option.{none, some}
 use Prim.Native.Nat.{ℕ, _+_, _-_, _*_}
 use lib.ListN.{take, drop}
 use lib.Dec.{eqb, leb}

@@ -1,5 +1,5 @@
 -- The slots of a shape that is served fit into the host's bytes.
-use mathlib.Core.Path.{_≡_, refl, ap, sym, _∙_}
+use mathlib.Core.Path.{_≡_, ap, _∙_}
 use mathlib.Core.Bool.{true}
 use Prim.Native.Nat.{ℕ, suc, _+_, _-_, _*_, _^_, _≤_, _<_}
 use native.Mathlib.Nat.{suc-mul, mul-le-mul-right, pow-suc}
@@ -10,7 +10,7 @@ use lib.Dec.{leb}
 use borrow.Author.Tests.{leb-true}
 use Rattle.lists.specs.Tests.{and-l, and-r}
 use Rattle.rules.specs.Shape.{Shape, slots, offset}
-use Rattle.rules.specs.State.{Command, cmd}
+use Rattle.rules.specs.State.{cmd}
 use Rattle.rules.specs.Laws.Levels.{two-slots}
 use Rattle.session.specs.Session.{serves, start}
 use Rattle.session.specs.Answers.{Slot}

@@ -12,12 +12,11 @@ use Rattle.lists.specs.Tests.{if_then_else_}
 use Rattle.lists.specs.Search.{below, count}
 use Rattle.rules.specs.Shape.{Shape, slots}
 use Rattle.rules.specs.State.{State, Command, cmd, read, write, Request}
-use Rattle.rules.specs.Blocks.{holder}
 use Rattle.rules.specs.Collect.{answer}
 use Rattle.rules.specs.Draws.{draws}
 use Rattle.rules.specs.Turn.{Step, idle, noDummy, readForRequest, readForJob, rebuild, writeNext, decide, command}
 use Rattle.rules.specs.Questions.{turn, completion, collect, Call, ready, questions, sends, possible, bounds, number}
-use Rattle.rules.specs.Run.{Outcome, step, act, accepted, handed, written, sentCommand, numbersOf}
+use Rattle.rules.specs.Run.{Outcome, step, accepted, handed, written, sentCommand, numbersOf}
 use Rattle.rules.specs.Laws.Answers.{opens, step-number, step-accepted, accepted-passed}
 use Rattle.rules.specs.Laws.Decided.{StepIn, decide-in}
 use Rattle.rules.specs.Laws.Kept.{given-in}
@@ -28,7 +27,7 @@ use Rattle.client.specs.View.{stateOf, view}
 use Rattle.tape.specs.Tape.{wordsOf}
 use Rattle.meets.specs.declared.Answer.{Answer}
 use Rattle.meets.specs.Meets.{Meets, callOf, commandOf, handedTo}
-use Rattle.meets.specs.Buffers.{Whole, state-whole, ready-long, filled, written-some, answer-some}
+use Rattle.meets.specs.Buffers.{state-whole, ready-long, filled, written-some, answer-some}
 use Rattle.printing.specs.Text.{numberText, commandText, contentsText}
 use Rattle.printing.specs.Laws.{command-le, contents-le}
 use Rattle.printing.specs.Written.{Written, same-text}

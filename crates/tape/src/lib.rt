@@ -1,6 +1,6 @@
 // The tape: 16-bit words as pairs of bytes, low byte first. An odd last byte is no word.
 ghost use mathlib.Core.Path.{_≡_};
-ghost use Prim.Native.Nat.{_%_, _<_, _≤_};
+ghost use Prim.Native.Nat.{_%_, _<_};
 ghost use lib.ListN.{length, getD};
 ghost use Rattle.tape.specs.Tape.{wordsOf};
 

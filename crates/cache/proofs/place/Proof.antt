@@ -5,7 +5,7 @@ use native.Mathlib.Omega.{arith}
 use lib.Dec.{eqb}
 use borrow.Author.Count.{below-none, below-more}
 use borrow.Author.Tests.{ne-eqb}
-use Rattle.cache.specs.Waiting.{blocksIn, FirstAt}
+use Rattle.cache.specs.Waiting.{blocksIn}
 use Rattle.cache.proofs.place.Statement.{statement}
 use Rattle.cache.proofs.place.Tie as tie
 

@@ -1,7 +1,5 @@
-use mathlib.Core.Path.{_≡_, ap, sym, _∙_}
-use Prim.Native.Nat.{ℕ, _+_, _*_, _≤_}
+use mathlib.Core.Path.{ap}
 use native.Mathlib.Omega.{arith}
-use lib.ListN.{length}
 use Rattle.rules.specs.Memory.{needed}
 use Rattle.memory.specs.Fits.{Fits, fits, shapeOf}
 use Rattle.meets.proofs.needed.Statement.{statement}

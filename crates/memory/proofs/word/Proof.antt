@@ -1,6 +1,5 @@
 use native.Mathlib.Omega.{arith}
 use Rattle.memory.specs.Words.{wordAt}
-use borrow.Author.Needs.{needs}
 use Rattle.memory.proofs.word.Statement.{statement}
 use Rattle.memory.proofs.word.Tie as tie
 use Rattle.memory.proofs.wide.Reads as wide-reads

@@ -1,24 +1,20 @@
 use mathlib.Core.Path.{_≡_, refl, ap, sym, _∙_}
-use mathlib.Core.Bool.{true, false}
-use mathlib.Core.List.{List, []}
+use mathlib.Core.Bool.{true}
+use mathlib.Core.List.{[]}
 use Prim.Native.Nat.{ℕ, _≤_}
 use native.Mathlib.Omega.{arith}
-use lib.ListN.{length, replicate, drop, length-replicate}
-use lib.Dec.{leb}
-use borrow.Author.Tests.{leb-true}
-use Rattle.rules.specs.Shape.{Shape, within}
+use lib.ListN.{length, replicate, length-replicate}
+use Rattle.rules.specs.Shape.{within}
 use Rattle.rules.specs.State.{closed}
 use Rattle.rules.specs.Memory.{needed}
-use Rattle.rules.specs.Questions.{opening, questions, firstNo, number, bounds}
+use Rattle.rules.specs.Questions.{opening, number, bounds}
 use Rattle.rules.specs.Run.{refuse, act, sentCommand, handed}
 use Rattle.memory.specs.Fits.{shapeOf}
-use Rattle.memory.specs.Tables.{tablesOf}
-use Rattle.memory.specs.Parts.{empty}
 use Rattle.client.specs.View.{stateOf, view}
 use Rattle.tape.specs.Tape.{wordsOf, taken-all}
 use Rattle.meets.specs.Answers.{clearedClient}
 use Rattle.meets.specs.Meets.{callOf, meets-no, meets-yes, closed-is}
-use Rattle.opening.specs.Opening.{openNumber, open-number, open-passed, Filled, drawnBy, fresh-is, filled-tail, filled-from, cleared-tail}
+use Rattle.opening.specs.Opening.{openNumber, open-number, open-passed, Filled, fresh-is, filled-tail, filled-from, cleared-tail}
 use Rattle.opening.proofs.open.Statement.{statement}
 use Rattle.opening.proofs.open.Tie as tie
 use Rattle.meets.proofs.closed.Reads as closed-reads

@@ -1,10 +1,10 @@
-use mathlib.Core.Path.{_≡_, refl, ap, sym, _∙_}
-use mathlib.Core.Bool.{Bool, true, false, _&&_, _||_}
+use mathlib.Core.Path.{_≡_, ap}
+use mathlib.Core.Bool.{true, false, _&&_}
 use native.Mathlib.Omega.{arith}
 use lib.Dec.{leb}
 use borrow.Author.Tests.{eq-eqb, ne-eqb, lt-ltb, le-ltb, not-true, not-false}
 use Rattle.memory.specs.Fits.{shapeOf}
-use Rattle.client.specs.View.{stateOf, view}
+use Rattle.client.specs.View.{stateOf}
 use Rattle.client.specs.Ready.{requestFits, handFits, ownWaits}
 use Rattle.ready.proofs.hand_fits.Statement.{statement}
 use Rattle.ready.proofs.hand_fits.Tie as tie

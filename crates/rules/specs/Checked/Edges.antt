@@ -8,12 +8,12 @@ use lib.Dec.{eqb, ltb}
 use Rattle.lists.specs.Tests.{if_then_else_}
 use Rattle.lists.specs.Search.{keep, below}
 use Rattle.rules.specs.Shape.{Shape, slots}
-use Rattle.rules.specs.State.{State, Command, cmd, read, write, closed}
+use Rattle.rules.specs.State.{State, Command, read, write, closed}
 use Rattle.rules.specs.Setters.{_▷_, setQueue, setWaiting}
 use Rattle.rules.specs.Draws.{newOrder, draws, orderBounds}
 use Rattle.rules.specs.Levels.{sources, target, grown}
 use Rattle.rules.specs.Open.{fresh}
-use Rattle.rules.specs.Questions.{opening, request, turn, completion, collect, Call, number}
+use Rattle.rules.specs.Questions.{opening, request, turn, completion, collect, number}
 use Rattle.rules.specs.Run.{Outcome, step, numbersOf}
 use Rattle.rules.specs.Unfold.{model, shape, call}
 

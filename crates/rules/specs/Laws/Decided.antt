@@ -16,7 +16,7 @@ use Rattle.rules.specs.Rebuild
 use Rattle.rules.specs.Rebuild.{places}
 use Rattle.rules.specs.Shape.{Shape, cell, slots}
 use Rattle.rules.specs.State.{State, Command, Place, nowhere, stored, Request}
-use Rattle.rules.specs.Questions.{request, turn}
+use Rattle.rules.specs.Questions.{request}
 use Rattle.rules.specs.Turn
 use Rattle.rules.specs.Turn.{Step, idle, noDummy, readForRequest, readForJob, rebuild, writeNext, decide}
 use Rattle.rules.specs.Levels.{trailingOnes, sources, target}

@@ -3,7 +3,6 @@ use Rattle.memory.specs.Fits.{shapeOf, fit, fit-lt}
 use Rattle.memory.specs.Tables.{tablesOf}
 use Rattle.client.specs.Readings.{waiting-at}
 use native.Mathlib.Omega.{arith}
-use borrow.Author.Needs.{needs}
 use Rattle.sending.proofs.extra.Statement.{statement}
 use Rattle.sending.proofs.extra.Tie as tie
 use Rattle.sending.proofs.extra.Reads as reads

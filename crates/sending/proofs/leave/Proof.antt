@@ -2,7 +2,6 @@ use mathlib.Core.Path.{refl, ap}
 use Prim.Native.Nat.{_<_}
 use Rattle.client.specs.declared.Client.{Client}
 use native.Mathlib.Omega.{arith}
-use borrow.Author.Needs.{needs}
 use Rattle.sending.proofs.leave.Statement.{statement}
 use Rattle.sending.proofs.leave.Tie as tie
 use Rattle.sending.proofs.leave.Reads as reads

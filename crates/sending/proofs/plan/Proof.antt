@@ -2,7 +2,6 @@ use mathlib.Core.Path.{_∙_}
 use Rattle.client.specs.Readings.{sources-is}
 use Rattle.sending.specs.Chosen.{place-below}
 use native.Mathlib.Omega.{arith}
-use borrow.Author.Needs.{needs}
 use Rattle.sending.proofs.plan.Statement.{statement}
 use Rattle.sending.proofs.plan.Tie as tie
 use Rattle.sending.proofs.plan.Reads as reads

@@ -4,7 +4,6 @@ use mathlib.Core.Path.{ap, sym, _∙_}
 use lib.ListN.{replicate}
 use Rattle.sending.specs.Turning.{slot-dummy, slot-block}
 use native.Mathlib.Omega.{arith}
-use borrow.Author.Needs.{needs}
 use Rattle.sending.proofs.put_bytes.Statement.{statement}
 use Rattle.sending.proofs.put_bytes.Tie as tie
 use Rattle.sending.proofs.put_bytes.Reads as reads

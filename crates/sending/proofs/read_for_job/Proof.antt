@@ -6,7 +6,6 @@ use Rattle.rules.specs.Turn.{readForJob, command, stepBounds}
 use Rattle.rules.specs.Questions.{sends, possible}
 use Rattle.sending.specs.Turning.{read-meets, job-sent}
 use native.Mathlib.Omega.{arith}
-use borrow.Author.Needs.{needs}
 use Rattle.sending.proofs.read_for_job.Statement.{statement}
 use Rattle.sending.proofs.read_for_job.Tie as tie
 use Rattle.sending.proofs.read_for_job.Reads as reads

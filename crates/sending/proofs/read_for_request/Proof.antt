@@ -3,7 +3,6 @@ use Rattle.rules.specs.Turn.{readForRequest, command, stepBounds}
 use Rattle.rules.specs.Questions.{sends, possible}
 use Rattle.sending.specs.Turning.{read-meets, request-sent}
 use native.Mathlib.Omega.{arith}
-use borrow.Author.Needs.{needs}
 use Rattle.sending.proofs.read_for_request.Statement.{statement}
 use Rattle.sending.proofs.read_for_request.Tie as tie
 use Rattle.sending.proofs.read_for_request.Reads as reads

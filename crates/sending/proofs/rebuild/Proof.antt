@@ -12,7 +12,6 @@ use Rattle.client.specs.View.{stateOf}
 use Rattle.tape.specs.Tape.{wordsOf}
 use Rattle.sending.specs.Chosen.{room-no, room-all}
 use Rattle.sending.specs.Turning.{refuses, other-buffer, few-words, no-room}
-use borrow.Author.Needs.{needs}
 use Rattle.sending.proofs.rebuild.Statement.{statement}
 use Rattle.sending.proofs.rebuild.Tie as tie
 use Rattle.sending.proofs.rebuild.Reads as reads

@@ -11,7 +11,6 @@ use Rattle.client.specs.View.{stateOf}
 use Rattle.sending.specs.Chosen.{room-yes}
 use Rattle.sending.specs.Turning.{write-meets, rebuild-sent}
 use native.Mathlib.Omega.{arith}
-use borrow.Author.Needs.{needs}
 use Rattle.sending.proofs.send_rebuild.Statement.{statement}
 use Rattle.sending.proofs.send_rebuild.Tie as tie
 use Rattle.sending.proofs.send_rebuild.Reads as reads

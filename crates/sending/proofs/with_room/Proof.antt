@@ -1,7 +1,6 @@
 use Rattle.client.specs.View.{stateOf, view}
 use Rattle.sending.specs.Chosen.{full-none, longest-is}
 use native.Mathlib.Omega.{arith}
-use borrow.Author.Needs.{needs}
 use Rattle.sending.proofs.with_room.Statement.{statement}
 use Rattle.sending.proofs.with_room.Tie as tie
 use Rattle.sending.proofs.with_room.Reads as reads

@@ -9,7 +9,6 @@ use Rattle.client.specs.Readings.{sources-is}
 use Rattle.sending.specs.Chosen.{gathered-once, gathered-below, place-below}
 use Rattle.sending.specs.Turning.{rebuilt-stands}
 use native.Mathlib.Omega.{arith}
-use borrow.Author.Needs.{needs}
 use Rattle.sending.proofs.write_level.Statement.{statement}
 use Rattle.sending.proofs.write_level.Tie as tie
 use Rattle.sending.proofs.write_level.Reads as reads

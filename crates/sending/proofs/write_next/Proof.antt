@@ -8,7 +8,6 @@ use Rattle.rules.specs.Turn.{writeNext, command, stepBounds}
 use Rattle.rules.specs.Questions.{sends, possible}
 use Rattle.sending.specs.Turning.{refuses, other-buffer, write-meets, write-sent}
 use native.Mathlib.Omega.{arith}
-use borrow.Author.Needs.{needs}
 use Rattle.sending.proofs.write_next.Statement.{statement}
 use Rattle.sending.proofs.write_next.Tie as tie
 use Rattle.sending.proofs.write_next.Reads as reads

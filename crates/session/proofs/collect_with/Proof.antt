@@ -1,4 +1,3 @@
-use Prim.Native.Nat.{_≤_}
 use native.Mathlib.Omega.{arith}
 use Rattle.tape.specs.Tape.{length-words}
 use Rattle.session.specs.Laws.{meets-small}

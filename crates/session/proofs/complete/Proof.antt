@@ -1,8 +1,7 @@
-use mathlib.Core.Path.{_≡_, refl, ap, sym, _∙_}
+use mathlib.Core.Path.{_≡_, refl, ap, _∙_}
 use Prim.Native.Nat.{_+_, _-_}
 use lib.ListN.{length, take, drop}
 use native.Mathlib.Omega.{arith}
-use Rattle.memory.specs.Fits.{shapeOf}
 use Rattle.memory.specs.Parts.{part-put}
 use Rattle.session.specs.Session.{fetched}
 use Rattle.session.specs.Turning.{completes-write, completes-read}

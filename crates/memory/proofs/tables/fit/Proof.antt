@@ -1,6 +1,5 @@
 use mathlib.Core.Path.{sym}
 use Rattle.memory.specs.Fits.{fit-in, fit-out}
-use native.Mathlib.Omega.{arith}
 use Rattle.memory.proofs.tables.fit.Statement.{statement}
 use Rattle.memory.proofs.tables.fit.Tie as tie
 
