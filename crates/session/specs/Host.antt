@@ -6,26 +6,26 @@ use mathlib.Core.List.{List, []}
 use Prim.Native.Nat.{ℕ, suc, _+_, _-_, _*_, _≤_, _<_}
 use native.Mathlib.Nat.{suc-mul, mul-le-mul-right}
 use native.Mathlib.Omega.{arith}
-use native.Mathlib.Decide.{decLt}
+use native.Mathlib.Decide.{ℕ-discrete, decLt}
 use lib.ListN.{length, take, drop, length-take, length-drop}
 use lib.Seq.{getD-take, getD-drop, ext-getD}
 use lib.Dec.{leb}
-use borrow.Author.Tests.{leb-true}
+use borrow.Author.Tests.{leb-true, eq-eqb, ne-eqb}
 use Rattle.lists.specs.Tests.{between, every-yes, and-l}
 use Rattle.rules.specs.Shape.{Shape, within, slots, cell, offset}
 use Rattle.rules.specs.State.{Command, read, write, closed}
 use Rattle.rules.specs.Questions.{request, turn, collect, Call}
-use Rattle.rules.specs.Run.{step}
+use Rattle.rules.specs.Run.{Outcome, step}
 use Rattle.rules.specs.Laws.Answers.{opens as opensOf, step-number, closed-two}
 use Rattle.rules.specs.Memory.{needed}
 use Rattle.rules.specs.Laws.Layout.{cell-inj}
 use Rattle.rules.specs.Laws.Levels.{two-slots}
 use Rattle.memory.specs.Parts.{replaced, length-replaced, replaced-inside, part-outside}
-use Rattle.session.specs.Session.{serves, room, call, start, fetched, answered, replied, turned, collected, gives, begun}
+use Rattle.session.specs.Session.{serves, room, call, start, fetched, stored, answered, replied, turned, collected, gives, begun}
 use Rattle.lines.specs.Lines.{Line, opens, reads, writes, turns, collects, malformed}
 use Rattle.printing.specs.Text.{numberText}
 use Rattle.session.specs.Answers.{Slot}
-use Rattle.session.specs.Slots.{product-le, room-served, blocks-served, spot}
+use Rattle.session.specs.Slots.{product-le, room-served, blocks-served, Spot, spot}
 use Rattle.session.specs.Opening.{bounds}
 
 -- "It serves N up to 64 and P × (2^(L+1) − 2) × B up to 16,384": the memory is long enough for each of these
@@ -57,17 +57,21 @@ served-fits h w e =
 
 -- ---- The host
 
+-- where it is does not depend on the kind of a command
+spotted : (h : Shape) (c : Command) → Slot h c → Spot h (c .partition) (c .level) (c .slot)
+spotted h c f = spot h (c .partition) (c .level) (c .slot) (record { partition = f .partition; level = f .level; slot = f .slot; serves = f .serves; partitions = f .partitions; levels = f .levels; block = f .block })
+
 -- a slot is within the host's bytes
 end-le : (h : Shape) (c : Command) → Slot h c → start h c + h .B ≤ 16384
 unfolding start
 end-le h c f =
-    let p = spot h (c .partition) (c .level) (c .slot) (record { partition = f .partition; level = f .level; slot = f .slot; serves = f .serves; partitions = f .partitions; levels = f .levels; block = f .block }) in
+    let p = spotted h c f in
     omega (arith, p .bytes, p .start)
 
--- what was stored there is brought
-pub fetched-same : (h : Shape) (c : Command) (host bytes : List ℕ) → Slot h c → length host ≡ 16384 → length bytes ≡ h .B → fetched h c (replaced (start h c) host bytes) ≡ bytes
+-- bytes that are put there are brought
+put-same : (h : Shape) (c : Command) (host bytes : List ℕ) → Slot h c → length host ≡ 16384 → length bytes ≡ h .B → fetched h c (replaced (start h c) host bytes) ≡ bytes
 unfolding fetched
-fetched-same h c host bytes f l n =
+put-same h c host bytes f l n =
     let e = end-le h c f in
     let fits : start h c + length bytes ≤ length host = omega arith in
     let host′ = replaced (start h c) host bytes in
@@ -105,7 +109,7 @@ place-inj h c d f g e =
     (cells q (two-slots (c .level)) (two-slots (d .level)))
   where
     within-row : (c : Command) → Slot h c → (slots (c .level) - 2) + c .slot < slots (h .L) - 2
-    within-row c f = let p = spot h (c .partition) (c .level) (c .slot) (record { partition = f .partition; level = f .level; slot = f .slot; serves = f .serves; partitions = f .partitions; levels = f .levels; block = f .block }) in omega (arith, p .spot)
+    within-row c f = omega (arith, spotted h c f .spot)
 
     cells : c .partition ≡ d .partition → 2 ≤ slots (c .level) → 2 ≤ slots (d .level) → c .partition * slots (h .L) + slots (c .level) + c .slot ≡ d .partition * slots (h .L) + slots (d .level) + d .slot
     cells q u v =
@@ -113,11 +117,11 @@ place-inj h c d f g e =
         let t : c .partition * slots (h .L) ≡ d .partition * slots (h .L) = ap (λ n. n * slots (h .L)) q in
         omega arith
 
--- no other slot is changed
-pub fetched-other : (h : Shape) (c d : Command) (host bytes : List ℕ) → Slot h c → Slot h d → length host ≡ 16384 → length bytes ≡ h .B → (SameSlot c d → ⊥)
+-- and no other slot is changed
+put-other : (h : Shape) (c d : Command) (host bytes : List ℕ) → Slot h c → Slot h d → length host ≡ 16384 → length bytes ≡ h .B → (SameSlot c d → ⊥)
     → fetched h d (replaced (start h c) host bytes) ≡ fetched h d host
 unfolding fetched start place
-fetched-other h c d host bytes f g l n ne =
+put-other h c d host bytes f g l n ne =
     part-outside (start h c) host bytes (omega (arith, end-le h c f)) (start h d) (h .B) (λ i k. apart (decLt (place h d) (place h c)) i k)
   where
     apart : Dec (place h d < place h c) → (i : ℕ) → i < h .B → start h d + i < start h c ⊎ (start h c + length bytes ≤ start h d + i)
@@ -126,6 +130,21 @@ fetched-other h c d host bytes f g l n ne =
       where
         above : ¬ (place h d < place h c) → suc (place h c) ≤ place h d
         above m = let no : place h c ≡ place h d → ⊥ = λ e. ne (place-inj h c d f g e) in omega arith
+
+-- a slot has the bytes last stored there
+pub fetched-same : (h : Shape) (o : Outcome) (host : List ℕ) → Slot h (o .command) → length host ≡ 16384 → o .command .kind ≡ write → length (o .bytes) ≡ h .B → fetched h (o .command) (stored h o host) ≡ o .bytes
+unfolding stored
+fetched-same h o host f l w n = rw (eq-eqb (o .command .kind) write w) (put-same h (o .command) host (o .bytes) f l n)
+
+-- and keeps them unless a write to it is completed
+pub fetched-other : (h : Shape) (o : Outcome) (d : Command) (host : List ℕ) → Slot h (o .command) → Slot h d → length host ≡ 16384 → (o .command .kind ≡ write → (length (o .bytes) ≡ h .B) × (SameSlot (o .command) d → ⊥))
+    → fetched h d (stored h o host) ≡ fetched h d host
+unfolding stored
+fetched-other h o d host f g l other = go (ℕ-discrete (o .command .kind) write)
+  where
+    go : Dec (o .command .kind ≡ write) → fetched h d (stored h o host) ≡ fetched h d host
+    go (yes w) = rw (eq-eqb (o .command .kind) write w) (put-other h (o .command) d host (o .bytes) f g l (other w .0) (other w .1))
+    go (no n) = rw (ne-eqb (o .command .kind) write n)
 
 -- ---- "Before an accepted O the other lines print 2"
 
