@@ -3,24 +3,31 @@
 
 use rinwolfedd::calls::{self, READ, STATE, Shape, WRITE};
 
-const SHAPE: Shape = Shape {
-    blocks: 8,
-    partitions: 2,
-    levels: 3,
-    bytes: 4,
-    places: 8,
-    window: 4,
-};
+/// N, P, L, B, E and W of the store.
+const NUMBERS: [usize; 6] = [8, 2, 3, 4, 8, 4];
+
+fn shape(numbers: [usize; 6]) -> Shape {
+    let [blocks, partitions, levels, bytes, places, window] = numbers;
+    Shape {
+        blocks,
+        partitions,
+        levels,
+        bytes,
+        places,
+        window,
+    }
+}
 
 /// Numbers that agree with a small one in their low 8, 16 or 32 bits.
 fn wide(small: usize) -> [usize; 5] {
-    [8, 16, 32, 40, 60].map(|bit| small + (1 << bit))
+    [9, 16, 32, 40, 60].map(|bit| small + (1 << bit))
 }
 
 fn opened() -> ([u8; STATE], Vec<u8>) {
+    let shape = shape(NUMBERS);
     let mut state = [0; STATE];
-    let mut memory = vec![0; SHAPE.needed().expect("a shape within bounds")];
-    let answer = calls::open(&mut state, &mut memory, SHAPE, &[0; 16]);
+    let mut memory = vec![0; shape.needed().expect("a shape within bounds")];
+    let answer = calls::open(&mut state, &mut memory, shape, &[0; 16]);
     assert_eq!(answer.number, 0);
     (state, memory)
 }
@@ -70,38 +77,13 @@ fn completions() {
 
 #[test]
 fn opens() {
-    for bit in [8, 16, 32, 40, 60] {
-        let add = 1 << bit;
-        let shapes = [
-            Shape {
-                blocks: SHAPE.blocks + add,
-                ..SHAPE
-            },
-            Shape {
-                partitions: SHAPE.partitions + add,
-                ..SHAPE
-            },
-            Shape {
-                levels: SHAPE.levels + add,
-                ..SHAPE
-            },
-            Shape {
-                bytes: SHAPE.bytes + 2 * add,
-                ..SHAPE
-            },
-            Shape {
-                places: SHAPE.places + add,
-                ..SHAPE
-            },
-            Shape {
-                window: SHAPE.window + add,
-                ..SHAPE
-            },
-        ];
-        for shape in shapes {
+    for place in 0..6 {
+        for value in wide(NUMBERS[place]) {
+            let mut numbers = NUMBERS;
+            numbers[place] = value;
             let mut state = [1; STATE];
-            let answer = calls::open(&mut state, &mut [0; 4096], shape, &[0; 16]);
-            assert_eq!((answer.number, state), (1, [0; STATE]), "{shape:?}");
+            let answer = calls::open(&mut state, &mut [0; 4096], shape(numbers), &[0; 16]);
+            assert_eq!((answer.number, state), (1, [0; STATE]), "{numbers:?}");
         }
     }
 }

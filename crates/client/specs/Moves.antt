@@ -11,6 +11,10 @@ use Rattle.client.specs.declared.Client.{Client}
 use Rattle.client.specs.declared.Request.{Request}
 use Rattle.client.specs.View.{view, stateOf}
 
+-- the same request, to go on from level n
+abbrev pub atLevel : ℕ → Request → Request
+atLevel n r = record { kind = r .kind; block = r .block; next = r .next; evict = r .evict; level = n }
+
 abbrev pub withRequest : Request → Client → Client
 withRequest x c = record { shape = c .shape; request = x; jobs = c .jobs; cursor = c .cursor; sent = c .sent; waiting = c .waiting; out = c .out }
 

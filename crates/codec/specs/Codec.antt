@@ -10,6 +10,7 @@ use Rattle.memory.specs.Words.{wordAt, setWord, word-same, word-other}
 use Rattle.memory.specs.declared.Shape.{Shape}
 use Rattle.client.specs.declared.Client.{Client}
 use Rattle.client.specs.declared.Request.{Request}
+use Rattle.client.specs.Moves.{atLevel}
 use Rattle.meets.specs.declared.Answer.{Answer}
 
 -- The state lies in 64 bytes
@@ -69,7 +70,7 @@ reshaped h c = record { shape = h; request = c .request; jobs = c .jobs; cursor 
 abbrev pub progressed : Client → Client → Client
 progressed c d = record {
   shape = c .shape;
-  request = record { kind = c .request .kind; block = c .request .block; next = c .request .next; evict = c .request .evict; level = d .request .level };
+  request = atLevel (d .request .level) (c .request);
   jobs = d .jobs;
   cursor = d .cursor;
   sent = d .sent;

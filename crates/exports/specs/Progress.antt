@@ -13,21 +13,21 @@ use Rattle.rules.specs.Laws.Asked.{asked}
 use Rattle.client.specs.declared.Client.{Client}
 use Rattle.client.specs.declared.Request.{Request}
 use Rattle.client.specs.View.{stateOf, view, heldBy, requestOf}
+use Rattle.client.specs.Moves.{atLevel}
 use Rattle.codec.specs.Codec.{progressed}
 
 -- two requests that ask for the same differ in their level alone
 module _ (c d : Request) (bs bs′ : List ℕ) where
-  mixed : Request
-  mixed = record { kind = c .kind; block = c .block; next = c .next; evict = c .evict; level = d .level }
+  abbrev mixed : Request
+  mixed = atLevel (d .level) c
 
   same-hand : asked (some (heldBy d bs′)) ≡ asked (some (heldBy c bs)) → heldBy mixed bs′ ≡ heldBy d bs′
-  unfolding mixed
   same-hand e =
       let f = sym (ap (λ o. Option·getD o (heldBy d bs′)) e) in
       λ k. record { kind = f k .kind; block = f k .block; bytes = if eqb (f k .kind) write then bs′ else []; next = f k .next; evict = f k .evict; level = d .level }
 
   same-request : asked (requestOf d bs′) ≡ asked (requestOf c bs) → requestOf mixed bs′ ≡ requestOf d bs′
-  unfolding requestOf mixed isNone
+  unfolding requestOf isNone
   same-request e = go (eqb (c .kind) 0) (eqb (d .kind) 0) e
     where
       go : (x y : Bool) → asked (if y then none else some (heldBy d bs′)) ≡ asked (if x then none else some (heldBy c bs)) → (if x then none else some (heldBy mixed bs′)) ≡ (if y then none else some (heldBy d bs′))
@@ -38,5 +38,5 @@ module _ (c d : Request) (bs bs′ : List ℕ) where
 
 -- so the bytes stand for the same state
 pub same-state : (c d : Client) (m m′ : List ℕ) → c .shape ≡ d .shape → asked (stateOf d m′ .request) ≡ asked (stateOf c m .request) → stateOf (progressed c d) m′ ≡ stateOf d m′
-unfolding stateOf view mixed
+unfolding stateOf view
 same-state c d m m′ e h = rw e (ap (λ o. setRequest o (stateOf d m′)) (same-request (c .request) (d .request) _ _ h))

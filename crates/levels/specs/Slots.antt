@@ -11,9 +11,8 @@ use Rattle.lists.specs.Tables.{put}
 use Rattle.rules.specs.Shape.{Shape, slots, cell}
 use Rattle.rules.specs.Blocks.{named, holder, isUnread}
 use Rattle.rules.specs.Turn.{markRead}
-use Rattle.rules.specs.Laws.Levels.{two-slots}
 use Rattle.memory.specs.Tables.{tablesOf, withMark}
-use Rattle.memory.specs.Fits.{shapeOf, fit, fit-lt}
+use Rattle.memory.specs.Fits.{shapeOf, fit}
 use Rattle.client.specs.declared.Client.{Client}
 use Rattle.client.specs.View.{view, stateOf}
 use Rattle.client.specs.Changes.{spot-lt, cell-level, view-mark}
@@ -35,10 +34,6 @@ cell-lt h q ℓ base i e hq hℓ hi = omega (arith, cell-room (h .P) (h .L) q �
 cell-from : (h : Shape) (q ℓ i : ℕ) → cell h q ℓ 0 + i ≡ cell h q ℓ i
 unfolding cell
 cell-from h q ℓ i = omega arith
-
--- an item's slot is one of its level
-pub slot-lt : (ℓ n i x : ℕ) → n ≡ slots ℓ → i ≡ fit n x → i < slots ℓ
-slot-lt ℓ n i x e f = rw (f, e) (fit-lt (slots ℓ) x (omega (arith, two-slots ℓ)))
 
 none-zero : (x : ℕ) → isNone (named x) ≡ eqb x 0
 unfolding isNone named

@@ -24,10 +24,9 @@ use Rattle.rules.specs.Laws.Decided.{StepIn, decide-in}
 use Rattle.memory.specs.Fits.{shapeOf, fit, fit-lt}
 use Rattle.memory.specs.Tables.{tablesOf}
 use Rattle.client.specs.declared.Client.{Client}
-use Rattle.client.specs.declared.Request.{Request}
 use Rattle.client.specs.View.{stateOf, view, heldBy, requestOf, bytesIn}
 use Rattle.client.specs.Rows.{length-rows}
-use Rattle.client.specs.Moves.{withRequest, withCursor, withSent, withOut, Stands, then as next}
+use Rattle.client.specs.Moves.{atLevel, withRequest, withCursor, withSent, withOut, Stands, then as next}
 use Rattle.tape.specs.Tape.{wordsOf, draws-enough, taken-all}
 use Rattle.ready.specs.Usable.{Usable}
 use Rattle.meets.specs.declared.Answer.{Answer}
@@ -152,7 +151,7 @@ restated k e = record { state = k .state ∙ e; tail = k .tail }
 
 -- the request goes on from the level above l
 abbrev pub passed : ℕ → Client → Client
-passed l c = withRequest (record { kind = c .request .kind; block = c .request .block; next = c .request .next; evict = c .request .evict; level = l + 1 }) c
+passed l c = withRequest (atLevel (l + 1) (c .request)) c
 
 passed-is : (l : ℕ) (c : Client) (m : List ℕ) → stateOf (passed l c) m ≡ setRequest (passLevel l (stateOf c m .request)) (stateOf c m)
 unfolding stateOf view requestOf passLevel
@@ -161,12 +160,9 @@ passed-is l c m = ap (λ o. setRequest o (stateOf c m)) (go (eqb (c .request .ki
     bs : List ℕ
     bs = tablesOf (shapeOf (c .shape)) m .blocks (c .shape .n)
 
-    at : ℕ → Request
-    at n = record { kind = c .request .kind; block = c .request .block; next = c .request .next; evict = c .request .evict; level = n }
-
-    go : (t : Bool) → (if t then none else some (heldBy (at (l + 1)) bs)) ≡ passLevel l (if t then none else some (heldBy (c .request) bs))
+    go : (t : Bool) → (if t then none else some (heldBy (atLevel (l + 1) (c .request)) bs)) ≡ passLevel l (if t then none else some (heldBy (c .request) bs))
     go true = refl
-    go false = ap (λ n. some (heldBy (at n) bs)) (omega arith)
+    go false = ap (λ n. some (heldBy (atLevel n (c .request)) bs)) (omega arith)
 
 module _ (c d e : Client) (m m₁ m₂ : List ℕ) where
   abbrev S : State
