@@ -19,7 +19,8 @@ use Rattle.meets.specs.Meets.{callOf, commandOf}
 use Rattle.codec.specs.Codec.{answerOf, stateLength}
 use Rattle.exports.specs.Exported.{clientIn, Exported, Opened}
 use Rattle.array.specs.Claim.{Host, Expected, Honest, Plain}
-use Rattle.hiding.specs.Claim.{Lent, first, Compared, Tape, Gives, Matching, told, NoOpen, openOver, AgreeUntil8}
+use Rattle.hiding.specs.Chosen.{Told, Choice, Plays, Draws}
+use Rattle.hiding.specs.Claim.{Lent, first, Same, Compared, Tape, drawsIn, Gives, Matching, told, NoOpen, openOver, Twins, AgreeUntil8}
 
 -- ---- A run of exported calls
 
@@ -43,14 +44,22 @@ Contract turn x = Exported turn (x .state) (x .memory) (x .tape) (x .buffer) (x 
 Contract (completion c bs) x = Exported (completion c bs) (x .state) (x .memory) (x .tape) (x .buffer) (x .answer) (x .state′) (x .memory′) (x .buffer′)
 Contract collect x = Exported collect (x .state) (x .memory) (x .tape) (x .buffer) (x .answer) (x .state′) (x .memory′) (x .buffer′)
 
+-- What an exported function ensures: its contract, and that the memory it is lent has the same length after it. Each function of src/ calls one
+-- of the five and ensures this of it: were the exported one's contract weaker, it would not be proved
+abbrev pub Called : Made → Type 0
+Called x = Contract (x .ask) x × (length (x .memory′) ≡ length (x .memory))
+
+-- the call that asks a, on these bytes, with its answer and the bytes after it
+abbrev pub made : Ask → List ℕ → List ℕ → List ℕ → List ℕ → ℕ → List ℕ → List ℕ → List ℕ → Made
+made a st m tape b u st′ m′ b′ = record { ask = a; state = st; memory = m; tape = tape; buffer = b; answer = u; state′ = st′; memory′ = m′; buffer′ = b′ }
+
 -- The call is handed the state st, and of the memory m all but `rest`. (Handed a state of another length, a call answers 2 and leaves every
 -- byte as it was, by its contract: it is no part of a run)
 pub record Handed (st m rest : List ℕ) (x : Made) : Type 0 where
   pub bytes : length st ≡ stateLength
   pub state : x .state ≡ st
   pub memory : x .memory ++ rest ≡ m
-  pub contract : Contract (x .ask) x
-  pub slice : length (x .memory′) ≡ length (x .memory)  -- the prover asks it for every slice that a function is lent
+  pub called : Called x
 
 -- "Each later call gets the state and the memory as the last one left them, and nobody else writes them meanwhile"
 abbrev pub Runs : List ℕ → List ℕ → List Made → Type 0
@@ -102,7 +111,7 @@ ArrayClaim = (xs : List Made) → FromOpen xs → (host : Host) (m : Expected)
     → Honest host (map callMade xs) (map outcomeOf xs) → Plain m (map callMade xs) (map outcomeOf xs)
 
 -- Demand 3: the tapes of two compared lists are matched; and where the words lent in two runs of them give partners, number, count of words and
--- command are equal at each place
+-- command are equal at each place, whatever bytes completions bring and requests have for contents (a list has but their lengths)
 abbrev pub HidingClaim : Type 0
 HidingClaim = (h : Shape) → h .E ≡ h .N → (m w n : ℕ) (as′ bs′ : List Lent) → Compared h as′ bs′ →
     (p : Matching (Tape closed (first h m w n ∷ as′)) (Tape closed (first h m w n ∷ bs′)))
@@ -110,11 +119,37 @@ HidingClaim = (h : Shape) → h .E ≡ h .N → (m w n : ℕ) (as′ bs′ : Lis
     Gives closed (first h m w n ∷ as′) t (map callMade xs) → Gives closed (first h m w n ∷ bs′) (p .f t) (map callMade ys) →
     map told (map outcomeOf xs) ≡ map told (map outcomeOf ys))
 
--- The smaller cache: the same calls with the same words, with E equal to N and with a smaller E
+-- Both at once, with an honest host in either run: the host is told the same at each place, and each collect hands out a plain array's contents
+abbrev pub HonestClaim : Type 0
+HonestClaim = (h : Shape) → h .E ≡ h .N → (m w n : ℕ) (as′ bs′ : List Lent) → Compared h as′ bs′ →
+    (p : Matching (Tape closed (first h m w n ∷ as′)) (Tape closed (first h m w n ∷ bs′)))
+    × ((t : List ℕ) → Tape closed (first h m w n ∷ as′) t → (xs ys : List Made) → FromOpen xs → FromOpen ys →
+    Gives closed (first h m w n ∷ as′) t (map callMade xs) → Gives closed (first h m w n ∷ bs′) (p .f t) (map callMade ys) →
+    (host host′ : Host) → Honest host (map callMade xs) (map outcomeOf xs) → Honest host′ (map callMade ys) (map outcomeOf ys) → (e e′ : Expected) →
+    (map told (map outcomeOf xs) ≡ map told (map outcomeOf ys))
+    × Plain e (map callMade xs) (map outcomeOf xs) × Plain e′ (map callMade ys) (map outcomeOf ys))
+
+-- The same where each call is chosen by what was told before it, as by a host that completes the commands it was sent
+abbrev pub ChosenExported : Type 0
+ChosenExported = (h : Shape) → h .E ≡ h .N → (m w n : ℕ) (σ τ : Choice) → ((os : List Told) → Same h (σ os) (τ os)) → (k : ℕ) →
+    (p : Matching (Draws h m w n σ k closed) (Draws h m w n τ k closed))
+    × ((xs ys : List Made) → FromOpen xs → FromOpen ys → Plays h m w n σ k closed (map callMade xs) → Plays h m w n τ k closed (map callMade ys) →
+    p .f (drawsIn closed (map callMade xs)) ≡ drawsIn closed (map callMade ys) → (map told (map outcomeOf xs) ≡ map told (map outcomeOf ys))
+    × ((host host′ : Host) → Honest host (map callMade xs) (map outcomeOf xs) → Honest host′ (map callMade ys) (map outcomeOf ys) → (e e′ : Expected) →
+    Plain e (map callMade xs) (map outcomeOf xs) × Plain e′ (map callMade ys) (map outcomeOf ys)))
+
+-- The smaller cache: the same calls with the same words, with E equal to N and with a smaller E. Whatever bytes are brought in either run,
+-- what is told is equal before the first 8
 abbrev pub CacheClaim : Type 0
-CacheClaim = (h : Shape) (e : ℕ) → 1 ≤ e → e < h .N → (m n : ℕ) (ws : List ℕ) (cs : List Call) → NoOpen cs → (xs ys : List Made) → FromOpen xs → FromOpen ys
+CacheClaim = (h : Shape) (e : ℕ) → 1 ≤ e → e < h .N → (m n : ℕ) (ws : List ℕ) (cs ds : List Call) → NoOpen cs → Twins cs ds → (xs ys : List Made) → FromOpen xs → FromOpen ys
+    → map callMade xs ≡ openOver (h .N) h m ws n ∷ cs → map callMade ys ≡ openOver e h m ws n ∷ ds
+    → AgreeUntil8 told (map outcomeOf xs) (map outcomeOf ys)
+
+-- .. and with the same bytes brought in both, the bytes handed out too
+abbrev pub CacheBytesClaim : Type 0
+CacheBytesClaim = (h : Shape) (e : ℕ) → 1 ≤ e → e < h .N → (m n : ℕ) (ws : List ℕ) (cs : List Call) → NoOpen cs → (xs ys : List Made) → FromOpen xs → FromOpen ys
     → map callMade xs ≡ openOver (h .N) h m ws n ∷ cs → map callMade ys ≡ openOver e h m ws n ∷ cs
-    → AgreeUntil8 (map outcomeOf xs) (map outcomeOf ys)
+    → AgreeUntil8 (λ o. o) (map outcomeOf xs) (map outcomeOf ys)
 
 -- The words of a run may be any: words of 16 bits are those of some bytes. (`Tapes` of crate `hiding` gives each tape such words)
 abbrev pub WordsClaim : Type 0

@@ -80,8 +80,8 @@ example = record {
   runs = (
     4 ∷ [],
     (
-      record { bytes = refl; state = refl; memory = refl; contract = open-contract; slice = refl },
-      (2 ∷ 3 ∷ 4 ∷ [], (record { bytes = refl; state = refl; memory = refl; contract = turn-contract; slice = refl }, tt)),
+      record { bytes = refl; state = refl; memory = refl; called = (open-contract, refl) },
+      (2 ∷ 3 ∷ 4 ∷ [], (record { bytes = refl; state = refl; memory = refl; called = (turn-contract, refl) }, tt)),
     ),
   );
 }

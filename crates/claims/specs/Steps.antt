@@ -208,5 +208,5 @@ pub made-step : (st m rest : List ℕ) (x : Made) → Handed st m rest x
     → (outcomeOf x ≡ step (stateOf (clientIn st) m) (callMade x) .1) × (stateOf (clientIn (x .state′)) (x .memory′ ++ rest) ≡ step (stateOf (clientIn st) m) (callMade x) .0)
 made-step st m rest x k =
     let e : stateOf (clientIn (x .state)) (x .memory ++ rest) ≡ stateOf (clientIn st) m = λ i. stateOf (clientIn (k .state i)) (k .memory i) in
-    let y = every-steps x rest (ap length (k .state) ∙ k .bytes) (k .slice) (x .ask) (k .contract) in
+    let y = every-steps x rest (ap length (k .state) ∙ k .bytes) (k .called .1) (x .ask) (k .called .0) in
     (y .0 ∙ ap (λ s. step s (callMade x) .1) e, y .1 ∙ ap (λ s. step s (callMade x) .0) e)

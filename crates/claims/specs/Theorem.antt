@@ -10,8 +10,9 @@ use Rattle.reachable.specs.Reached.{open-first}
 use Rattle.array.specs.Claim.{Honest, Plain}
 use Rattle.array.specs.Theorem.{plain-array}
 use Rattle.hiding.specs.Claim.{told}
+use Rattle.hiding.specs.Chosen.{chosen-hidden}
 use Rattle.hiding.specs.Theorem.{hidden}
-use Rattle.claims.specs.Claim.{Made, Runs, Opens, callMade, outcomeOf, RulesClaim, ArrayClaim, HidingClaim, CacheClaim}
+use Rattle.claims.specs.Claim.{Made, Runs, Opens, callMade, outcomeOf, RulesClaim, ArrayClaim, HidingClaim, HonestClaim, ChosenExported, CacheClaim, CacheBytesClaim}
 use Rattle.claims.specs.Steps.{made-step}
 
 -- from any bytes of state and memory: each call finds the state that the last one left
@@ -46,7 +47,29 @@ exported-hiding h e m w n as′ bs′ k =
     let y = hidden .lists h e m w n as′ bs′ k closed closed in
     (y .0, (λ t a xs ys q r u v. ap (map told) (exported-run xs q) ∙ y .1 t a (map callMade xs) (map callMade ys) u v ∙ sym (ap (map told) (exported-run ys r))))
 
+-- Both, with an honest host
+pub exported-honest : HonestClaim
+exported-honest h e m w n as′ bs′ k =
+    let y = exported-hiding h e m w n as′ bs′ k in (
+      y .0,
+      (λ t a xs ys q r u v host host′ c d x x′. (y .1 t a xs ys q r u v, exported-array xs q host x c, exported-array ys r host′ x′ d)),
+    )
+
+pub exported-chosen : ChosenExported
+exported-chosen h e m w n σ τ alike k =
+    let y = chosen-hidden h e m w n σ τ alike k closed closed in (
+      y .0,
+      (λ xs ys q r a b u. (
+        ap (map told) (exported-run xs q) ∙ y .1 (map callMade xs) (map callMade ys) a b u ∙ sym (ap (map told) (exported-run ys r)),
+        (λ host host′ c d x x′. (exported-array xs q host x c, exported-array ys r host′ x′ d)),
+      )),
+    )
+
 -- The smaller cache
 pub exported-cache : CacheClaim
-exported-cache h e lo hi m n ws cs k xs ys q r u v =
-    rw (exported-run xs q ∙ ap (run closed) u, exported-run ys r ∙ ap (run closed) v) (hidden .cache h e lo hi m n ws cs k closed closed)
+exported-cache h e lo hi m n ws cs ds k l xs ys q r u v =
+    rw (exported-run xs q ∙ ap (run closed) u, exported-run ys r ∙ ap (run closed) v) (hidden .cache .tells h e lo hi m n ws cs ds k l closed closed)
+
+pub exported-cache-bytes : CacheBytesClaim
+exported-cache-bytes h e lo hi m n ws cs k xs ys q r u v =
+    rw (exported-run xs q ∙ ap (run closed) u, exported-run ys r ∙ ap (run closed) v) (hidden .cache .whole h e lo hi m n ws cs k closed closed)

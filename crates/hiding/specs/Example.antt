@@ -2,7 +2,10 @@
 -- One partition with two levels, two blocks. Both lists open, make a request, collect it, let the two jobs run and make a second request. The
 -- first list writes block 0 and then reads it. The second reads block 1 and then writes block 0, which is nowhere and so costs a dummy. The draws
 -- that are not below 1 are one order of two slots and one of four: 48 tapes. In either list each of the four slots of level 1 is read with twelve
--- of them, and all else is the same.
+-- of them. Both lists go on with a completion of that read as one of slot 2, and a collect: they are accepted with those twelve tapes and refused
+-- with the others. All else is the same.
+-- With an honest host, the bytes that a read brings depend on the tape. What is told is the same as if it brought zeros, and where the second
+-- request is collected, the first list's hands out the 7 that it wrote, and the second's a 0.
 use mathlib.Core.Path.{_≡_, refl}
 use mathlib.Core.Bool.{true}
 use mathlib.Core.List.{List, [], _∷_, _++_, map}
@@ -15,19 +18,21 @@ use Rattle.lists.specs.Tests.{if_then_else_, between}
 use Rattle.rules.specs.Questions.{Ask, opening, request, turn, completion, collect, Call}
 use Rattle.rules.specs.Unfold.{model, shape, call}
 use Rattle.rules.specs.State.{Command, cmd, read, write, closed}
-use Rattle.rules.specs.Run.{run}
+use Rattle.rules.specs.Run.{Outcome, run}
 use Rattle.rules.specs.Ranges.{isKind, bytesOf}
 use Rattle.rules.specs.Shape.{Shape}
 use Rattle.rules.specs.Draws.{newOrder}
 use Rattle.hiding.specs.Theorem.{hidden}
 use Rattle.hiding.specs.Claim
-use Rattle.hiding.specs.Claim.{Lent, first, WellFormed, Alike, wellFormed, turns, completions, collects, Same, Compared, Tape, Lends, drawsOf, drawsIn, told, Matching}
+use Rattle.array.specs.Claim.{Slots, store, sends as hostSends}
+use Rattle.array.specs.Served.{fit, brings, served}
+use Rattle.hiding.specs.Claim.{Outline, aTurn, aCompletion, aCollect, outline, Lent, first, WellFormed, Alike, wellFormed, turns, completions, collects, Same, Compared, Tape, Lends, drawsOf, drawsIn, told, Matching}
 
 abbrev two : Shape
 two = shape 2 1 2 1 2 1
 
 -- a call, with the words it is lent
-abbrev lent : Ask → ℕ → ℕ → Lent
+abbrev lent : Outline → ℕ → ℕ → Lent
 lent a w n = record { ask = a; memory = 1000; words = w; buffer = n }
 
 -- a command is sent, with these words, and completed
@@ -46,22 +51,25 @@ jobs j a b c =
     ∷ sends write 1 0 (a ∷ b ∷ c ∷ []) ∷ sends write 1 1 [] ∷ sends write 1 2 [] ∷ sends write 1 3 []
     ∷ []
 
--- what the host brings for a read
+-- how many bytes are brought for a read; in these runs they are zeros
+abbrev many : ℕ → ℕ
+many k = if eqb k read then 1 else 0
+
 abbrev brought : ℕ → List ℕ
 brought k = if eqb k read then 0 ∷ [] else []
 
--- the jobs and then the second request, r, with its turn
+-- the jobs and then the second request, r, with its turn, a completion and a collect
 unfoldable pub calls : Ask → List Sends → List Call
-calls r [] = call r 1000 (0 ∷ 0 ∷ []) 0 ∷ call turn 1000 [] 1 ∷ []
+calls r [] = call r 1000 (0 ∷ 0 ∷ []) 0 ∷ call turn 1000 [] 1 ∷ call (completion (cmd read 0 1 2) (0 ∷ [])) 1000 [] 0 ∷ call collect 1000 [] 1 ∷ []
 calls r (x ∷ xs) = call turn 1000 (x .words) 1 ∷ call (completion (x .command) (brought (x .command .kind))) 1000 [] 0 ∷ calls r xs
 
-unfoldable pub list : Ask → List Sends → List Lent
-list r [] = lent r 2 0 ∷ lent turn 0 1 ∷ []
-list r (x ∷ xs) = lent turn (length (x .words)) 1 ∷ lent (completion (x .command) (brought (x .command .kind))) 0 0 ∷ list r xs
+unfoldable pub list : Outline → List Sends → List Lent
+list r [] = lent r 2 0 ∷ lent aTurn 0 1 ∷ lent (aCompletion (cmd read 0 1 2) 1) 0 0 ∷ lent aCollect 0 1 ∷ []
+list r (x ∷ xs) = lent aTurn (length (x .words)) 1 ∷ lent (aCompletion (x .command) (many (x .command .kind))) 0 0 ∷ list r xs
 
 -- the list after its open, and its run with these draws
 abbrev later : Ask → Ask → List Lent
-later r₁ r₂ = lent r₁ 2 0 ∷ lent collect 0 1 ∷ list r₂ (jobs 0 0 0 0)
+later r₁ r₂ = lent (outline r₁) 2 0 ∷ lent aCollect 0 1 ∷ list (outline r₂) (jobs 0 0 0 0)
 
 abbrev runs : Ask → Ask → ℕ → ℕ → ℕ → ℕ → List Call
 runs r₁ r₂ j a b c = call (opening two) 1000 (0 ∷ 0 ∷ []) 0 ∷ call r₁ 1000 (0 ∷ 0 ∷ []) 0 ∷ call collect 1000 [] 1 ∷ calls r₂ (jobs j a b c)
@@ -81,23 +89,24 @@ b₂ = request write 0 (9 ∷ [])
 
 -- ---- they are compared
 
-well : (k b : ℕ) (bs : List ℕ) → isKind k ≡ true → b < 2 → length bs ≡ bytesOf two k → WellFormed two k b bs
-well k b bs x y z = record { kind = x; block = y; contents = z }
+well : (k b n : ℕ) → isKind k ≡ true → b < 2 → n ≡ bytesOf two k → WellFormed two k b n
+well k b n x y z = record { kind = x; block = y; contents = z }
 
-same : (a b : Ask) (w n : ℕ) → Alike two a b → Same two (lent a w n) (lent b w n)
+same : (a b : Outline) (w n : ℕ) → Alike two a b → Same two (lent a w n) (lent b w n)
 same a b w n k = record { ask = k; memory = refl; words = refl; buffer = refl }
 
-rest-compared : (r q : Ask) → Alike two r q → (xs : List Sends) → Compared two (list r xs) (list q xs)
+rest-compared : (r q : Outline) → Alike two r q → (xs : List Sends) → Compared two (list r xs) (list q xs)
 unfolding list
-rest-compared r q k [] = Claim.more (same r q 2 0 k) (Claim.more (same turn turn 0 1 turns) Claim.none)
-rest-compared r q k (x ∷ xs) = Claim.more (same turn turn _ 1 turns) (Claim.more (same _ _ 0 0 (completions refl)) (rest-compared r q k xs))
+rest-compared r q k [] =
+    Claim.more (same r q 2 0 k) (Claim.more (same aTurn aTurn 0 1 turns) (Claim.more (same _ _ 0 0 completions) (Claim.more (same aCollect aCollect 0 1 collects) Claim.none)))
+rest-compared r q k (x ∷ xs) = Claim.more (same aTurn aTurn _ 1 turns) (Claim.more (same _ _ 0 0 completions) (rest-compared r q k xs))
 
 pub compared : Compared two (later a₁ a₂) (later b₁ b₂)
 unfolding isKind between bytesOf
 compared =
-    Claim.more (same a₁ b₁ 2 0 (wellFormed (well write 0 (7 ∷ []) refl (omega arith) refl) (well read 1 [] refl (omega arith) refl)))
-    (Claim.more (same collect collect 0 1 collects)
-    (rest-compared a₂ b₂ (wellFormed (well read 0 [] refl (omega arith) refl) (well write 0 (9 ∷ []) refl (omega arith) refl)) (jobs 0 0 0 0)))
+    Claim.more (same (outline a₁) (outline b₁) 2 0 (wellFormed (well write 0 1 refl (omega arith) refl) (well read 1 0 refl (omega arith) refl)))
+    (Claim.more (same aCollect aCollect 0 1 collects)
+    (rest-compared (outline a₂) (outline b₂) (wellFormed (well read 0 0 refl (omega arith) refl) (well write 0 1 refl (omega arith) refl)) (jobs 0 0 0 0)))
 
 -- ---- their tapes
 
@@ -115,9 +124,10 @@ tape j a b c = 0 ∷ 0 ∷ 0 ∷ 0 ∷ j ∷ a ∷ b ∷ c ∷ 0 ∷ 0 ∷ []
 lends : (r₁ r₂ : Ask) (j a b c : ℕ) → Lends (first two 1000 2 0 ∷ later r₁ r₂) (runs r₁ r₂ j a b c)
 unfolding list calls
 lends r₁ r₂ j a b c =
-    Claim.more refl (Claim.more refl (Claim.more refl (Claim.more refl (Claim.more refl (Claim.more refl (Claim.more refl
-    (Claim.more refl (Claim.more refl (Claim.more refl (Claim.more refl (Claim.more refl (Claim.more refl (Claim.more refl
-    (Claim.more refl (Claim.more refl (Claim.more refl (Claim.more refl (Claim.more refl (Claim.more refl (Claim.more refl Claim.none))))))))))))))))))))
+    Claim.more refl refl (Claim.more refl refl (Claim.more refl refl (Claim.more refl refl (Claim.more refl refl (Claim.more refl refl (Claim.more refl refl
+    (Claim.more refl refl (Claim.more refl refl (Claim.more refl refl (Claim.more refl refl (Claim.more refl refl (Claim.more refl refl (Claim.more refl refl
+    (Claim.more refl refl (Claim.more refl refl (Claim.more refl refl (Claim.more refl refl (Claim.more refl refl (Claim.more refl refl (Claim.more refl refl
+    (Claim.more refl refl (Claim.more refl refl Claim.none))))))))))))))))))))))
 
 -- the runs with these words have tapes ..
 pub tapes : (r₁ r₂ : Ask) (j a b c : ℕ) → Tape closed (first two 1000 2 0 ∷ later r₁ r₂) (drawsIn closed (runs r₁ r₂ j a b c))
@@ -150,6 +160,10 @@ matching = hidden .lists two refl 1000 2 0 (later a₁ a₂) (later b₁ b₂) c
 abbrev zeros : Command
 zeros = cmd 0 0 0 0
 
+-- the completion of a read of slot 2, and the collect
+abbrev ends : ℕ → List (ℕ × ℕ × Command)
+ends i = if eqb i 2 then (0, 0, zeros) ∷ (0, 0, zeros) ∷ [] else (11, 0, zeros) ∷ (14, 0, zeros) ∷ []
+
 -- if the second request reads slot i
 abbrev shows : ℕ → List (ℕ × ℕ × Command)
 shows i =
@@ -158,7 +172,7 @@ shows i =
     ∷ (0, 0, cmd read 0 0 0) ∷ (0, 0, zeros) ∷ (0, 0, cmd read 0 0 1) ∷ (0, 0, zeros)
     ∷ (0, 3, cmd write 0 1 0) ∷ (0, 0, zeros) ∷ (0, 0, cmd write 0 1 1) ∷ (0, 0, zeros)
     ∷ (0, 0, cmd write 0 1 2) ∷ (0, 0, zeros) ∷ (0, 0, cmd write 0 1 3) ∷ (0, 0, zeros)
-    ∷ (0, 2, zeros) ∷ (0, 0, cmd read 0 1 i) ∷ []
+    ∷ (0, 2, zeros) ∷ (0, 0, cmd read 0 1 i) ∷ ends i
 
 -- the slot of an item
 abbrev slotOf : ℕ → ℕ → ℕ → ℕ → ℕ → ℕ
@@ -180,3 +194,27 @@ counted xs = map (λ i. length (keep (eqb i) xs)) (below 4)
 pub as-often : (counted (each (slotOf 0)) ≡ 12 ∷ 12 ∷ 12 ∷ 12 ∷ []) × (counted (each (slotOf 1)) ≡ 12 ∷ 12 ∷ 12 ∷ 12 ∷ [])
 unfolding model
 as-often = (refl, refl)
+
+-- ---- with an honest host
+
+-- what was in the slots before
+abbrev unknown : Slots
+unknown q ℓ i = 255 ∷ []
+
+abbrev honestly : Ask → Ask → ℕ → ℕ → ℕ → ℕ → List Call
+honestly r₁ r₂ j a b c = served unknown closed (runs r₁ r₂ j a b c)
+
+-- what is told, and what the last call, the second collect, hands out
+abbrev seen : List Outcome → List (ℕ × ℕ × Command) × List ℕ
+seen os = (map told os, getD (map (λ (o : Outcome). o .bytes) os) 22 [])
+
+-- What is told is the same as before. The collect hands out what the array has at block 0, where it is accepted
+pub honest-first : each (λ j a b c. seen (run closed (honestly a₁ a₂ j a b c)))
+    ≡ each (λ j a b c. (shows (slotOf 0 j a b c), if eqb (slotOf 0 j a b c) 2 then 7 ∷ [] else []))
+unfolding model calls served brings fit hostSends store
+honest-first = refl
+
+pub honest-second : each (λ j a b c. seen (run closed (honestly b₁ b₂ j a b c)))
+    ≡ each (λ j a b c. (shows (slotOf 1 j a b c), if eqb (slotOf 1 j a b c) 2 then 0 ∷ [] else []))
+unfolding model calls served brings fit hostSends store
+honest-second = refl

@@ -12,5 +12,9 @@ pub mod Cache
 pub mod Reached
 -- The theorem, `hidden`
 pub mod Theorem
+-- The same with an honest host, and demand 2 with it
+pub mod Honest
+-- The calls may be chosen by what was told
+pub mod Chosen
 -- Two lists of a small shape, computed
 pub mod Example

@@ -1,4 +1,5 @@
 pub mod Matched
+pub mod Bytes
 pub mod Calls
 pub mod Runs
 pub mod Words

@@ -48,11 +48,11 @@ use Rattle.reachable.specs.Reached.{Was, was-reached, step-was, shut, op
 use Rattle.reachable.specs.Terms.{One, lastKind, EachAfterWrite}
 
 module _ (q ℓ i : ℕ) where
-  kind-here : (k : ℕ) (c : Command) → 0 < c .kind → One (c .partition) (c .level) (c .slot) q ℓ i → lastKind q ℓ i k c ≡ c .kind
+  pub kind-here : (k : ℕ) (c : Command) → 0 < c .kind → One (c .partition) (c .level) (c .slot) q ℓ i → lastKind q ℓ i k c ≡ c .kind
   unfolding lastKind
   kind-here k c p w = rw (lt-ltb 0 (c .kind) p, eq-eqb (c .partition) q (w .0), eq-eqb (c .level) ℓ (w .1), eq-eqb (c .slot) i (w .2))
 
-  kind-else : (k : ℕ) (c : Command) → ¬ One (c .partition) (c .level) (c .slot) q ℓ i → lastKind q ℓ i k c ≡ k
+  pub kind-else : (k : ℕ) (c : Command) → ¬ One (c .partition) (c .level) (c .slot) q ℓ i → lastKind q ℓ i k c ≡ k
   unfolding lastKind
   kind-else k c n = go (ltb 0 (c .kind)) (ℕ-discrete (c .partition) q) (ℕ-discrete (c .level) ℓ) (ℕ-discrete (c .slot) i)
     where
@@ -63,7 +63,7 @@ module _ (q ℓ i : ℕ) where
       go true (yes x) (no y) z = rw (eq-eqb (c .partition) q x, ne-eqb (c .level) ℓ y)
       go true (yes x) (yes y) (no z) = rw (eq-eqb (c .partition) q x, eq-eqb (c .level) ℓ y, ne-eqb (c .slot) i z)
 
-  kind-zero : (k : ℕ) (c : Command) → ltb 0 (c .kind) ≡ false → lastKind q ℓ i k c ≡ k
+  pub kind-zero : (k : ℕ) (c : Command) → ltb 0 (c .kind) ≡ false → lastKind q ℓ i k c ≡ k
   unfolding lastKind
   kind-zero k c e = rw e
 
@@ -72,7 +72,7 @@ module _ (q ℓ i : ℕ) where
   kind-none k = refl
 
   -- In a state, where k is the kind of the last command to the slot: an unread slot, but one of a drawn target to which no write was sent yet, was written last
-  abbrev Last : State → ℕ → Type 0
+  abbrev pub Last : State → ℕ → Type 0
   Last s k = ℓ < s .shape .L → i < slots ℓ → s .mark (cell (s .shape) q ℓ i) ≡ 1 → (Target s q ℓ → i < s .sent) → k ≡ write
 
   -- A read of an unread slot outside a drawn target
@@ -190,7 +190,7 @@ module _ (q ℓ i : ℕ) where
   refuse-last : (s : State) (k : ℕ) (a : Ask) → opens a ≡ false → Last s k → Last (Run.refuse s a) k
   refuse-last s k a e last = rw (refuse-keeps s a e) last
 
-  step-last : (s : State) (k : ℕ) (c : Call) → opens (c .ask) ≡ false → Was s → Last s k → (step s c .1 .command ≡ cmd read q ℓ i → k ≡ write) × Last (step s c .0) (lastKind q ℓ i k (step s c .1 .command))
+  pub step-last : (s : State) (k : ℕ) (c : Call) → opens (c .ask) ≡ false → Was s → Last s k → (step s c .1 .command ≡ cmd read q ℓ i → k ≡ write) × Last (step s c .0) (lastKind q ℓ i k (step s c .1 .command))
   step-last s k c o l last = go (eqb (number s c) 0) refl
     where
       go : (t : Bool) → eqb (number s c) 0 ≡ t → (step s c .1 .command ≡ cmd read q ℓ i → k ≡ write) × Last (step s c .0) (lastKind q ℓ i k (step s c .1 .command))
@@ -210,7 +210,7 @@ module _ (q ℓ i : ℕ) where
       (x .0, run-last cs t (step s c .0) (lastKind q ℓ i k (step s c .1 .command)) (step-was s c l) (x .1))
 
   -- what an open leaves: nothing is unread
-  open-last : (h : Shape) (c : Call) → c .ask ≡ opening h → (step closed c .1 .command ≡ cmd 0 0 0 0) × ((k : ℕ) → Last (step closed c .0) k)
+  pub open-last : (h : Shape) (c : Call) → c .ask ≡ opening h → (step closed c .1 .command ≡ cmd 0 0 0 0) × ((k : ℕ) → Last (step closed c .0) k)
   open-last h c e = go (eqb (number closed c) 0) refl
     where
       none-marked : (a : Ask) → a ≡ opening h → (js : List ℕ) (k : ℕ) → Last (act closed a js) k

@@ -3,7 +3,7 @@ use mathlib.Core.Path.{_≡_, refl, ap, sym, _∙_}
 use mathlib.Core.Bool.{Bool, true, false, true≢false}
 use mathlib.Core.List.{List, [], _∷_}
 use mathlib.Core.Option.{Option, none, some}
-use Prim.Native.Nat.{ℕ, _≤_}
+use Prim.Native.Nat.{ℕ, _≤_, _<_}
 use native.Mathlib.Omega.{arith}
 use lib.ListN.{length-append}
 use lib.Dec.{eqb}
@@ -19,14 +19,16 @@ use Rattle.rules.specs.Run.{Outcome, act, step, run}
 use Rattle.rules.specs.Memory
 use Rattle.rules.specs.Turn
 use Rattle.rules.specs.Turn.{Step, idle, noDummy, readForRequest, readForJob, rebuild, writeNext, decide, doStep}
-use Rattle.rules.specs.State.{State, closed, Request}
+use Rattle.rules.specs.State.{State, closed, Request, Command}
 use Rattle.rules.specs.Rebuild
 use Rattle.rules.specs.Laws.Answers.{step-number, opens, Passed, accepted-passed, step-accepted, step-refused, refuse-keeps}
 use Rattle.rules.specs.Request
 use Rattle.rules.specs.Shape
 use Rattle.rules.specs.Shape.{Shape}
 use Rattle.hiding.specs.Unchanged.{Rest, complete-rest}
-use Rattle.hiding.specs.Claim.{withCache, NoOpen, openOver, AgreeUntil8, done, full, equal, Smaller}
+use Rattle.hiding.specs.Claim
+use Rattle.hiding.specs.Claim.{told, withCache, NoOpen, openOver, Twin, Twins, AgreeUntil8, done, full, equal, Smaller}
+use Rattle.hiding.specs.Lists.Bytes.{bare, twin-tells, twin-next}
 use Rattle.hiding.specs.Cache.Over.{withE, bounds-E, act-E, sentCommand-E, handed-E, questions-E, firstNo-looser}
 
 -- The invariant: the shape stays, and what waits fits
@@ -78,7 +80,11 @@ accepted-E : (e : ℕ) (s : State) (a : Ask) (d : Option Drawn) → opens a ≡ 
 unfolding Run.accepted
 accepted-E e s a d o = rw (act-E′ e s a (Run.numbersOf d) o, sentCommand-E e s a, handed-E e s (act s a (Run.numbersOf d)) a)
 
-agree-refl : (xs : List Outcome) → AgreeUntil8 xs xs
+-- equal outcomes, bytes and all
+abbrev Agree : List Outcome → List Outcome → Type 0
+Agree = AgreeUntil8 (λ o. o)
+
+agree-refl : (xs : List Outcome) → Agree xs xs
 agree-refl [] = done
 agree-refl (x ∷ xs) = equal refl (agree-refl xs)
 
@@ -133,16 +139,16 @@ module _ (e n : ℕ) (le : e ≤ n) (he : 1 ≤ e) where
       go false q = refused-both s c o f (eqb-false (number (withE e s) c) 0 q) k
 
   -- Two runs from one state over caches of n and of e places, e at most n
-  cache-run : (cs : List Call) (s : State) → Fits e n s → NoOpen cs → AgreeUntil8 (run (withE n s) cs) (run (withE e s) cs)
+  cache-run : (cs : List Call) (s : State) → Fits e n s → NoOpen cs → Agree (run (withE n s) cs) (run (withE e s) cs)
   unfolding run
   cache-run [] s f l = done
   cache-run (c ∷ cs) s f l = go (eqb (number (withE e s) c) 8) refl (λ s′ f′. cache-run cs s′ f′ (l .1))
     where
-      go : (t : Bool) → eqb (number (withE e s) c) 8 ≡ t → ((s′ : State) → Fits e n s′ → AgreeUntil8 (run (withE n s′) cs) (run (withE e s′) cs))
-          → AgreeUntil8 (run (withE n s) (c ∷ cs)) (run (withE e s) (c ∷ cs))
+      go : (t : Bool) → eqb (number (withE e s) c) 8 ≡ t → ((s′ : State) → Fits e n s′ → Agree (run (withE n s′) cs) (run (withE e s′) cs))
+          → Agree (run (withE n s) (c ∷ cs)) (run (withE e s) (c ∷ cs))
       go true q rest = full (step-number (withE e s) c ∙ eqb-true (number (withE e s) c) 8 q)
       go false q rest = let b = both s c (l .0) f (eqb-false (number (withE e s) c) 8 q) in
-          let r : AgreeUntil8 (run (step (withE n s) c .0) cs) (run (step (withE e s) c .0) cs) = rw (b .small, b .large) (rest (b .next) (b .fits)) in
+          let r : Agree (run (step (withE n s) c .0) cs) (run (step (withE e s) c .0) cs) = rw (b .small, b .large) (rest (b .next) (b .fits)) in
           equal (b .outcome) r
 
 module _ (e : ℕ) (h : Shape) (he : 1 ≤ e) (le : e ≤ h .N) (m : ℕ) (ws : List ℕ) (k : ℕ) where
@@ -154,7 +160,7 @@ module _ (e : ℕ) (h : Shape) (he : 1 ≤ e) (le : e ≤ h .N) (m : ℕ) (ws : 
   unfolding number questions bounds Memory.needed
   open-alike = rw within-E
 
-  smaller-cache : (cs : List Call) → NoOpen cs → AgreeUntil8 (run closed (openOver (h .N) h m ws k ∷ cs)) (run closed (openOver e h m ws k ∷ cs))
+  smaller-cache : (cs : List Call) → NoOpen cs → Agree (run closed (openOver (h .N) h m ws k ∷ cs)) (run closed (openOver e h m ws k ∷ cs))
   unfolding run
   smaller-cache cs l = go (eqb (number closed (openOver e h m ws k)) 0) refl
     where
@@ -173,7 +179,7 @@ module _ (e : ℕ) (h : Shape) (he : 1 ≤ e) (le : e ≤ h .N) (m : ℕ) (ws : 
       no-one : (i : ℕ) → (number closed (openOver i h m ws k) ≡ 0 → ⊥) → step closed (openOver i h m ws k) ≡ (closed, Run.refused (number closed (openOver i h m ws k)))
       no-one i z = unfold Run.refuse in (step-refused closed (openOver i h m ws k) z)
 
-      go : (t : Bool) → eqb (number closed (openOver e h m ws k)) 0 ≡ t → AgreeUntil8 (run closed (openOver (h .N) h m ws k ∷ cs)) (run closed (openOver e h m ws k ∷ cs))
+      go : (t : Bool) → eqb (number closed (openOver e h m ws k)) 0 ≡ t → Agree (run closed (openOver (h .N) h m ws k ∷ cs)) (run closed (openOver e h m ws k ∷ cs))
       go true q = let z = eqb-true (number closed (openOver e h m ws k)) 0 q in
           rw (yes-one e z, yes-one (h .N) (open-alike ∙ z)) (equal refl (cache-run e (h .N) le he cs s s-fits l))
       go false q = let z = eqb-false (number closed (openOver e h m ws k)) 0 q in
@@ -184,6 +190,26 @@ run-open : (s : State) (h : Shape) (e m n : ℕ) (ws : List ℕ) (cs : List Call
 unfolding run step number questions bounds Run.accepted act Run.sentCommand Run.handed Run.refuse
 run-open s h e m n ws cs = refl
 
+smaller-whole : (h : Shape) (e : ℕ) → 1 ≤ e → e < h .N → (m n : ℕ) (ws : List ℕ) (cs : List Call) → NoOpen cs → (s s′ : State) →
+    Agree (run s (openOver (h .N) h m ws n ∷ cs)) (run s′ (openOver e h m ws n ∷ cs))
+smaller-whole h e he le m n ws cs l s s′ = rw (run-open s h (h .N) m n ws cs, run-open s′ h e m n ws cs) (smaller-cache e h he (omega arith) m ws n cs l)
+
+-- what is told does not depend on the bytes that the second run is brought
+agree-told : (cs ds : List Call) → Twins cs ds → (s s′ : State) → bare s ≡ bare s′ → (xs : List Outcome) → Agree xs (run s cs) → AgreeUntil8 told xs (run s′ ds)
+unfolding run
+agree-told [] [] Claim.none s s′ e [] done = done
+agree-told (c ∷ cs) (d ∷ ds) (Claim.more t ts) s s′ e (x ∷ xs) (full q) = full (ap (λ (o : ℕ × ℕ × Command). o .0) (sym (twin-tells c d t s s′ e)) ∙ q)
+agree-told (c ∷ cs) (d ∷ ds) (Claim.more t ts) s s′ e (x ∷ xs) (equal p r) =
+    equal (ap told p ∙ twin-tells c d t s s′ e) (agree-told cs ds ts (step s c .0) (step s′ d .0) (twin-next c d t s s′ e) xs r)
+
+itself : (c : Call) → Twin c c
+itself c = record { ask = refl; memory = refl; words = refl; buffer = refl }
+
 -- The second claim
 pub smaller : Smaller
-smaller h e he le m n ws cs l s s′ = rw (run-open s h (h .N) m n ws cs, run-open s′ h e m n ws cs) (smaller-cache e h he (omega arith) m ws n cs l)
+smaller = record {
+  whole = smaller-whole;
+  tells = λ h e he le m n ws cs ds l t s s′.
+      agree-told (openOver e h m ws n ∷ cs) (openOver e h m ws n ∷ ds) (Claim.more (itself (openOver e h m ws n)) t) s′ s′ refl
+      (run s (openOver (h .N) h m ws n ∷ cs)) (smaller-whole h e he le m n ws cs l s s′);
+}

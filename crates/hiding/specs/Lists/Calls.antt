@@ -1,8 +1,8 @@
 -- One call of a list: what the claim says of it is what the run does and what the machine shows.
-use mathlib.Core.Path.{_≡_, refl, ap, sym, _∙_}
+use mathlib.Core.Path.{_≡_, refl, ap, sym, _∙_, subst}
 use mathlib.Core.Bool.{Bool, true, false, not, _&&_, true≢false}
 use mathlib.Core.Logic.{_↔_, Iff·rfl}
-use mathlib.Core.List.{List, [], _∷_}
+use mathlib.Core.List.{List, [], _∷_, map}
 use mathlib.Core.Option.{Option}
 use Prim.Native.Nat.{ℕ, zero, suc, _+_, _^_, _≤_, _<_}
 use native.Mathlib.Omega.{arith}
@@ -35,7 +35,9 @@ use Rattle.hiding.specs.Lists.Matched.{wants}
 use Rattle.hiding.specs.Machines.Public
 use Rattle.hiding.specs.Machines.Public.{Later, Entry, later, ask}
 use Rattle.hiding.specs.Machines.Needs.{Reachable}
-use Rattle.hiding.specs.Claim.{Lent, lend, numberOf, boundsOf, nextOf, drawsOf, told, first}
+use Rattle.hiding.specs.Claim
+use Rattle.hiding.specs.Lists.Bytes.{bareCall}
+use Rattle.hiding.specs.Claim.{Lends, Outline, anOpen, aRequest, aTurn, aCompletion, aCollect, zeroed, Lent, lend, numberOf, boundsOf, nextOf, drawsOf, told, first}
 use Rattle.hiding.specs.Machines.Ideal.{nothingSent}
 
 -- ---- a list as the machine has it
@@ -48,11 +50,15 @@ entryOf (completion c bs) m w n = later (Public.later-completion c bs) m w n
 entryOf collect m w n = later Public.later-collect m w n
 
 abbrev pub entry : Lent → Entry
-entry a = entryOf (a .ask) (a .memory) (a .words) (a .buffer)
+entry a = entryOf (zeroed (a .ask)) (a .memory) (a .words) (a .buffer)
+
+-- the call with zeros for bytes
+abbrev pub plain : Lent → List ℕ → Call
+plain a ws = lend a (zeroed (a .ask)) ws
 
 -- ---- what the claim says of it, and what the run says
 
-abbrev lent : Ask → ℕ → ℕ → ℕ → Lent
+abbrev lent : Outline → ℕ → ℕ → ℕ → Lent
 lent k m w n = record { ask = k; memory = m; words = w; buffer = n }
 
 -- the bounds that a shape gives are of few bits
@@ -82,12 +88,16 @@ step-few h w (readForJob q ℓ i) k = nil
 step-few h w (rebuild q t) k = orders-few (slots t) (levels-few h w t (k .1))
 step-few h w (writeNext q t i) k = nil
 
+-- a call that asks this
+abbrev pub called : Ask → ℕ → List ℕ → ℕ → Call
+called k m ws n = record { ask = k; memory = m; words = ws; buffer = n }
+
 -- what is told of a call
 unfoldable pub toldOf : State → Lent → ℕ × ℕ × Command
-toldOf s a = if eqb (numberOf s a) 0 then (0, length (bounds s (a .ask)), sentCommand s (a .ask)) else (numberOf s a, 0, nothingSent)
+toldOf s a = if eqb (numberOf s a) 0 then (0, length (bounds s (zeroed (a .ask))), sentCommand s (zeroed (a .ask))) else (numberOf s a, 0, nothingSent)
 
 -- the number depends on how many words are lent
-number-words : (s : State) (k : Ask) (m n : ℕ) (ws vs : List ℕ) → length ws ≡ length vs →
+pub number-words : (s : State) (k : Ask) (m n : ℕ) (ws vs : List ℕ) → length ws ≡ length vs →
     number s (record { ask = k; memory = m; words = ws; buffer = n }) ≡ number s (record { ask = k; memory = m; words = vs; buffer = n })
 unfolding number questions bounds
 number-words s (opening h) m n ws vs e = rw (enough (replicate (h .N) (h .P)) ws, enough (replicate (h .N) (h .P)) vs, e)
@@ -96,9 +106,9 @@ number-words s turn m n ws vs e = rw (enough (stepBounds (decide s)) ws, enough 
 number-words s (completion c bs) m n ws vs e = refl
 number-words s collect m n ws vs e = refl
 
-pub number-lent : (s : State) (a : Lent) (ws : List ℕ) → length ws ≡ a .words → number s (lend a ws) ≡ numberOf s a
+pub number-lent : (s : State) (a : Lent) (ws : List ℕ) → length ws ≡ a .words → number s (plain a ws) ≡ numberOf s a
 unfolding numberOf
-number-lent s a ws e = number-words s (a .ask) (a .memory) (a .buffer) ws (replicate (a .words) 0) (e ∙ sym (length-replicate (a .words) (zeroth e)))
+number-lent s a ws e = number-words s (zeroed (a .ask)) (a .memory) (a .buffer) ws (replicate (a .words) 0) (e ∙ sym (length-replicate (a .words) (zeroth e)))
   where
     zeroth : length ws ≡ a .words → ℕ
     zeroth e = 0
@@ -125,16 +135,16 @@ drew-passed s k m ws n p =
 
 -- a call with words
 pub record Stepped (s : State) (a : Lent) (ws : List ℕ) : Type 0 where
-  pub drawn : length (drawsOf s (lend a ws)) ≡ length (boundsOf s a)
-  pub next : step s (lend a ws) .0 ≡ nextOf s a (drawsOf s (lend a ws))
-  pub tells : told (step s (lend a ws) .1) ≡ toldOf s a
+  pub drawn : length (drawsOf s (plain a ws)) ≡ length (boundsOf s a)
+  pub next : step s (plain a ws) .0 ≡ nextOf s a (drawsOf s (plain a ws))
+  pub tells : told (step s (plain a ws) .1) ≡ toldOf s a
 
 pub stepped : (s : State) (a : Lent) (ws : List ℕ) → length ws ≡ a .words → Stepped s a ws
 unfolding drawsOf boundsOf nextOf toldOf accepted refused
 stepped s a ws e = go (eqb (numberOf s a) 0) refl
   where
     c : Call
-    c = lend a ws
+    c = plain a ws
 
     n : number s c ≡ numberOf s a
     n = number-lent s a ws e
@@ -143,9 +153,9 @@ stepped s a ws e = go (eqb (numberOf s a) 0) refl
     go true f =
         let z : number s c ≡ 0 = n ∙ eqb-true (numberOf s a) 0 f in
         record {
-          drawn = rw (n, f) (drew-length (bounds s (a .ask)) (numbersOf (draws (bounds s (a .ask)) ws)) (drew-passed s (a .ask) (a .memory) ws (a .buffer) (accepted-passed s c z)));
+          drawn = rw (n, f) (drew-length (bounds s (zeroed (a .ask))) (numbersOf (draws (bounds s (zeroed (a .ask))) ws)) (drew-passed s (zeroed (a .ask)) (a .memory) ws (a .buffer) (accepted-passed s c z)));
           next = rw (step-accepted s c z, n, f);
-          tells = rw (step-accepted s c z, f) (λ i. (0, (sym (ap (λ (o : State × Outcome). o .1 .taken) (step-accepted s c z)) ∙ accepted-taken s c z) i, sentCommand s (a .ask)));
+          tells = rw (step-accepted s c z, f) (λ i. (0, (sym (ap (λ (o : State × Outcome). o .1 .taken) (step-accepted s c z)) ∙ accepted-taken s c z) i, sentCommand s (zeroed (a .ask))));
         }
     go false f =
         let z : ¬ (number s c ≡ 0) = λ d. eqb-false (numberOf s a) 0 f (sym n ∙ d) in
@@ -155,37 +165,43 @@ stepped s a ws e = go (eqb (numberOf s a) 0) refl
           tells = rw (step-refused s c z, n, f);
         }
 
+-- the calls of a list, with zeros for bytes
+pub data Plainly : List Lent → List Call → Type 0 where
+  none : Plainly [] []
+  more : {a : Lent} {ws : List ℕ} {as′ : List Lent} {cs : List Call} → length ws ≡ a .words → Plainly as′ cs → Plainly (a ∷ as′) (plain a ws ∷ cs)
+
+-- whatever bytes the calls of a list have, with zeros they are such
+pub plainly : (as′ : List Lent) (cs : List Call) → Lends as′ cs → Plainly as′ (map bareCall cs)
+plainly [] [] Claim.none = none
+plainly (a ∷ as′) (c ∷ cs) (Claim.more {k = k} {ws = ws} o e l) = subst (λ x. Plainly (a ∷ as′) (lend a (zeroed x) ws ∷ map bareCall cs)) (sym o) (more e (plainly as′ cs l))
+
 -- Words that give the same numbers are the same to a call: state, outcome and bytes
-pub same-draws : (s : State) (a : Lent) (ws vs : List ℕ) → length ws ≡ a .words → length vs ≡ a .words →
-    drawsOf s (lend a ws) ≡ drawsOf s (lend a vs) → step s (lend a ws) ≡ step s (lend a vs)
+pub same-draws : (s : State) (k : Ask) (m n : ℕ) (ws vs : List ℕ) → length ws ≡ length vs →
+    drawsOf s (called k m ws n) ≡ drawsOf s (called k m vs n) → step s (called k m ws n) ≡ step s (called k m vs n)
 unfolding drawsOf accepted takenOf
-same-draws s a ws vs x y e = go (eqb (numberOf s a) 0) refl
+same-draws s k m n ws vs x e = go (eqb (number s (called k m ws n)) 0) refl
   where
-    n : number s (lend a ws) ≡ numberOf s a
-    n = number-lent s a ws x
+    same : number s (called k m vs n) ≡ number s (called k m ws n)
+    same = number-words s k m n vs ws (sym x)
 
-    m : number s (lend a vs) ≡ numberOf s a
-    m = number-lent s a vs y
-
-    alike : (d d′ : Option Drawn) → numbersOf d ≡ numbersOf d′ → takenOf d ≡ takenOf d′ → accepted s (a .ask) d ≡ accepted s (a .ask) d′
+    alike : (d d′ : Option Drawn) → numbersOf d ≡ numbersOf d′ → takenOf d ≡ takenOf d′ → accepted s k d ≡ accepted s k d′
     alike d d′ p q = λ i. (
-      act s (a .ask) (p i),
-      record { number = 0; taken = q i; command = sentCommand s (a .ask); bytes = handed s (a .ask) (act s (a .ask) (p i)) },
+      act s k (p i),
+      record { number = 0; taken = q i; command = sentCommand s k; bytes = handed s k (act s k (p i)) },
     )
 
-    taken : (us : List ℕ) → number s (lend a us) ≡ 0 → takenOf (draws (bounds s (a .ask)) us) ≡ length (bounds s (a .ask))
-    taken us z = sym (ap (λ (o : State × Outcome). o .1 .taken) (step-accepted s (lend a us) z)) ∙ accepted-taken s (lend a us) z
+    taken : (us : List ℕ) → number s (called k m us n) ≡ 0 → takenOf (draws (bounds s k) us) ≡ length (bounds s k)
+    taken us z = sym (ap (λ (o : State × Outcome). o .1 .taken) (step-accepted s (called k m us n) z)) ∙ accepted-taken s (called k m us n) z
 
-    go : (t : Bool) → eqb (numberOf s a) 0 ≡ t → step s (lend a ws) ≡ step s (lend a vs)
+    go : (t : Bool) → eqb (number s (called k m ws n)) 0 ≡ t → step s (called k m ws n) ≡ step s (called k m vs n)
     go true f =
-        let z : number s (lend a ws) ≡ 0 = n ∙ eqb-true (numberOf s a) 0 f in
-        let z′ : number s (lend a vs) ≡ 0 = m ∙ eqb-true (numberOf s a) 0 f in
-        let e′ : numbersOf (draws (bounds s (a .ask)) ws) ≡ numbersOf (draws (bounds s (a .ask)) vs) = rw (n, m, f) at e in
-        step-accepted s (lend a ws) z ∙ alike _ _ e′ (taken ws z ∙ sym (taken vs z′)) ∙ sym (step-accepted s (lend a vs) z′)
+        let z : number s (called k m ws n) ≡ 0 = eqb-true (number s (called k m ws n)) 0 f in
+        let e′ : numbersOf (draws (bounds s k) ws) ≡ numbersOf (draws (bounds s k) vs) = rw (same, f) at e in
+        step-accepted s (called k m ws n) z ∙ alike _ _ e′ (taken ws z ∙ sym (taken vs (same ∙ z))) ∙ sym (step-accepted s (called k m vs n) (same ∙ z))
     go false f =
-        let z : ¬ (number s (lend a ws) ≡ 0) = λ d. eqb-false (numberOf s a) 0 f (sym n ∙ d) in
-        let z′ : ¬ (number s (lend a vs) ≡ 0) = λ d. eqb-false (numberOf s a) 0 f (sym m ∙ d) in
-        step-refused s (lend a ws) z ∙ ap (λ k. (refuse s (a .ask), refused k)) (n ∙ sym m) ∙ sym (step-refused s (lend a vs) z′)
+        let z : ¬ (number s (called k m ws n) ≡ 0) = eqb-false (number s (called k m ws n)) 0 f in
+        let z′ : ¬ (number s (called k m vs n) ≡ 0) = λ d. z (sym same ∙ d) in
+        step-refused s (called k m ws n) z ∙ ap (λ j. (refuse s k, refused j)) (sym same) ∙ sym (step-refused s (called k m vs n) z′)
 
 -- ---- what the claim says of it, and what the machine says
 
@@ -217,44 +233,44 @@ module _ (h : Shape) (reach : Reachable h) where
     pub next : (d : List ℕ) → Is (real-next h r c d) (nextOf s a d)
     pub tells : (d : List ℕ) → real-seen h r c d ≡ toldOf s a
 
-  agrees-on : (s : State) (l : Later) (m w n : ℕ) → opens (ask l) ≡ false → Agrees (later l m w n) (on s) s (lent (ask l) m w n)
+  agrees-on : (s : State) (l : Later) (m w n : ℕ) (k : Outline) → zeroed k ≡ ask l → opens (ask l) ≡ false → Agrees (later l m w n) (on s) s (lent k m w n)
   unfolding numberOf boundsOf nextOf toldOf
-  agrees-on s l m w n q = go (numberR s l m w n) refl
+  agrees-on s l m w n k a q = go (numberR s l m w n) refl
     where
-      go : (j : ℕ) → numberR s l m w n ≡ j → Agrees (later l m w n) (on s) s (lent (ask l) m w n)
+      go : (j : ℕ) → numberR s l m w n ≡ j → Agrees (later l m w n) (on s) s (lent k m w n)
       go zero e = record {
-        legal = λ d. rw e Iff·rfl;
-        count = rw e;
-        next = λ d. rw e;
-        tells = λ d. rw e;
+        legal = λ d. rw (a, e) Iff·rfl;
+        count = rw (a, e);
+        next = λ d. rw (a, e);
+        tells = λ d. rw (a, e);
       }
       go (suc j) e = record {
-        legal = λ d. rw (e, eqb·suc-zero j) Iff·rfl;
-        count = rw (e, eqb·suc-zero j);
-        next = λ d. rw (e, eqb·suc-zero j) (refuse-keeps s (ask l) q);
-        tells = λ d. rw (e, eqb·suc-zero j);
+        legal = λ d. rw (a, e, eqb·suc-zero j) Iff·rfl;
+        count = rw (a, e, eqb·suc-zero j);
+        next = λ d. rw (a, e, eqb·suc-zero j) (refuse-keeps s (ask l) q);
+        tells = λ d. rw (a, e, eqb·suc-zero j);
       }
 
-  agrees-shut : (l : Later) (m w n : ℕ) → opens (ask l) ≡ false → Agrees (later l m w n) shut closed (lent (ask l) m w n)
+  agrees-shut : (l : Later) (m w n : ℕ) (k : Outline) → zeroed k ≡ ask l → opens (ask l) ≡ false → Agrees (later l m w n) shut closed (lent k m w n)
   unfolding numberOf boundsOf nextOf toldOf
-  agrees-shut l m w n q = let e = number-closed l m w n in record {
-    legal = λ d. rw e (none-drew d .1, none-drew d .0);
-    count = rw e;
-    next = λ d. rw e (refuse-keeps closed (ask l) q);
-    tells = λ d. rw e;
+  agrees-shut l m w n k a q = let e = number-closed l m w n in record {
+    legal = λ d. rw (a, e) (none-drew d .1, none-drew d .0);
+    count = rw (a, e);
+    next = λ d. rw (a, e) (refuse-keeps closed (ask l) q);
+    tells = λ d. rw (a, e);
   }
 
-  agrees-later : (r : Real) (s : State) (l : Later) (m w n : ℕ) → Is r s → opens (ask l) ≡ false → Agrees (later l m w n) r s (lent (ask l) m w n)
-  agrees-later unopened s l m w n k q = absurd k
-  agrees-later shut s l m w n k q = rw k (agrees-shut l m w n q)
-  agrees-later (on s′) s l m w n k q = rw k (agrees-on s′ l m w n q)
+  agrees-later : (r : Real) (s : State) (l : Later) (m w n : ℕ) (k : Outline) → zeroed k ≡ ask l → Is r s → opens (ask l) ≡ false → Agrees (later l m w n) r s (lent k m w n)
+  agrees-later unopened s l m w n k a i q = absurd i
+  agrees-later shut s l m w n k a i q = rw i (agrees-shut l m w n k a q)
+  agrees-later (on s′) s l m w n k a i q = rw i (agrees-on s′ l m w n k a q)
 
-  pub agrees : (r : Real) (s : State) (k : Ask) (m w n : ℕ) → Is r s → opens k ≡ false → Agrees (entryOf k m w n) r s (lent k m w n)
-  agrees r s (opening g) m w n a q = absurd (true≢false (unfold opens in q))
-  agrees r s (request k b bs) m w n a q = agrees-later r s (Public.later-request k b bs) m w n a q
-  agrees r s turn m w n a q = agrees-later r s Public.later-turn m w n a q
-  agrees r s (completion c bs) m w n a q = agrees-later r s (Public.later-completion c bs) m w n a q
-  agrees r s collect m w n a q = agrees-later r s Public.later-collect m w n a q
+  pub agrees : (r : Real) (s : State) (k : Outline) (m w n : ℕ) → Is r s → opens (zeroed k) ≡ false → Agrees (entryOf (zeroed k) m w n) r s (lent k m w n)
+  agrees r s (anOpen g) m w n i q = absurd (true≢false (unfold opens in q))
+  agrees r s (aRequest k b z) m w n i q = agrees-later r s (Public.later-request k b (replicate z 0)) m w n _ refl i q
+  agrees r s aTurn m w n i q = agrees-later r s Public.later-turn m w n _ refl i q
+  agrees r s (aCompletion c z) m w n i q = agrees-later r s (Public.later-completion c (replicate z 0)) m w n _ refl i q
+  agrees r s aCollect m w n i q = agrees-later r s Public.later-collect m w n _ refl i q
 
   -- the open
   open-any : (s : State) (m w n : ℕ) → numberOf s (first h m w n) ≡ number closed (openCall h m w)

@@ -1,7 +1,7 @@
 -- That the claim speaks of every run: the numbers that a run draws are a tape of its list, and every tape has words that give it.
 use mathlib.Core.Path.{_≡_, refl, ap, ap₂, sym, _∙_, subst}
 use mathlib.Core.Bool.{Bool, true, false}
-use mathlib.Core.List.{List, [], _∷_, _++_}
+use mathlib.Core.List.{List, [], _∷_, _++_, map}
 use mathlib.Core.Option.{none, some}
 use Prim.Native.Nat.{ℕ, _-_, _^_, _≤_, _<_}
 use native.Mathlib.Nat.{mod-eq-of-lt}
@@ -11,42 +11,49 @@ use lib.Seq.{take-at, drop-at}
 use lib.Dec.{eqb}
 use borrow.Author.Tests.{eqb-true, leb-true}
 use Rattle.lists.specs.All.{All, nil, cons, all-append, all-replicate}
+use Rattle.lists.specs.Tests.{if_then_else_}
 use Rattle.rules.specs.Laws.Answers.{accepted-passed}
-use Rattle.rules.specs.Questions.{Call, bounds, number}
+use Rattle.rules.specs.Questions.{Ask, turn, Call, bounds, number}
 use Rattle.rules.specs.State.{State}
 use Rattle.rules.specs.Laws.Orders.{drew-length}
 use Rattle.rules.specs.Run.{numbersOf, step, run, Outcome}
 use Rattle.rules.specs.Draws.{draw, draws, drawnFirst, Drew}
 use Rattle.matching.specs.Trades.{none-drew}
 use Rattle.hiding.specs.Claim
-use Rattle.hiding.specs.Claim.{Lent, lend, numberOf, boundsOf, nextOf, Tape, Lends, drawsOf, drawsIn, Gives, Short, Tapes}
+use Rattle.hiding.specs.Claim.{zeroed, Lent, lend, numberOf, boundsOf, nextOf, Tape, Lends, drawsOf, drawsIn, Gives, told, wordsIn, asksIn, Words, Tapes}
 use Rattle.hiding.specs.Orders.Number.{enough}
-use Rattle.hiding.specs.Lists.Calls.{stepped, number-lent, passed-bounds, drew-passed, same-draws}
+use Rattle.hiding.specs.Lists.Bytes.{outline-zeroed, bareCall, twins-told, twins-drawn, zeros-twins}
+use Rattle.hiding.specs.Lists.Calls
+use Rattle.hiding.specs.Lists.Calls.{called, plain, Plainly, plainly, stepped, number-words, number-lent, passed-bounds, drew-passed, same-draws}
 
 -- ---- a run's numbers are a tape
 
-call-drew : (s : State) (a : Lent) (ws : List ℕ) → length ws ≡ a .words → Drew (boundsOf s a) (drawsOf s (lend a ws))
+call-drew : (s : State) (a : Lent) (ws : List ℕ) → length ws ≡ a .words → Drew (boundsOf s a) (drawsOf s (plain a ws))
 unfolding boundsOf drawsOf
 call-drew s a ws e = go (eqb (numberOf s a) 0) refl
   where
-    n : number s (lend a ws) ≡ numberOf s a
+    n : number s (plain a ws) ≡ numberOf s a
     n = number-lent s a ws e
 
-    go : (t : Bool) → eqb (numberOf s a) 0 ≡ t → Drew (boundsOf s a) (drawsOf s (lend a ws))
+    go : (t : Bool) → eqb (numberOf s a) 0 ≡ t → Drew (boundsOf s a) (drawsOf s (plain a ws))
     go true f =
-        rw (n, f) (drew-passed s (a .ask) (a .memory) ws (a .buffer) (accepted-passed s (lend a ws) (n ∙ eqb-true (numberOf s a) 0 f)))
+        rw (n, f) (drew-passed s (zeroed (a .ask)) (a .memory) ws (a .buffer) (accepted-passed s (plain a ws) (n ∙ eqb-true (numberOf s a) 0 f)))
     go false f = rw (n, f) tt
 
 -- whatever words are lent, the numbers drawn are a tape of the list
-run-tape : (as′ : List Lent) (cs : List Call) → Lends as′ cs → (s : State) → Tape s as′ (drawsIn s cs)
+plain-tape : (as′ : List Lent) (cs : List Call) → Plainly as′ cs → (s : State) → Tape s as′ (drawsIn s cs)
 unfolding drawsIn
-run-tape [] [] Claim.none s = refl
-run-tape (a ∷ as′) (c ∷ cs) (Claim.more {ws = ws} e l) s =
+plain-tape [] [] Calls.none s = refl
+plain-tape (a ∷ as′) (c ∷ cs) (Calls.more {ws = ws} e l) s =
     let p = stepped s a ws e in
-    let own = drawsOf s (lend a ws) in
-    let rest = drawsIn (step s (lend a ws) .0) cs in
+    let own = drawsOf s (plain a ws) in
+    let rest = drawsIn (step s (plain a ws) .0) cs in
     rw (take-at own rest (length (boundsOf s a)) (p .drawn), drop-at own rest (length (boundsOf s a)) (p .drawn))
-    (call-drew s a ws e, subst (λ s′. Tape s′ as′ rest) (p .next) (run-tape as′ cs l (step s (lend a ws) .0)))
+    (call-drew s a ws e, subst (λ s′. Tape s′ as′ rest) (p .next) (plain-tape as′ cs l (step s (plain a ws) .0)))
+
+-- .. whatever bytes are brought
+run-tape : (s : State) (as′ : List Lent) (cs : List Call) → Lends as′ cs → Tape s as′ (drawsIn s cs)
+run-tape s as′ cs l = rw (twins-drawn cs (map bareCall cs) (zeros-twins cs) s s refl) (plain-tape as′ (map bareCall cs) (plainly as′ cs l) s)
 
 -- ---- and every tape is one of a run: numbers are words for themselves
 
@@ -78,9 +85,9 @@ module _ (s : State) (a : Lent) (js : List ℕ) (b : Drew (boundsOf s a) js) whe
     where
       go : (t : Bool) → eqb (numberOf s a) 0 ≡ t → length js ≤ a .words
       go true f =
-          let p = passed-bounds s (a .ask) (a .memory) (replicate (a .words) 0) (a .buffer) (accepted-passed s (lend a (replicate (a .words) 0)) (eqb-true (numberOf s a) 0 f)) .1 in
-          let l = leb-true (length (bounds s (a .ask))) (length (replicate (a .words) (zeroth s))) (sym (enough (bounds s (a .ask)) (replicate (a .words) 0)) ∙ p) in
-          let e = drew-length (bounds s (a .ask)) js (rw f at b) in
+          let p = passed-bounds s (zeroed (a .ask)) (a .memory) (replicate (a .words) 0) (a .buffer) (accepted-passed s (plain a (replicate (a .words) 0)) (eqb-true (numberOf s a) 0 f)) .1 in
+          let l = leb-true (length (bounds s (zeroed (a .ask)))) (length (replicate (a .words) (zeroth s))) (sym (enough (bounds s (zeroed (a .ask))) (replicate (a .words) 0)) ∙ p) in
+          let e = drew-length (bounds s (zeroed (a .ask))) js (rw f at b) in
           omega (arith, l, e, length-replicate (a .words) (zeroth s))
         where
           zeroth : State → ℕ
@@ -95,66 +102,131 @@ module _ (s : State) (a : Lent) (js : List ℕ) (b : Drew (boundsOf s a) js) whe
     where
       go : (t : Bool) → eqb (numberOf s a) 0 ≡ t → All (λ w. w < 2 ^ 16) js
       go true f =
-          let p = passed-bounds s (a .ask) (a .memory) (replicate (a .words) 0) (a .buffer) (accepted-passed s (lend a (replicate (a .words) 0)) (eqb-true (numberOf s a) 0 f)) .0 in
-          drew-short (bounds s (a .ask)) js p (rw f at b)
+          let p = passed-bounds s (zeroed (a .ask)) (a .memory) (replicate (a .words) 0) (a .buffer) (accepted-passed s (plain a (replicate (a .words) 0)) (eqb-true (numberOf s a) 0 f)) .0 in
+          drew-short (bounds s (zeroed (a .ask))) js p (rw f at b)
       go false f = rw (none-drew js .0 (rw f at b)) nil
 
   words-length : length words ≡ a .words
   words-length = simp (length-append, length-replicate) (omega (arith, lent-enough))
 
-  words-draw : drawsOf s (lend a words) ≡ js
+  words-draw : drawsOf s (plain a words) ≡ js
   unfolding drawsOf boundsOf numbersOf
   words-draw = go (eqb (numberOf s a) 0) refl
     where
-      n : number s (lend a words) ≡ numberOf s a
+      n : number s (plain a words) ≡ numberOf s a
       n = number-lent s a words words-length
 
-      go : (t : Bool) → eqb (numberOf s a) 0 ≡ t → drawsOf s (lend a words) ≡ js
-      go true f = rw (n, f, draws-back (bounds s (a .ask)) js (replicate (a .words - length js) 0) (rw f at b))
+      go : (t : Bool) → eqb (numberOf s a) 0 ≡ t → drawsOf s (plain a words) ≡ js
+      go true f = rw (n, f, draws-back (bounds s (zeroed (a .ask))) js (replicate (a .words - length js) 0) (rw f at b))
       go false f = rw (n, f) (sym (none-drew js .0 (rw f at b)))
 
+-- the first and the others of a list
+unfoldable pub headOr : {A : Type 0} → A → List A → A
+headOr x [] = x
+headOr x (y ∷ ys) = y
+
+unfoldable pub tailOf : {A : Type 0} → List A → List A
+tailOf [] = []
+tailOf (y ∷ ys) = ys
+
 -- every tape of a list is given by some words
-tape-words : (as′ : List Lent) (s : State) (t : List ℕ) → Tape s as′ t → (cs : List Call) × (Gives s as′ t cs × Short cs)
-unfolding drawsIn
-tape-words [] s t p = ([], (record { calls = Claim.none; tape = sym p }, nil))
+tape-words : (as′ : List Lent) (s : State) (t : List ℕ) → Tape s as′ t →
+    (wss : List (List ℕ)) × (Words as′ wss × ((cs : List Call) → Plainly as′ cs → wordsIn cs ≡ wss → drawsIn s cs ≡ t))
+unfolding drawsIn headOr tailOf
+tape-words [] s t p = ([], (record { lengths = refl; short = nil }, go))
+  where
+    go : (cs : List Call) → Plainly [] cs → wordsIn cs ≡ [] → drawsIn s cs ≡ t
+    go [] Calls.none e = sym p
 tape-words (a ∷ as′) s t p =
     let n = length (boundsOf s a) in
     let js = take n t in
     let ws = words s a js (p .0) in
-    let q = stepped s a ws (words-length s a js (p .0)) in
-    let d = words-draw s a js (p .0) in
-    let e : step s (lend a ws) .0 ≡ nextOf s a js = q .next ∙ ap (nextOf s a) d in
     let r = tape-words as′ (nextOf s a js) (drop n t) (p .1) in (
-      lend a ws ∷ r .0,
+      ws ∷ r .0,
       (
-        record { calls = Claim.more (words-length s a js (p .0)) (r .1 .0 .calls); tape = rw (d, e, r .1 .0 .tape, take-append-drop n t) },
-        cons (words-short s a js (p .0)) (r .1 .1),
+        record { lengths = ap₂ (λ x xs. x ∷ xs) (words-length s a js (p .0)) (r .1 .0 .lengths); short = cons (words-short s a js (p .0)) (r .1 .0 .short) },
+        go ws (r .0) (stepped s a ws (words-length s a js (p .0)) .next) (words-draw s a js (p .0)) (r .1 .1),
       ),
     )
+  where
+    go : (ws : List ℕ) (wss : List (List ℕ)) → step s (plain a ws) .0 ≡ nextOf s a (drawsOf s (plain a ws)) → drawsOf s (plain a ws) ≡ take (length (boundsOf s a)) t
+        → ((cs : List Call) → Plainly as′ cs → wordsIn cs ≡ wss → drawsIn (nextOf s a (take (length (boundsOf s a)) t)) cs ≡ drop (length (boundsOf s a)) t)
+        → (cs : List Call) → Plainly (a ∷ as′) cs → wordsIn cs ≡ ws ∷ wss → drawsIn s cs ≡ t
+    go ws wss q d k (c ∷ cs) (Calls.more {ws = vs} x l) e =
+        let v : vs ≡ ws = ap (headOr []) e in
+        let z : step s (plain a ws) .0 ≡ nextOf s a (take (length (boundsOf s a)) t) = q ∙ ap (nextOf s a) d in
+        rw (v, d, z, k cs l (ap tailOf e), take-append-drop (length (boundsOf s a)) t)
+
+words-bare : (cs : List Call) → wordsIn (map bareCall cs) ≡ wordsIn cs
+words-bare [] = refl
+words-bare (c ∷ cs) = ap (λ xs. c .words ∷ xs) (words-bare cs)
+
+tape-given : (s : State) (as′ : List Lent) (t : List ℕ) → Tape s as′ t →
+    (wss : List (List ℕ)) × (Words as′ wss × ((cs : List Call) → Lends as′ cs → wordsIn cs ≡ wss → drawsIn s cs ≡ t))
+tape-given s as′ t p =
+    let r = tape-words as′ s t p in
+    (r .0, (r .1 .0, λ cs l e. twins-drawn cs (map bareCall cs) (zeros-twins cs) s s refl ∙ r .1 .1 (map bareCall cs) (plainly as′ cs l) (words-bare cs ∙ e)))
 
 -- ---- the tape decides the run
 
-same-run : (as′ : List Lent) (cs ds : List Call) → Lends as′ cs → Lends as′ ds → (s : State) → drawsIn s cs ≡ drawsIn s ds → run s cs ≡ run s ds
-unfolding run drawsIn
-same-run [] [] [] Claim.none Claim.none s e = refl
-same-run (a ∷ as′) (c ∷ cs) (d ∷ ds) (Claim.more {ws = ws} x l) (Claim.more {ws = vs} y k) s e =
-    let own = drawsOf s (lend a ws) in
-    let own′ = drawsOf s (lend a vs) in
-    let rest = drawsIn (step s (lend a ws) .0) cs in
-    let rest′ = drawsIn (step s (lend a vs) .0) ds in
-    let n = length (boundsOf s a) in
-    let p = stepped s a ws x .drawn in
-    let q = stepped s a vs y .drawn in
-    let first : own ≡ own′ = sym (take-at own rest n p) ∙ ap (take n) e ∙ take-at own′ rest′ n q in
-    let then : rest ≡ rest′ = sym (drop-at own rest n p) ∙ ap (drop n) e ∙ drop-at own′ rest′ n q in
-    let z = same-draws s a ws vs x y first in
-    let w : drawsIn (step s (lend a ws) .0) cs ≡ drawsIn (step s (lend a ws) .0) ds = then ∙ ap (λ (r : State × Outcome). drawsIn (r .0) ds) (sym z) in
+-- a call draws as many numbers, whatever words it is lent
+draws-length : (s : State) (c : Call) → length (drawsOf s c) ≡ (if eqb (number s c) 0 then length (bounds s (c .ask)) else 0)
+unfolding drawsOf
+draws-length s c = go (eqb (number s c) 0) refl
+  where
+    go : (t : Bool) → eqb (number s c) 0 ≡ t
+        → length (if t then numbersOf (draws (bounds s (c .ask)) (c .words)) else []) ≡ (if t then length (bounds s (c .ask)) else 0)
+    go true f =
+        drew-length (bounds s (c .ask)) (numbersOf (draws (bounds s (c .ask)) (c .words)))
+        (drew-passed s (c .ask) (c .memory) (c .words) (c .buffer) (accepted-passed s c (eqb-true (number s c) 0 f)))
+    go false f = refl
+
+same-length : (s : State) (k : Ask) (m n : ℕ) (ws vs : List ℕ) → length ws ≡ length vs → length (drawsOf s (called k m ws n)) ≡ length (drawsOf s (called k m vs n))
+same-length s k m n ws vs e =
+    draws-length s (called k m ws n)
+    ∙ ap (λ j. if eqb j 0 then length (bounds s k) else 0) (number-words s k m n ws vs e)
+    ∙ sym (draws-length s (called k m vs n))
+
+same-run : (as′ : List Lent) (cs ds : List Call) → Lends as′ cs → Lends as′ ds → asksIn cs ≡ asksIn ds → (s : State) → drawsIn s cs ≡ drawsIn s ds → run s cs ≡ run s ds
+unfolding run drawsIn headOr tailOf
+same-run [] [] [] Claim.none Claim.none q s e = refl
+same-run (a ∷ as′) (c ∷ cs) (d ∷ ds) (Claim.more {k = k} {ws = ws} o x l) (Claim.more {k = k′} {ws = vs} o′ y l′) q s e =
+    let j : k ≡ k′ = ap (headOr turn) q in
+    let own = drawsOf s (lend a k ws) in
+    let own′ = drawsOf s (lend a k′ vs) in
+    let rest = drawsIn (step s (lend a k ws) .0) cs in
+    let rest′ = drawsIn (step s (lend a k′ vs) .0) ds in
+    let n : length own ≡ length own′ = same-length s k (a .memory) (a .buffer) ws vs (x ∙ sym y) ∙ ap (λ i. length (drawsOf s (lend a i vs))) j in
+    let first : own ≡ own′ = sym (take-at own rest (length own′) n) ∙ ap (take (length own′)) e ∙ take-at own′ rest′ (length own′) refl in
+    let later : rest ≡ rest′ = sym (drop-at own rest (length own′) n) ∙ ap (drop (length own′)) e ∙ drop-at own′ rest′ (length own′) refl in
+    let z : step s (lend a k ws) ≡ step s (lend a k′ vs) =
+    same-draws s k (a .memory) (a .buffer) ws vs (x ∙ sym y) (first ∙ ap (λ i. drawsOf s (lend a i vs)) (sym j)) ∙ ap (λ i. step s (lend a i vs)) j in
+    let w : drawsIn (step s (lend a k ws) .0) cs ≡ drawsIn (step s (lend a k ws) .0) ds = later ∙ ap (λ (r : State × Outcome). drawsIn (r .0) ds) (sym z) in
     ap₂ (λ o os. o ∷ os) (ap (λ (r : State × Outcome). r .1) z)
-    (same-run as′ cs ds l k (step s (lend a ws) .0) w ∙ ap (λ (r : State × Outcome). run (r .0) ds) z)
+    (same-run as′ cs ds l l′ (ap tailOf q) (step s (lend a k ws) .0) w ∙ ap (λ (r : State × Outcome). run (r .0) ds) z)
+
+-- the calls with zeros for bytes are calls of the list, and all ask the same
+plain-lends : (as′ : List Lent) (cs : List Call) → Plainly as′ cs → Lends as′ cs × (asksIn cs ≡ map (λ (a : Lent). zeroed (a .ask)) as′)
+plain-lends [] [] Calls.none = (Claim.none, refl)
+plain-lends (a ∷ as′) (c ∷ cs) (Calls.more e l) =
+    let r = plain-lends as′ cs l in
+    (Claim.more (outline-zeroed (a .ask)) e (r .0), ap (λ ks. zeroed (a .ask) ∷ ks) (r .1))
+
+same-told : (s : State) (as′ : List Lent) (t : List ℕ) (cs ds : List Call) → Gives s as′ t cs → Gives s as′ t ds → map told (run s cs) ≡ map told (run s ds)
+same-told s as′ t cs ds g k =
+    let zs = map bareCall cs in
+    let ys = map bareCall ds in
+    let a = plain-lends as′ zs (plainly as′ cs (g .calls)) in
+    let b = plain-lends as′ ys (plainly as′ ds (k .calls)) in
+    let e : drawsIn s zs ≡ drawsIn s ys = sym (twins-drawn cs zs (zeros-twins cs) s s refl) ∙ g .tape ∙ sym (k .tape) ∙ twins-drawn ds ys (zeros-twins ds) s s refl in
+    twins-told cs zs (zeros-twins cs) s s refl
+    ∙ ap (map told) (same-run as′ zs ys (a .0) (b .0) (a .1 ∙ sym (b .1)) s e)
+    ∙ sym (twins-told ds ys (zeros-twins ds) s s refl)
 
 pub tapes-given : Tapes
 tapes-given = record {
-  drawn = λ s as′ cs l. run-tape as′ cs l s;
-  given = λ s as′ t. tape-words as′ s t;
-  decides = λ s as′ t cs ds g k. same-run as′ cs ds (g .calls) (k .calls) s (g .tape ∙ sym (k .tape));
+  tells = same-told;
+  drawn = run-tape;
+  given = tape-given;
+  decides = λ s as′ t cs ds g k q. same-run as′ cs ds (g .calls) (k .calls) q s (g .tape ∙ sym (k .tape));
 }

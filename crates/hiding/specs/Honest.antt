@@ -1,0 +1,134 @@
+-- Demands 2 and 3 together, with an honest host. Of two compared lists, with partners for tapes, both run with a host that completes each read
+-- with the bytes last written there: the host is told the same at each place, and each collect hands out the contents of a plain array.
+-- To believe it, read `Together` with crate `rules`, array/specs/Claim.antt and Claim.antt here: `together-from` has it from those two claims alone.
+-- There are such runs for every tape, whatever the contents of the requests and whatever the host had before (`honest-given`), and any run is one
+-- when the host's bytes are put into it (`honest-run`): array/specs/Served.antt.
+use mathlib.Core.Path.{_≡_, refl, ap, sym, _∙_}
+use mathlib.Core.Bool.{Bool, true, false, true≢false}
+use mathlib.Core.List.{List, [], _∷_, map}
+use Prim.Native.Nat.{ℕ}
+use native.Mathlib.Omega.{arith}
+use lib.ListN.{length}
+use lib.Dec.{eqb}
+use Rattle.lists.specs.Tests.{if_then_else_}
+use Rattle.rules.specs.Laws.Answers.{opens}
+use Rattle.rules.specs.Questions.{Ask, opening, request, turn, completion, collect, Call}
+use Rattle.rules.specs.Run.{run}
+use Rattle.rules.specs.Shape.{Shape}
+use Rattle.rules.specs.State.{State, read}
+use Rattle.array.specs.Claim as Array
+use Rattle.array.specs.Hosts.{AtOnce, at-once}
+use Rattle.array.specs.Served.{fit, fit-length, brings, served, served-at-once}
+use Rattle.array.specs.Claim.{Slots, Host, Expected, Honest, Plain}
+use Rattle.array.specs.Theorem.{plain-array}
+use Rattle.hiding.specs.Claim
+use Rattle.hiding.specs.Claim.{anOpen, aTurn, aCompletion, outline, zeroed, Lent, lend, first, Compared, Tape, Lends, Gives, wordsIn, Words, Twins, Matching, told, Claim}
+use Rattle.hiding.specs.Lists.Bytes.{twins-told, twins-drawn}
+use Rattle.hiding.specs.Lists.Words.{headOr, tailOf}
+use Rattle.hiding.specs.Theorem.{hidden}
+
+-- The matching comes first, then a tape; then words that give it and its partner, with bytes that an honest host brings in either run
+abbrev pub Together : Type 0
+Together = (h : Shape) → h .E ≡ h .N → (m w n : ℕ) (as′ bs′ : List Lent) → Compared h as′ bs′ → (s s′ : State) →
+    (p : Matching (Tape s (first h m w n ∷ as′)) (Tape s′ (first h m w n ∷ bs′)))
+    × ((t : List ℕ) → Tape s (first h m w n ∷ as′) t → (cs ds : List Call) →
+    Gives s (first h m w n ∷ as′) t cs → Gives s′ (first h m w n ∷ bs′) (p .f t) ds →
+    (host host′ : Host) → Honest host cs (run s cs) → Honest host′ ds (run s′ ds) → (x x′ : Expected) →
+    (map told (run s cs) ≡ map told (run s′ ds)) × Plain x cs (run s cs) × Plain x′ ds (run s′ ds))
+
+-- ---- From the two claims
+
+open-ask : (h : Shape) (a : Ask) → outline a ≡ anOpen h → a ≡ opening h
+unfolding opens
+open-ask h (opening g) e = ap zeroed e
+open-ask h (request k b bs) e = absurd (true≢false (sym (ap (λ o. opens (zeroed o)) e)))
+open-ask h turn e = absurd (true≢false (sym (ap (λ o. opens (zeroed o)) e)))
+open-ask h (completion c bs) e = absurd (true≢false (sym (ap (λ o. opens (zeroed o)) e)))
+open-ask h collect e = absurd (true≢false (sym (ap (λ o. opens (zeroed o)) e)))
+
+pub list-plain : Array.Claim → (h : Shape) (m w n : ℕ) (as′ : List Lent) (s : State) (cs : List Call) → Lends (first h m w n ∷ as′) cs →
+    (host : Host) → Honest host cs (run s cs) → (x : Expected) → Plain x cs (run s cs)
+list-plain array h m w n as′ s (c ∷ cs) (Claim.more e l k) host y x = array s host x h c cs (open-ask h (c .ask) e) y
+
+pub together-from : Array.Claim → Claim → Together
+together-from array lists h q m w n as′ bs′ c s s′ =
+    let y = lists h q m w n as′ bs′ c s s′ in (
+      y .0,
+      λ t a cs ds g g′ host host′ k k′ x x′. (
+        y .1 t a cs ds g g′,
+        list-plain array h m w n as′ s cs (g .calls) host k x,
+        list-plain array h m w n bs′ s′ ds (g′ .calls) host′ k′ x′,
+      ),
+    )
+
+pub together : Together
+together = together-from plain-array (hidden .lists)
+
+-- ---- There are such runs
+
+served-outline : (x : Slots) (a : Ask) → outline (brings x a) ≡ outline a
+unfolding brings
+served-outline x (opening h) = refl
+served-outline x (request k b bs) = refl
+served-outline x turn = refl
+served-outline x (completion c bs) = go (eqb (c .kind) read)
+  where
+    go : (t : Bool) → aCompletion c (length (if t then fit (length bs) (x (c .partition) (c .level) (c .slot)) else bs)) ≡ aCompletion c (length bs)
+    go true = ap (aCompletion c) (fit-length (length bs) (x (c .partition) (c .level) (c .slot)))
+    go false = refl
+served-outline x collect = refl
+
+served-lends : (as′ : List Lent) (cs : List Call) → Lends as′ cs → (x : Slots) (s : State) → Lends as′ (served x s cs)
+unfolding served
+served-lends [] [] Claim.none x s = Claim.none
+served-lends (a ∷ as′) (c ∷ cs) (Claim.more {k = k} o e l) x s = Claim.more (served-outline x k ∙ o) e (served-lends as′ cs l _ _)
+
+served-twins : (x : Slots) (s : State) (cs : List Call) → Twins (served x s cs) cs
+unfolding served
+served-twins x s [] = Claim.none
+served-twins x s (c ∷ cs) = Claim.more (record { ask = served-outline x (c .ask); memory = refl; words = refl; buffer = refl }) (served-twins _ _ cs)
+
+-- Put the host's bytes into a run: its tape stays, what is told stays, and the host is honest. x has what the host has in each slot before
+pub honest-run : (h : Shape) (m w n : ℕ) (as′ : List Lent) (s : State) (t : List ℕ) (cs : List Call) → Gives s (first h m w n ∷ as′) t cs → (x : Slots) →
+    Gives s (first h m w n ∷ as′) t (served x s cs)
+    × (map told (run s (served x s cs)) ≡ map told (run s cs))
+    × Honest (record { last = x; has = x }) (served x s cs) (run s (served x s cs))
+honest-run h m w n as′ s t cs g x = (
+  record { calls = served-lends (first h m w n ∷ as′) cs (g .calls) x s; tape = twins-drawn (served x s cs) cs (served-twins x s cs) s s refl ∙ g .tape },
+  twins-told (served x s cs) cs (served-twins x s cs) s s refl,
+  at-once (served x s cs) (run s (served x s cs)) x x (go cs (g .calls)),
+)
+  where
+    go : (cs : List Call) → Lends (first h m w n ∷ as′) cs → AtOnce x (served x s cs) (run s (served x s cs))
+    go (c ∷ cs) (Claim.more o e l) = served-at-once s x h c cs (open-ask h (c .ask) o)
+
+-- the calls of a list that ask this, with these words lent
+abbrev pub lending : List Lent → List Ask → List (List ℕ) → List Call
+lending [] ks wss = []
+lending (a ∷ as′) [] wss = []
+lending (a ∷ as′) (k ∷ ks) [] = []
+lending (a ∷ as′) (k ∷ ks) (ws ∷ wss) = lend a k ws ∷ lending as′ ks wss
+
+pub lending-lends : (as′ : List Lent) (ks : List Ask) (wss : List (List ℕ)) → map outline ks ≡ map (λ (a : Lent). a .ask) as′ → map length wss ≡ map (λ (a : Lent). a .words) as′ →
+    Lends as′ (lending as′ ks wss) × (wordsIn (lending as′ ks wss) ≡ wss)
+unfolding headOr tailOf
+lending-lends [] ks [] e l = (Claim.none, refl)
+lending-lends [] ks (ws ∷ wss) e l = absurd (omega (arith, ap length l))
+lending-lends (a ∷ as′) [] wss e l = absurd (omega (arith, ap length e))
+lending-lends (a ∷ as′) (k ∷ ks) [] e l = absurd (omega (arith, ap length l))
+lending-lends (a ∷ as′) (k ∷ ks) (ws ∷ wss) e l =
+    let r = lending-lends as′ ks wss (ap tailOf e) (ap tailOf l) in
+    (Claim.more (ap (headOr aTurn) e) (ap (headOr 0) l) (r .0), ap (λ xs. ws ∷ xs) (r .1))
+
+-- Every tape, whatever the contents of the requests and whatever the host had before: some words of 16 bits give it in a run with an honest host
+pub honest-given : (h : Shape) (m w n : ℕ) (as′ : List Lent) (s : State) (t : List ℕ) → Tape s (first h m w n ∷ as′) t →
+    (ks : List Ask) → map outline ks ≡ map (λ (a : Lent). a .ask) (first h m w n ∷ as′) → (x : Slots) →
+    (wss : List (List ℕ)) × (Words (first h m w n ∷ as′) wss
+    × (let cs : List Call = served x s (lending (first h m w n ∷ as′) ks wss) in
+    Gives s (first h m w n ∷ as′) t cs × Honest (record { last = x; has = x }) cs (run s cs)))
+honest-given h m w n as′ s t a ks e x =
+    let g = hidden .tapes .given s (first h m w n ∷ as′) t a in
+    let l = lending-lends (first h m w n ∷ as′) ks (g .0) e (g .1 .0 .lengths) in
+    let cs = lending (first h m w n ∷ as′) ks (g .0) in
+    let r = honest-run h m w n as′ s t cs (record { calls = l .0; tape = g .1 .1 cs (l .0) (l .1) }) x in
+    (g .0, (g .1 .0, (r .0, r .2)))

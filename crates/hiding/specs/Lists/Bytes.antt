@@ -1,0 +1,280 @@
+-- What bytes a completion brings, and which contents a request has, changes nothing of what is told: calls that differ only in these have the
+-- same numbers, draws and commands from states that differ only in the bytes they keep, and leave such states.
+use mathlib.Core.Path.{_≡_, refl, ap, ap₂, sym, _∙_}
+use mathlib.Core.Bool.{Bool, true, false}
+use mathlib.Core.List.{List, [], _∷_, map, _++_}
+use mathlib.Core.Option.{Option, none, some}
+use Prim.Native.Nat.{ℕ}
+use lib.ListN.{length, replicate, length-replicate}
+use lib.Dec.{eqb}
+use Rattle.lists.specs.Search.{isNone}
+use Rattle.lists.specs.Tests.{if_then_else_}
+use Rattle.rules.specs.Ranges
+use Rattle.rules.specs.Draws.{draws}
+use Rattle.rules.specs.Questions
+use Rattle.rules.specs.Questions.{Ask, opening, request, turn, completion, collect, Call, bounds, questions, number}
+use Rattle.rules.specs.Completion
+use Rattle.rules.specs.Unfold.{model}
+use Rattle.rules.specs.Collect
+use Rattle.rules.specs.Run
+use Rattle.rules.specs.Run.{Outcome, act, step, run}
+use Rattle.rules.specs.Setters.{_▷_, setBytes, setRequest}
+use Rattle.rules.specs.State.{State, Request, Command}
+use Rattle.rules.specs.Turn
+use Rattle.rules.specs.Turn.{Step, idle, noDummy, readForRequest, readForJob, rebuild, writeNext, decide, doStep}
+use Rattle.rules.specs.Blocks
+use Rattle.rules.specs.Request
+use Rattle.hiding.specs.Claim
+use Rattle.hiding.specs.Claim.{Outline, anOpen, aRequest, aTurn, aCompletion, aCollect, outline, zeroed, told, drawsOf, drawsIn, Twin, Twins}
+
+-- a state without the bytes it keeps: of a request's contents the length stays
+abbrev pub bareRequest : Option Request → Option Request
+bareRequest none = none
+bareRequest (some r) = some (record { kind = r .kind; block = r .block; bytes = replicate (length (r .bytes)) 0; next = r .next; evict = r .evict; level = r .level })
+
+abbrev pub bare : State → State
+bare s = s ▷ setBytes (λ b. []) ▷ setRequest (bareRequest (s .request))
+
+-- a call with zeros for bytes
+abbrev pub bareAsk : Ask → Ask
+bareAsk a = zeroed (outline a)
+
+abbrev pub bareCall : Call → Call
+bareCall c = record { ask = bareAsk (c .ask); memory = c .memory; words = c .words; buffer = c .buffer }
+
+length-zeros : (bs : List ℕ) → length {A = ℕ} (replicate (length bs) 0) ≡ length bs
+length-zeros bs = let z : ℕ = 0 in length-replicate (length bs) z
+
+-- zeros for bytes are as many
+pub outline-zeroed : (o : Outline) → outline (zeroed o) ≡ o
+outline-zeroed (anOpen h) = refl
+outline-zeroed (aRequest k b n) = let z : ℕ = 0 in ap (aRequest k b) (length-replicate n z)
+outline-zeroed aTurn = refl
+outline-zeroed (aCompletion c n) = let z : ℕ = 0 in ap (aCompletion c) (length-replicate n z)
+outline-zeroed aCollect = refl
+
+-- ---- what is asked of a state
+
+module _ (s : State) where
+  requestStep-bare : (o : Option Request) → Turn.requestStep (bare s) (bareRequest o) ≡ Turn.requestStep s o
+  unfolding model
+  requestStep-bare none = refl
+  requestStep-bare (some r) = refl
+
+  jobStep-bare : (l : List ℕ) → Turn.jobStep (bare s) l ≡ Turn.jobStep s l
+  unfolding model
+  jobStep-bare [] = refl
+  jobStep-bare (q ∷ l) = refl
+
+  pub decide-bare : decide (bare s) ≡ decide s
+  unfolding decide
+  decide-bare = rw (requestStep-bare (s .request), jobStep-bare (s .queue))
+
+  bounds-bare : (a : Ask) → bounds (bare s) (bareAsk a) ≡ bounds s a
+  unfolding bounds
+  bounds-bare (opening h) = refl
+  bounds-bare (request k b bs) = refl
+  bounds-bare turn = rw decide-bare
+  bounds-bare (completion c bs) = refl
+  bounds-bare collect = refl
+
+  sent-bare : (a : Ask) → Run.sentCommand (bare s) (bareAsk a) ≡ Run.sentCommand s a
+  unfolding Run.sentCommand
+  sent-bare (opening h) = refl
+  sent-bare (request k b bs) = refl
+  sent-bare turn = rw decide-bare
+  sent-bare (completion c bs) = refl
+  sent-bare collect = refl
+
+  possible-bare : (x : Step) → Questions.possible (bare s) x ≡ Questions.possible s x
+  unfolding model
+  possible-bare idle = refl
+  possible-bare noDummy = refl
+  possible-bare (readForRequest q ℓ i) = refl
+  possible-bare (readForJob q ℓ i) = refl
+  possible-bare (rebuild q t) = refl
+  possible-bare (writeNext q t i) = refl
+
+  finished-bare : (o : Option Request) → Questions.inHand (Collect.finished (bare s)) (bareRequest o) ≡ Questions.inHand (Collect.finished s) o
+  unfolding model
+  finished-bare none = refl
+  finished-bare (some r) = refl
+
+  inHand-bare : (o : Option Request) → Questions.inHand (λ r. true) (bareRequest o) ≡ Questions.inHand (λ r. true) o
+  unfolding model
+  inHand-bare none = refl
+  inHand-bare (some r) = refl
+
+  none-bare : (o : Option Request) → isNone (bareRequest o) ≡ isNone o
+  unfolding model
+  none-bare none = refl
+  none-bare (some r) = refl
+
+  rangeRequest-bare : (o : Option Request) → Ranges.rangeRequest (s .shape) (bareRequest o) ≡ Ranges.rangeRequest (s .shape) o
+  unfolding Ranges.rangeRequest
+  rangeRequest-bare none = refl
+  rangeRequest-bare (some r) = rw (length-zeros (r .bytes))
+
+  queueFits-bare : (o : Option Request) → Ranges.queueFits (s .queue) (bareRequest o) ≡ Ranges.queueFits (s .queue) o
+  unfolding model
+  queueFits-bare none = refl
+  queueFits-bare (some r) = refl
+
+  cacheFits-bare : (o : Option Request) → Ranges.cacheFits (s .shape .E) (s .waiting) (bareRequest o) ≡ Ranges.cacheFits (s .shape .E) (s .waiting) o
+  unfolding model
+  cacheFits-bare none = refl
+  cacheFits-bare (some r) = refl
+
+  ready-bare : (m : ℕ) → Questions.ready (bare s) m ≡ Questions.ready s m
+  unfolding Questions.ready Ranges.inRange Ranges.ranges
+  ready-bare m = rw (rangeRequest-bare (s .request), queueFits-bare (s .request), cacheFits-bare (s .request))
+
+  questions-bare : (a : Ask) (m : ℕ) (ws : List ℕ) (n : ℕ) → questions (bare s) (bareAsk a) m ws n ≡ questions s a m ws n
+  unfolding questions bounds
+  questions-bare (opening h) m ws n = refl
+  questions-bare (request k b bs) m ws n = rw (ready-bare m, none-bare (s .request), length-zeros bs)
+  questions-bare turn m ws n = rw (ready-bare m, decide-bare, possible-bare (decide s))
+  questions-bare (completion c bs) m ws n = rw (ready-bare m, length-zeros bs)
+  questions-bare collect m ws n = rw (ready-bare m, inHand-bare (s .request), finished-bare (s .request))
+
+  number-bare : (c : Call) → number (bare s) (bareCall c) ≡ number s c
+  unfolding number
+  number-bare c = rw (questions-bare (c .ask) (c .memory) (c .words) (c .buffer))
+
+  -- ---- what it does
+
+  passLevel-bare : (ℓ : ℕ) (o : Option Request) → bareRequest (Request.passLevel ℓ (bareRequest o)) ≡ bareRequest (Request.passLevel ℓ o)
+  unfolding Request.passLevel
+  passLevel-bare ℓ none = refl
+  passLevel-bare ℓ (some r) = rw (length-zeros (r .bytes))
+
+  same-bare : (o : Option Request) → bareRequest (bareRequest o) ≡ bareRequest o
+  same-bare none = refl
+  same-bare (some r) = rw (length-zeros (r .bytes))
+
+  doStep-bare : (x : Step) (js : List ℕ) → bare (doStep x js (bare s)) ≡ bare (doStep x js s)
+  unfolding model
+  doStep-bare idle js = rw (same-bare (s .request))
+  doStep-bare noDummy js = rw (same-bare (s .request))
+  doStep-bare (readForRequest q ℓ i) js = rw (passLevel-bare ℓ (s .request))
+  doStep-bare (readForJob q ℓ i) js = rw (same-bare (s .request))
+  doStep-bare (rebuild q t) js = rw (same-bare (s .request))
+  doStep-bare (writeNext q t i) js = rw (same-bare (s .request))
+
+  gatherBytes-bare : (o : Option ℕ) (bs cs : List ℕ) → bare (Completion.gatherBytes o bs (bare s)) ≡ bare (Completion.gatherBytes o cs s)
+  unfolding Completion.gatherBytes
+  gatherBytes-bare none bs cs = rw (same-bare (s .request))
+  gatherBytes-bare (some b) bs cs = rw (same-bare (s .request))
+
+  finishJob-bare : (l : List ℕ) → bare (Completion.finishJob l (bare s)) ≡ bare (Completion.finishJob l s)
+  unfolding Completion.finishJob Completion.jobDone Completion.endJob
+  finishJob-bare [] = rw (same-bare (s .request))
+  finishJob-bare (q ∷ l) = go (Completion.jobDone s q)
+    where
+      go : (t : Bool) → bare (if t then Completion.endJob q l (bare s) else bare s) ≡ bare (if t then Completion.endJob q l s else s)
+      go true = rw (same-bare (s .request))
+      go false = rw (same-bare (s .request))
+
+  collected-bare : (o : Option Request) → bare (Collect.collected (bareRequest o) (bare s)) ≡ bare (Collect.collected o s)
+  unfolding model
+  collected-bare none = rw (same-bare (s .request))
+  collected-bare (some r) = refl
+
+module _ (s : State) where
+  complete-bare : (c : Command) (bs cs : List ℕ) → bare (Completion.complete c bs (bare s)) ≡ bare (Completion.complete c cs s)
+  unfolding Completion.complete Completion.completeRead Completion.completeWrite Completion.completed Blocks.holder
+  complete-bare c bs cs = go (eqb (c .kind) 1)
+    where
+      go : (t : Bool) → bare (if t then Completion.completeRead c bs (bare s) else Completion.completeWrite c (bare s)) ≡ bare (if t then Completion.completeRead c cs s else Completion.completeWrite c s)
+      go true = gatherBytes-bare (Completion.completed c s) (Blocks.holder s (c .partition) (c .level) (c .slot)) bs cs
+      go false = finishJob-bare (Completion.completed c s) (s .queue)
+
+  act-bare : (a : Ask) (js : List ℕ) → bare (act (bare s) (bareAsk a) js) ≡ bare (act s a js)
+  unfolding act
+  act-bare (opening h) js = refl
+  act-bare (request k b bs) js = unfold Request.accept in (rw (length-zeros bs))
+  act-bare turn js = rw (decide-bare s) (doStep-bare s (decide s) js)
+  act-bare (completion c bs) js = complete-bare c (replicate (length bs) 0) bs
+  act-bare collect js = collected-bare s (s .request)
+
+  refuse-bare : (a : Ask) → bare (Run.refuse (bare s) (bareAsk a)) ≡ bare (Run.refuse s a)
+  unfolding Run.refuse
+  refuse-bare (opening h) = refl
+  refuse-bare (request k b bs) = rw (same-bare s (s .request))
+  refuse-bare turn = rw (same-bare s (s .request))
+  refuse-bare (completion c bs) = rw (same-bare s (s .request))
+  refuse-bare collect = rw (same-bare s (s .request))
+
+  -- a call with zeros, from the state without its bytes
+  pub record Bare (c : Call) : Type 0 where
+    pub tells : told (step (bare s) (bareCall c) .1) ≡ told (step s c .1)
+    pub draws : drawsOf (bare s) (bareCall c) ≡ drawsOf s c
+    pub next : bare (step (bare s) (bareCall c) .0) ≡ bare (step s c .0)
+
+  step-bare : (c : Call) → Bare c
+  unfolding step Run.accepted Run.refused drawsOf
+  step-bare c = go (eqb (number s c) 0) refl
+    where
+      n : number (bare s) (bareCall c) ≡ number s c
+      n = number-bare s c
+
+      js : List ℕ
+      js = Run.numbersOf (draws (bounds s (c .ask)) (c .words))
+
+      go : (t : Bool) → eqb (number s c) 0 ≡ t → Bare c
+      go true e = record {
+        tells = rw (n, e, bounds-bare s (c .ask), sent-bare s (c .ask));
+        draws = rw (n, e, bounds-bare s (c .ask));
+        next = rw (n, e, bounds-bare s (c .ask)) (act-bare (c .ask) js);
+      }
+      go false e = record {
+        tells = rw (n, e);
+        draws = rw (n, e);
+        next = rw (n, e) (refuse-bare (c .ask));
+      }
+
+-- ---- lists of calls
+
+twin-bare : (c d : Call) → Twin c d → bareCall c ≡ bareCall d
+twin-bare c d t = λ i. record { ask = zeroed (t .ask i); memory = t .memory i; words = t .words i; buffer = t .buffer i }
+
+-- two calls, from two states
+module _ (c d : Call) (t : Twin c d) (s s′ : State) (e : bare s ≡ bare s′) where
+  same-step : step (bare s) (bareCall c) ≡ step (bare s′) (bareCall d)
+  same-step = λ i. step (e i) (twin-bare c d t i)
+
+  pub twin-tells : told (step s c .1) ≡ told (step s′ d .1)
+  twin-tells = sym (step-bare s c .tells) ∙ ap (λ (r : State × Outcome). told (r .1)) same-step ∙ step-bare s′ d .tells
+
+  pub twin-next : bare (step s c .0) ≡ bare (step s′ d .0)
+  twin-next = sym (step-bare s c .next) ∙ ap (λ (r : State × Outcome). bare (r .0)) same-step ∙ step-bare s′ d .next
+
+  pub twin-draws : drawsOf s c ≡ drawsOf s′ d
+  twin-draws = sym (step-bare s c .draws) ∙ (λ i. drawsOf (e i) (twin-bare c d t i)) ∙ step-bare s′ d .draws
+
+pub twins-told : (cs ds : List Call) → Twins cs ds → (s s′ : State) → bare s ≡ bare s′ → map told (run s cs) ≡ map told (run s′ ds)
+unfolding run
+twins-told [] [] Claim.none s s′ e = refl
+twins-told (c ∷ cs) (d ∷ ds) (Claim.more t ts) s s′ e =
+    ap₂ (λ o os. o ∷ os) (twin-tells c d t s s′ e) (twins-told cs ds ts (step s c .0) (step s′ d .0) (twin-next c d t s s′ e))
+
+pub twins-drawn : (cs ds : List Call) → Twins cs ds → (s s′ : State) → bare s ≡ bare s′ → drawsIn s cs ≡ drawsIn s′ ds
+unfolding drawsIn
+twins-drawn [] [] Claim.none s s′ e = refl
+twins-drawn (c ∷ cs) (d ∷ ds) (Claim.more t ts) s s′ e =
+    ap₂ _++_ (twin-draws c d t s s′ e) (twins-drawn cs ds ts (step s c .0) (step s′ d .0) (twin-next c d t s s′ e))
+
+-- a call, and the same with zeros
+pub zeros-twin : (c : Call) → Twin c (bareCall c)
+zeros-twin c = record { ask = go (c .ask); memory = refl; words = refl; buffer = refl }
+  where
+    go : (a : Ask) → outline a ≡ outline (bareAsk a)
+    go (opening h) = refl
+    go (request k b bs) = rw (length-zeros bs)
+    go turn = refl
+    go (completion c bs) = rw (length-zeros bs)
+    go collect = refl
+
+pub zeros-twins : (cs : List Call) → Twins cs (map bareCall cs)
+zeros-twins [] = Claim.none
+zeros-twins (c ∷ cs) = Claim.more (zeros-twin c) (zeros-twins cs)
