@@ -10,6 +10,8 @@ pub mod Positions
 pub mod Lists
 pub mod Cache
 pub mod Reached
+-- "Among such requests only 8 may depend on names"
+pub mod Names
 -- The theorem, `hidden`
 pub mod Theorem
 -- The same with an honest host, and demand 2 with it

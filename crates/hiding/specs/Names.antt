@@ -1,0 +1,54 @@
+-- Document 01, of well-formed requests: "among such requests only 8 may depend on names".
+use mathlib.Core.Path.{_≡_, refl}
+use mathlib.Core.Logic.{_⊎_, inl, inr}
+use mathlib.Core.Bool.{Bool, true, false, _&&_, _||_}
+use mathlib.Core.List.{List, [], _∷_}
+use Prim.Native.Nat.{ℕ}
+use lib.ListN.{length}
+use lib.Dec.{ltb, leb}
+use borrow.Author.Tests.{lt-ltb, eq-eqb}
+use Rattle.lists.specs.Search.{isNone, member}
+use Rattle.rules.specs.Questions.{request, Call, bounds, ready, questions, firstNo, number}
+use Rattle.rules.specs.Ranges.{bytesOf}
+use Rattle.rules.specs.Shape.{Shape}
+use Rattle.rules.specs.State.{State}
+use Rattle.hiding.specs.Claim.{WellFormed}
+use Rattle.hiding.specs.Orders.Number.{enough}
+
+-- Two well-formed requests to one state, lent as much memory and as many words, get the same number, or one of them gets 8
+abbrev pub OnlyEight : Type 0
+OnlyEight = (s : State) (c d : Call) (k b k′ b′ : ℕ) (bs bs′ : List ℕ) → c .ask ≡ request k b bs → d .ask ≡ request k′ b′ bs′
+    → WellFormed (s .shape) k b (length bs) → WellFormed (s .shape) k′ b′ (length bs′) → c .memory ≡ d .memory → length (c .words) ≡ length (d .words)
+    → (number s c ≡ number s d) ⊎ ((number s c ≡ 8) ⊎ (number s d ≡ 8))
+
+-- what is left to ask of a well-formed request: whether the state is ready, no request is in hand, the queue has room, the cache has room for the
+-- block, and words are enough
+unfoldable asks : Bool → Bool → Bool → Bool → Bool → ℕ
+asks r n j x w = firstNo ((r, 2) ∷ (n, 4) ∷ (j, 7) ∷ (x, 8) ∷ (w, 3) ∷ [])
+
+formed : (s : State) (c : Call) (k b : ℕ) (bs : List ℕ) → c .ask ≡ request k b bs → WellFormed (s .shape) k b (length bs)
+    → number s c ≡ asks (ready s (c .memory)) (isNone (s .request)) (leb (length (s .queue)) 62) (ltb (length (s .waiting)) (s .shape .E) || member b (s .waiting)) (leb 2 (length (c .words)))
+unfolding number questions firstNo bounds asks
+formed s c k b bs e f = rw (e, f .kind, lt-ltb b (s .shape .N) (f .block), eq-eqb (length bs) (bytesOf (s .shape) k) (f .contents), enough (s .shape .P ∷ s .shape .P ∷ []) (c .words), and-yes (ready s (c .memory)))
+  where
+    and-yes : (t : Bool) → (t && true) ≡ t
+    and-yes true = refl
+    and-yes false = refl
+
+-- only the cache's question may differ
+either : (r n j x y w : Bool) → (asks r n j x w ≡ asks r n j y w) ⊎ ((asks r n j x w ≡ 8) ⊎ (asks r n j y w ≡ 8))
+unfolding asks firstNo
+either false n j x y w = inl refl
+either true false j x y w = inl refl
+either true true false x y w = inl refl
+either true true true true true w = inl refl
+either true true true false y w = inr (inl refl)
+either true true true true false w = inr (inr refl)
+
+pub only-eight : OnlyEight
+only-eight s c d k b k′ b′ bs bs′ e e′ f f′ m w =
+    rw (formed s c k b bs e f, formed s d k′ b′ bs′ e′ f′, m, w)
+    (either (ready s (d .memory)) (isNone (s .request)) (leb (length (s .queue)) 62) (room b) (room b′) (leb 2 (length (d .words))))
+  where
+    room : ℕ → Bool
+    room b = ltb (length (s .waiting)) (s .shape .E) || member b (s .waiting)
