@@ -20,6 +20,7 @@ use Rattle.rules.specs.Completion
 use Rattle.rules.specs.Completion.{isCommand, complete}
 use Rattle.rules.specs.Draws.{draws}
 use Rattle.rules.specs.Laws.Answers.{Passed, opens, accepted-passed, step-accepted, step-refused, step-number, refuse-keeps}
+use Rattle.rules.specs.Laws.Lengths.{Whole, slot-length, contents-length}
 use Rattle.rules.specs.Laws.Range.{RequestIn}
 use Rattle.rules.specs.Laws.Shapes.{act-shape}
 use Rattle.rules.specs.Open.{fresh}
@@ -78,23 +79,6 @@ fit-same zero [] e = refl
 fit-same zero (b ∷ bs) e = absurd (omega arith)
 fit-same (suc n) [] e = absurd (omega arith)
 fit-same (suc n) (b ∷ bs) e = ap (λ xs. b ∷ xs) (fit-same n bs (omega arith))
-
--- each block has B bytes
-abbrev Whole : State → Type 0
-Whole s = (b : ℕ) → length (s .bytes b) ≡ s .shape .B
-
-slot-length : (s : State) → Whole s → (o : Option ℕ) → length (Blocks.slotBytes s o) ≡ s .shape .B
-unfolding Blocks.slotBytes Blocks.zeros
-slot-length s w none = length-replicate (s .shape .B) 0
-slot-length s w (some b) = w b
-
-contents-length : (s : State) → Whole s → (b : ℕ) → length (Blocks.contents s b) ≡ s .shape .B
-unfolding Blocks.contents Blocks.zeros
-contents-length s w b = go (Blocks.isNowhere (s .place b) && not (member b (s .waiting)))
-  where
-    go : (t : Bool) → length (if t then Blocks.zeros s else s .bytes b) ≡ s .shape .B
-    go true = length-replicate (s .shape .B) 0
-    go false = w b
 
 -- ---- What a call changes
 

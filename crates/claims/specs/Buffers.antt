@@ -18,7 +18,8 @@ use Rattle.rules.specs.Run.{Outcome, act, step, accepted, refused, sentCommand,
 use Rattle.rules.specs.State.{State, write}
 use Rattle.rules.specs.Turn.{decide, command}
 use Rattle.meets.specs.Meets.{handedTo}
-use Rattle.meets.specs.Buffers.{Whole, filled, written-some, answer-some}
+use Rattle.rules.specs.Laws.Lengths.{Whole}
+use Rattle.meets.specs.Buffers.{filled, written-some, answer-some}
 use Rattle.claims.specs.Claim.{handsOut}
 
 -- ---- What is handed out

@@ -9,12 +9,11 @@ use Rattle.rules.specs.Run.{refuse, refused}
 use Rattle.rules.specs.Shape.{Shape}
 use Rattle.rules.specs.State.{closed}
 use Rattle.rules.specs.Unfold.{model}
-use Rattle.memory.specs.Words.{wordAt}
 use Rattle.client.specs.View.{stateOf}
 use Rattle.meets.specs.Answers.{clearedClient}
 use Rattle.meets.specs.Meets.{Meets, callOf, meets-no, closed-is}
 use Rattle.codec.specs.Codec.{answerOf, stateLength}
-use Rattle.exports.specs.Exported.{clientIn, Exported, Opened}
+use Rattle.exports.specs.Exported.{Exported, Opened, zeros-say}
 use Rattle.claims.specs.Claim.{Made, FromOpen, outcomeOf, handsOut}
 
 abbrev noShape : Shape
@@ -46,10 +45,6 @@ turned = record {
   buffer′ = 9 ∷ [];
 }
 
-zeros-say : clientIn (replicate stateLength 0) ≡ clearedClient
-unfolding wordAt
-zeros-say = refl
-
 open-number : 1 ≡ number closed (callOf (opening noShape) (1 ∷ 2 ∷ 3 ∷ []) [] [])
 unfolding model
 open-number = refl
@@ -67,7 +62,7 @@ unfolding refuse
 turn-meets = rw (closed-is (1 ∷ [])) (meets-no clearedClient closed turn (1 ∷ []) (5 ∷ 6 ∷ []) (9 ∷ []) 2 turn-number (λ z. omega arith) (closed-is (1 ∷ [])))
 
 open-contract : Opened noShape (replicate stateLength 7) (1 ∷ 2 ∷ 3 ∷ []) [] 1 (replicate stateLength 0) (1 ∷ 2 ∷ 3 ∷ [])
-open-contract = record { meets = λ l. rw zeros-say open-meets; refused = λ l n. refl; between = λ z. absurd (omega arith); other = λ n. absurd (n refl) }
+open-contract = record { meets = λ l. rw zeros-say open-meets; refused = λ n. refl; between = λ z. absurd (omega arith); other = λ n. absurd (n refl) }
 
 turn-contract : Exported turn (replicate stateLength 0) (1 ∷ []) (5 ∷ 6 ∷ []) (9 ∷ []) 2 (replicate stateLength 0) (1 ∷ []) (9 ∷ [])
 turn-contract = record { meets = λ l. rw zeros-say turn-meets; refused = λ n. refl; between = λ k. refl; other = λ n. absurd (n refl) }

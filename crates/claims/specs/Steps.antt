@@ -7,7 +7,7 @@ use Prim.Native.Nat.{ℕ, _%_, _≤_, _<_}
 use native.Mathlib.Omega.{arith}
 use native.Mathlib.Decide.{ℕ-discrete, decLt}
 use lib.Dec.{eqb}
-use lib.ListN.{length, replicate}
+use lib.ListN.{length}
 use borrow.Author.Tests.{lt-leb, leb-true}
 use Rattle.rules.specs.Draws.{draws}
 use Rattle.rules.specs.Laws.Answers.{accepted-passed, step-accepted, step-number, opens, refused-keeps, refused-outcome, refused-open}
@@ -20,15 +20,15 @@ use Rattle.rules.specs.Run.{Outcome, act, step, accepted, refused, refuse, numb
 use Rattle.rules.specs.Shape.{Shape}
 use Rattle.rules.specs.State.{State, Command, closed}
 use Rattle.rules.specs.Turn.{Step}
-use Rattle.memory.specs.Words.{wordAt}
 use Rattle.client.specs.declared.Client.{Client}
 use Rattle.client.specs.View.{stateOf, view}
 use Rattle.meets.specs.declared.Answer.{Answer}
 use Rattle.meets.specs.Answers.{clearedClient}
 use Rattle.meets.specs.Meets.{Meets, callOf, commandOf, closed-is}
-use Rattle.meets.specs.Buffers.{Whole, state-whole, ready-of, ready-long}
+use Rattle.rules.specs.Laws.Lengths.{Whole}
+use Rattle.meets.specs.Buffers.{state-whole, ready-of, ready-long}
 use Rattle.codec.specs.Codec.{answerOf, stateLength}
-use Rattle.exports.specs.Exported.{clientIn, Exported, Opened}
+use Rattle.exports.specs.Exported.{clientIn, Exported, Opened, zeros-say}
 use Rattle.claims.specs.Claim.{Made, Contract, Handed, callMade, handsOut, outcomeOf}
 use Rattle.claims.specs.Memory.{state-lent}
 use Rattle.claims.specs.Buffers.{hands-out}
@@ -157,10 +157,6 @@ module _ (h : Shape) (st m tape : List ℕ) (u : ℕ) (st′ m′ rest : List �
   unfolding handsOut
   open-outcome b′ = meets-outcome clearedClient closed (opening h) m tape [] (answerOf u (clientIn st′)) m′ [] (λ z b. unfold closed in refl) (k .meets l)
 
-  zeros-say : clientIn (replicate stateLength 0) ≡ clearedClient
-  unfolding wordAt
-  zeros-say = refl
-
   open-long : u % 256 ≡ 0 → needed h ≤ length m
   unfolding questions
   open-long z = leb-true (needed h) (length m) (accepted-passed closed opened (sym says ∙ z) .1 .0)
@@ -173,7 +169,7 @@ module _ (h : Shape) (st m tape : List ℕ) (u : ℕ) (st′ m′ rest : List �
   open-state (yes z) =
       let e : needed (stateOf (clientIn st′) m′ .shape) ≤ length m′ = omega (arith, ap needed (open-shape z), open-long z) in
       state-lent (clientIn st′) m′ rest e ∙ k .meets l .state
-  open-state (no z) = rw (k .refused l z, zeros-say) (closed-is (m′ ++ rest) ∙ sym (refused-open closed opened h refl (λ n. z (says ∙ n))))
+  open-state (no z) = rw (k .refused z, l, zeros-say) (closed-is (m′ ++ rest) ∙ sym (refused-open closed opened h refl (λ n. z (says ∙ n))))
 
 -- ---- Every call
 

@@ -15,6 +15,10 @@ use Rattle.client.specs.View.{view, stateOf}
 abbrev pub atLevel : ℕ → Request → Request
 atLevel n r = record { kind = r .kind; block = r .block; next = r .next; evict = r .evict; level = n }
 
+-- no request in hand
+abbrev pub noRequest : Request
+noRequest = record { kind = 0; block = 0; next = 0; evict = 0; level = 0 }
+
 abbrev pub withRequest : Request → Client → Client
 withRequest x c = record { shape = c .shape; request = x; jobs = c .jobs; cursor = c .cursor; sent = c .sent; waiting = c .waiting; out = c .out }
 

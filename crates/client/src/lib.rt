@@ -1,7 +1,7 @@
 // The client's state: small numbers by value, beside the tables in the lent memory.
 use memory::Shape;
 ghost use mathlib.Core.Path.{_≡_};
-ghost use Rattle.client.specs.Moves.{withRequest, withJobs, withCursor, withSent, withWaiting, withOut};
+ghost use Rattle.client.specs.Moves.{noRequest, withRequest, withJobs, withCursor, withSent, withWaiting, withOut};
 
 // A request in hand, of kind 1 read or 2 write; or none, of kind 0. The contents of a write are block N of the memory.
 pub struct Request {
@@ -27,6 +27,21 @@ pub struct Client {
 pub enum Found {
     At(usize),
     Nothing,
+}
+
+impl Request {
+    // No request in hand.
+    pub fn none() -> Request
+        ensures { λ r. ⌜ r ≡ noRequest ⌝ }
+    {
+        Request {
+            kind: 0,
+            block: 0,
+            next: 0,
+            evict: 0,
+            level: 0,
+        }
+    }
 }
 
 impl Client {

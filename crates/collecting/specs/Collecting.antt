@@ -27,12 +27,11 @@ use Rattle.rules.specs.Laws.Waiting.{Waits}
 use Rattle.memory.specs.Tables.{Tables, tablesOf, withBlocks, withHolds, withPlace, withPartition}
 use Rattle.memory.specs.Fits.{shapeOf}
 use Rattle.client.specs.declared.Client.{Client}
-use Rattle.client.specs.declared.Request.{Request}
 use Rattle.client.specs.View.{stateOf, view, requestOf, placeOf, levelOf}
 use Rattle.client.specs.Readings.{heldOf, held-none, held-some}
 use Rattle.client.specs.Changes.{view-bytes, view-holds, view-place, view-partition, place-nowhere, level-le}
 use Rattle.client.specs.Ready.{Asked}
-use Rattle.client.specs.Moves.{withRequest, withWaiting, withJobs, Room, Stands, stands, then as next}
+use Rattle.client.specs.Moves.{noRequest, withRequest, withWaiting, withJobs, Room, Stands, stands, then as next}
 use Rattle.tape.specs.Tape.{wordsOf}
 use Rattle.meets.specs.Meets.{handedTo}
 use Rattle.ready.specs.Usable.{Usable, usable}
@@ -184,6 +183,7 @@ pub record Settled (c : Client) (m₀ m : List ℕ) (r : Client) : Type 0 where
 
 pub record Queued (c : Client) (m₀ m : List ℕ) (p evict : ℕ) (r : Client) : Type 0 where
   pub shape : r .shape ≡ c .shape
+  pub request : r .request ≡ noRequest
   pub stands : Stands r m₀ m (queued p evict (stateOf c m₀))
 
 pub finish-is : (r : R.Request) (s : State) (p : ℕ) (bs : List ℕ) → s .partition (r .block) ≡ p → bs ≡ contents s (r .block)
@@ -240,9 +240,6 @@ settled c r m₀ m₁ m a e f = record {
   stands = after (renewed (c .request .block)) c r m₀ m₁ m _ (ap (λ (x : Client). x .shape) e) a f;
 }
 
-abbrev pub noRequest : Request
-noRequest = record { kind = 0; block = 0; next = 0; evict = 0; level = 0 }
-
 pub queued-stand : (c d e : Client) (m₀ m₁ m : List ℕ) (p evict : ℕ) → d ≡ withJobs (c .jobs + 1) c → Stands d m₀ m₁ (setQueue (stateOf c m₀ .queue ++ (p ∷ [])) (stateOf c m₀))
     → e ≡ withJobs (d .jobs + 1) d → Stands e m₁ m (setQueue (stateOf d m₁ .queue ++ (evict ∷ [])) (stateOf d m₁)) → Queued c m₀ m p evict (withRequest noRequest e)
 unfolding stateOf view requestOf
@@ -252,6 +249,7 @@ queued-stand c d e m₀ m₁ m p evict x a y b =
     let both = after (λ (s : State). setQueue (s .queue ++ (evict ∷ [])) s) d e m₀ m₁ m _ z a b in
     record {
       shape = z ∙ ap (λ (k : Client). k .shape) x;
+      request = refl;
       stands = record {
         state = ap (setRequest none) (both .state ∙ ap (λ q. setQueue q s) (append-assoc (s .queue) (p ∷ []) (evict ∷ [])));
         tail = both .tail;

@@ -13,7 +13,7 @@ ghost use Rattle.rules.specs.Collect.{finished, finish as finishOf};
 ghost use Rattle.rules.specs.Questions.{collect as collectOf, number as numberOf};
 ghost use Rattle.client.specs.Readings.{heldOf};
 ghost use Rattle.client.specs.View.{stateOf};
-ghost use Rattle.client.specs.Moves.{Room, Stands};
+ghost use Rattle.client.specs.Moves.{noRequest, Room, Stands};
 ghost use Rattle.meets.specs.Meets.{Meets};
 ghost use Rattle.collecting.specs.Collecting.{callWith, Hand, newBytes, emptySlot, Settled, Queued};
 
@@ -121,19 +121,13 @@ fn queue(c: Client, m: &mut [u8], p: usize, evict: usize) -> Client
 {
     let d = jobs::push(c, m, p);
     let e = jobs::push(d, m, evict);
-    e.with_request(Request {
-        kind: 0,
-        block: 0,
-        next: 0,
-        evict: 0,
-        level: 0,
-    })
+    e.with_request(Request::none())
 }
 
 // Collects the finished request; the buffer has what was handed out.
 fn finish(c: Client, m: &mut [u8], buffer: &[u8]) -> Client
     requires { ⌜ Hand c (now m) × (length (now buffer) ≡ c .shape .b) × (now buffer ≡ contents (stateOf c (now m)) (c .request .block)) ⌝ }
-    ensures { λ r. ⌜ Stands r (now (m .entry)) (now (m .exit)) (finishOf (heldOf c (now (m .entry))) (stateOf c (now (m .entry)))) ⌝ }
+    ensures { λ r. ⌜ (r .request ≡ noRequest) × Stands r (now (m .entry)) (now (m .exit)) (finishOf (heldOf c (now (m .entry))) (stateOf c (now (m .entry)))) ⌝ }
 {
     let p = memory::tables::partition(c.shape, m, c.request.block);
     let evict = c.request.evict;

@@ -71,14 +71,15 @@ module _ (c : Client) (m : List ℕ) (d : Command) (bs : List ℕ) where
       passed e = rw (r, a, eq-eqb (length bs) (wanted c d) e)
 
       -- all answers are yes, and the act leaves the rules' state
-      pub yes : (c′ : Client) (m′ : List ℕ) → length bs ≡ wanted c d → Stands c′ m m′ (complete d bs (stateOf c m)) → Meets c (stateOf c m) (completion d bs) m [] [] (refusedWith 0 c′) m′ []
+      pub yes : (c′ : Client) (m′ : List ℕ) → length bs ≡ wanted c d → c′ .request ≡ c .request → Stands c′ m m′ (complete d bs (stateOf c m)) → Meets c (stateOf c m) (completion d bs) m [] [] (refusedWith 0 c′) m′ []
       unfolding bounds draws takenOf numbersOf act sentCommand handed stateOf view
-      yes c′ m′ e s = meets-yes c (stateOf c m) (completion d bs) m [] [] (refusedWith 0 c′) m′ [] (record {
+      yes c′ m′ e k s = meets-yes c (stateOf c m) (completion d bs) m [] [] (refusedWith 0 c′) m′ [] (record {
         yes = passed e;
         number = refl;
         taken = refl;
         command = refl;
         state = s .state;
+        idle = λ _. k;
         buffer = refl;
         tail = s .tail;
       })

@@ -75,7 +75,7 @@ fn grown(h: Shape, counter: usize) -> usize
 // The front job, for q, is done: its counter grows, and it leaves the queue.
 fn end_job(c: Client, m: &mut [u8], q: usize) -> Client
     requires { ⌜ Room c (now m) × (1 ≤ c .jobs) × (c .jobs ≤ 64) × (q < c .shape .p) ⌝ }
-    ensures { λ r. ⌜ (r .shape ≡ c .shape) × Stands r (now (m .entry)) (now (m .exit)) (endJob q (dropAt 0 (stateOf c (now (m .entry)) .queue)) (stateOf c (now (m .entry)))) ⌝ }
+    ensures { λ r. ⌜ (r .shape ≡ c .shape) × Stands r (now (m .entry)) (now (m .exit)) (endJob q (dropAt 0 (stateOf c (now (m .entry)) .queue)) (stateOf c (now (m .entry)))) × (r .request ≡ c .request) ⌝ }
 {
     let n = grown(c.shape, memory::tables::counter(c.shape, m, q));
     memory::tables::set_counter(c.shape, m, q, n);
@@ -85,7 +85,7 @@ fn end_job(c: Client, m: &mut [u8], q: usize) -> Client
 // The front job ends when its last write completes.
 fn finish_job(c: Client, m: &mut [u8]) -> Client
     requires { ⌜ Room c (now m) × (c .out ≤ 32) × (c .jobs ≤ 64) ⌝ }
-    ensures { λ r. ⌜ (r .shape ≡ c .shape) × Stands r (now (m .entry)) (now (m .exit)) (finishJob (stateOf c (now (m .entry)) .queue) (stateOf c (now (m .entry)))) ⌝ }
+    ensures { λ r. ⌜ (r .shape ≡ c .shape) × Stands r (now (m .entry)) (now (m .exit)) (finishJob (stateOf c (now (m .entry)) .queue) (stateOf c (now (m .entry)))) × (r .request ≡ c .request) ⌝ }
 {
     if c.jobs == 0 {
         return c;
@@ -109,7 +109,7 @@ fn complete(
     bytes: &[u8],
 ) -> Client
     requires { ⌜ Completes c (now m) (cmd kind q l i) (now bytes) j ⌝ }
-    ensures { λ r. ⌜ Stands r (now (m .entry)) (now (m .exit)) (completeOf (cmd kind q l i) (now (bytes .entry)) (stateOf c (now (m .entry)))) ⌝ }
+    ensures { λ r. ⌜ (r .request ≡ c .request) × Stands r (now (m .entry)) (now (m .exit)) (completeOf (cmd kind q l i) (now (bytes .entry)) (stateOf c (now (m .entry)))) ⌝ }
 {
     let d = commands::complete(c, m, j);
     if kind == 1 {

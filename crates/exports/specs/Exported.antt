@@ -1,12 +1,13 @@
 -- What the exported calls' contracts say: the answer, read off one number, and the state, read off 64 bytes, meet the rules.
-use mathlib.Core.Path.{_≡_, refl, ap, sym, _∙_}
-use mathlib.Core.Bool.{true, false}
+use mathlib.Core.Path.{_≡_, refl, ap, sym, _∙_, subst}
+use mathlib.Core.Bool.{Bool, true, false}
 use mathlib.Core.List.{List, []}
 use Prim.Native.Nat.{ℕ, _+_, _*_, _/_, _%_, _<_}
 use native.Mathlib.Nat.{mod-eq-of-lt}
 use native.Mathlib.Omega.{arith}
 use native.Mathlib.Decide.{ℕ-discrete}
 use lib.ListN.{length, replicate}
+use Rattle.lists.specs.Tests.{if_then_else_}
 use Rattle.rules.specs.Shape.{Shape, within}
 use Rattle.rules.specs.State.{State, Command, closed}
 use Rattle.rules.specs.Draws.{draws}
@@ -25,8 +26,9 @@ use Rattle.client.specs.View.{stateOf, view}
 use Rattle.tape.specs.Tape.{wordsOf}
 use Rattle.meets.specs.declared.Answer.{Answer}
 use Rattle.meets.specs.Answers.{clearedClient}
-use Rattle.meets.specs.Meets.{Meets, callOf, commandOf}
+use Rattle.meets.specs.Meets.{Meets, callOf, commandOf, unasked}
 use Rattle.codec.specs.Codec.{stateLength, clientOf, reshaped, lowShape, lowClient, withShape, withProgress, withRest, rest-is, progress-is, stored-is, Between, between-progress, between-rest, between-shape, packed, answerOf}
+use Rattle.exports.specs.Idle.{Idle, rest-idle, progress-idle}
 use Rattle.exports.specs.Progress.{same-state}
 use Rattle.exports.specs.Small.{SmallCommand, accepted-small, low-shape, low-client}
 
@@ -43,12 +45,15 @@ pub record Exported (a : Ask) (st m tape b : List ℕ) (u : ℕ) (st′ m′ b�
   -- a state of another length: 2, and nothing is written
   pub other : (length st ≡ stateLength → ⊥) → (u ≡ 2) × (st′ ≡ st) × (m′ ≡ m) × (b′ ≡ b)
 
--- An open: a refused one hands back a closed state, all zeros
+-- An open
 pub record Opened (h : Shape) (st m tape : List ℕ) (u : ℕ) (st′ m′ : List ℕ) : Type 0 where
   pub meets : length st ≡ stateLength → Meets clearedClient closed (opening h) m tape [] (answerOf u (clientIn st′)) m′ []
-  pub refused : length st ≡ stateLength → (u % 256 ≡ 0 → ⊥) → st′ ≡ replicate stateLength 0
+  -- a refused one hands back a closed state: zeros in all that was lent for it
+  pub refused : (u % 256 ≡ 0 → ⊥) → st′ ≡ replicate (length st) 0
+  -- an accepted one leaves the bytes between the numbers
   pub between : u % 256 ≡ 0 → Between (wordAt st) (wordAt st′)
-  pub other : (length st ≡ stateLength → ⊥) → (u ≡ 2) × (st′ ≡ st) × (m′ ≡ m)
+  -- a state of another length is no memory for a client: shape within bounds? 1. Long enough? 2
+  pub other : (length st ≡ stateLength → ⊥) → (u ≡ (if within h then 2 else 1)) × (m′ ≡ m)
 
 -- ---- Packed answers
 
@@ -137,22 +142,24 @@ module _ (c : Client) (s : State) (a : Ask) (m tape b : List ℕ) (r : Answer) (
       rw w (accepted-in s a (length m) (wordsOf tape) (length b) (accepted-passed s made e))
 
   -- the same answer with another client that stands for the same state
-  repacked : Small r → (x : Client) → stateOf x m′ ≡ stateOf (r .client) m′ → ((r .number ≡ 0 → ⊥) → x ≡ c) → Meets c s a m tape b (answerOf (packed r) x) m′ b′
-  repacked f x e n = rw (unpacked r f x) (record {
+  repacked : Small r → (x : Client) → stateOf x m′ ≡ stateOf (r .client) m′ → (r .number ≡ 0 → Idle a (c .request) x) → ((r .number ≡ 0 → ⊥) → x ≡ c)
+      → Meets c s a m tape b (answerOf (packed r) x) m′ b′
+  repacked f x e i n = rw (unpacked r f x) (record {
     number = k .number;
     taken = k .taken;
     command = k .command;
     state = e ∙ k .state;
+    idle = i;
     buffer = k .buffer;
     refused = λ z. (k .refused z .0, n z);
     tail = rw e (k .tail);
   })
 
   pub meets-refused : (r .number ≡ 0 → ⊥) → Meets c s a m tape b (answerOf (packed r) c) m′ b′
-  meets-refused n = repacked (refused-small n) c (ap (λ x. stateOf x m′) (sym (k .refused n .1))) (λ z. refl)
+  meets-refused n = repacked (refused-small n) c (ap (λ x. stateOf x m′) (sym (k .refused n .1))) (λ z. absurd (n z)) (λ z. refl)
 
-  pub meets-accepted : r .number ≡ 0 → (x : Client) → stateOf x m′ ≡ stateOf (r .client) m′ → Meets c s a m tape b (answerOf (packed r) x) m′ b′
-  meets-accepted z x e = repacked (accepted-fits z) x e (λ n. absurd (n z))
+  pub meets-accepted : r .number ≡ 0 → (x : Client) → stateOf x m′ ≡ stateOf (r .client) m′ → Idle a (c .request) x → Meets c s a m tape b (answerOf (packed r) x) m′ b′
+  meets-accepted z x e i = repacked (accepted-fits z) x e (λ _. i) (λ n. absurd (n z))
 
   -- numbers modulo 2^16 stand for the same state
   pub left-low : r .number ≡ 0 → stateOf (lowClient (r .client)) m′ ≡ stateOf (r .client) m′
@@ -189,7 +196,7 @@ pub record HandedBack (stored : (ℕ → ℕ) → ℕ → ℕ) (r : Answer) (u :
 pub record HandedBackOpened (r : Answer) (u : ℕ) (st st′ : List ℕ) : Type 0 where
   pub answer : u ≡ packed r
   pub accepted : r .number ≡ 0 → wordAt st′ ≡ withRest (r .client) (withShape (r .client .shape) (wordAt st))
-  pub refused : (r .number ≡ 0 → ⊥) → st′ ≡ replicate stateLength 0
+  pub refused : (r .number ≡ 0 → ⊥) → st′ ≡ replicate (length st) 0
 
 abbrev pub numbers : ℕ → ℕ → ℕ → ℕ → ℕ → ℕ → Shape
 numbers n p l b e w = record { N = n; P = p; L = l; B = b; E = e; W = w }
@@ -202,8 +209,9 @@ module _ (a : Ask) (four : opens a ≡ false) (st m tape b : List ℕ) (r : Answ
   abbrev s : State
   s = stateOf (clientIn st) m
 
-  handed : (stored : (ℕ → ℕ) → ℕ → ℕ) → HandedBack stored r u st st′ → Between (wordAt st) (stored (wordAt st)) → (r .number ≡ 0 → stateOf (clientOf (stored (wordAt st))) m′ ≡ stateOf (r .client) m′) → Exported a st m tape b u st′ m′ b′
-  handed stored h between same = record {
+  handed : (stored : (ℕ → ℕ) → ℕ → ℕ) → HandedBack stored r u st st′ → Between (wordAt st) (stored (wordAt st)) → (r .number ≡ 0 → stateOf (clientOf (stored (wordAt st))) m′ ≡ stateOf (r .client) m′)
+      → (r .number ≡ 0 → Idle a (clientIn st .request) (clientOf (stored (wordAt st)))) → Exported a st m tape b u st′ m′ b′
+  handed stored h between same idle = record {
     meets = λ _. rw (h .answer) (go (ℕ-discrete (r .number) 0));
     refused = λ n. h .refused (λ z. n (rw (h .answer) (number-packed (clientIn st) s a m tape b r m′ b′ k ∙ z)));
     between = kept (ℕ-discrete (r .number) 0);
@@ -215,7 +223,7 @@ module _ (a : Ask) (four : opens a ≡ false) (st m tape b : List ℕ) (r : Answ
       kept (no n) = rw (h .refused n) (λ k. refl)
 
       go : Dec (r .number ≡ 0) → Meets (clientIn st) s a m tape b (answerOf (packed r) (clientIn st′)) m′ b′
-      go (yes z) = meets-accepted (clientIn st) s a m tape b r m′ b′ k z (clientIn st′) (ap (λ x. stateOf (clientOf x) m′) (h .accepted z) ∙ same z)
+      go (yes z) = meets-accepted (clientIn st) s a m tape b r m′ b′ k z (clientIn st′) (ap (λ x. stateOf (clientOf x) m′) (h .accepted z) ∙ same z) (subst (λ x. Idle a (clientIn st .request) (clientOf x)) (sym (h .accepted z)) (idle z))
       go (no n) = rw (h .refused n) (meets-refused (clientIn st) s a m tape b r m′ b′ k n)
 
   -- the shape is still that of the bytes
@@ -227,28 +235,39 @@ module _ (a : Ask) (four : opens a ≡ false) (st m tape b : List ℕ) (r : Answ
   pub exported : HandedBack (withRest (r .client)) r u st st′ → Exported a st m tape b u st′ m′ b′
   exported h = handed (withRest (r .client)) h (between-rest (r .client) (wordAt st) (wordAt st) (λ k. refl)) (λ z.
       ap (λ x. stateOf x m′) (rest-is (r .client) (wordAt st) ∙ ap (λ x. reshaped x (lowClient (r .client))) (shape-low z)) ∙ left-low (clientIn st) s a m tape b r m′ b′ k z)
+      (λ z. subst (Idle a (clientIn st .request)) (sym (rest-is (r .client) (wordAt st))) (rest-idle st a (r .client) m′ (left-low (clientIn st) s a m tape b r m′ b′ k z) (k .idle z)))
 
   -- ..by a call that changes no more of the request than its level
-  pub exported-progress : ((js : List ℕ) → asked (act s a js .request) ≡ asked (s .request)) → HandedBack (withProgress (r .client)) r u st st′ → Exported a st m tape b u st′ m′ b′
-  exported-progress e h = handed (withProgress (r .client)) h (between-progress (r .client) (wordAt st) (wordAt st) (λ k. refl)) (λ z.
+  pub exported-progress : ((js : List ℕ) → asked (act s a js .request) ≡ asked (s .request)) → unasked a (clientIn st .request) ≡ clientIn st .request → HandedBack (withProgress (r .client)) r u st st′
+      → Exported a st m tape b u st′ m′ b′
+  exported-progress e n h = handed (withProgress (r .client)) h (between-progress (r .client) (wordAt st) (wordAt st) (λ k. refl)) (λ z.
       let low = left-low (clientIn st) s a m tape b r m′ b′ k z in
       ap (λ x. stateOf x m′) (progress-is (r .client) (wordAt st))
       ∙ same-state (clientIn st) (lowClient (r .client)) m m′ (shape-low z) (ap (λ (x : State). asked (x .request)) low ∙ left-asked (clientIn st) s a m tape b r m′ b′ k z e)
       ∙ low)
+      (λ z. subst (Idle a (clientIn st .request)) (sym (progress-is (r .client) (wordAt st))) (λ y. progress-idle st (r .client) m m′ (left-asked (clientIn st) s a m tape b r m′ b′ k z e) (λ x. k .idle z x ∙ n) y ∙ sym n))
+
+-- a state of another length is refused
+pub one-or-two : (t : Bool) (u : ℕ) → u ≡ (if t then 2 else 1) → u % 256 ≡ 0 → ⊥
+one-or-two true u e z = omega arith
+one-or-two false u e z = omega arith
+
+-- zeros say the closed state
+pub zeros-say : clientIn (replicate stateLength 0) ≡ clearedClient
+unfolding wordAt
+zeros-say = refl
 
 -- an open
 pub exported-open : (h : Shape) (st m tape : List ℕ) (r : Answer) (u : ℕ) (st′ m′ : List ℕ) → length st ≡ stateLength
     → Meets clearedClient closed (opening h) m tape [] r m′ [] → HandedBackOpened r u st st′ → Opened h st m tape u st′ m′
 exported-open h st m tape r u st′ m′ l k b = record {
   meets = λ _. rw (b .answer) (go (ℕ-discrete (r .number) 0));
-  refused = λ _ n. b .refused (λ z. n (rw (b .answer) (number-packed clearedClient closed (opening h) m tape [] r m′ [] k ∙ z)));
+  refused = λ n. b .refused (λ z. n (rw (b .answer) (number-packed clearedClient closed (opening h) m tape [] r m′ [] k ∙ z)));
   between = λ z. rw (b .accepted (sym (number-packed clearedClient closed (opening h) m tape [] r m′ [] k) ∙ sym (ap (λ x. x % 256) (b .answer)) ∙ z)) (between-rest (r .client) (wordAt st) _ (between-shape (r .client .shape) (wordAt st)));
   other = λ n. absurd (n l);
 }
   where
-    zeros-say : clientIn (replicate stateLength 0) ≡ clearedClient
-    zeros-say = unfold wordAt in refl
-
     go : Dec (r .number ≡ 0) → Meets clearedClient closed (opening h) m tape [] (answerOf (packed r) (clientIn st′)) m′ []
     go (yes z) = meets-accepted clearedClient closed (opening h) m tape [] r m′ [] k z (clientIn st′) (ap (λ x. stateOf x m′) (ap clientOf (b .accepted z) ∙ stored-is (r .client) (wordAt st)) ∙ left-low clearedClient closed (opening h) m tape [] r m′ [] k z)
-    go (no n) = rw (b .refused n, zeros-say) (meets-refused clearedClient closed (opening h) m tape [] r m′ [] k n)
+        (subst (Idle (opening h) (clearedClient .request)) (sym (ap clientOf (b .accepted z) ∙ stored-is (r .client) (wordAt st))) (rest-idle st (opening h) (r .client) m′ (left-low clearedClient closed (opening h) m tape [] r m′ [] k z) (k .idle z)))
+    go (no n) = rw (b .refused n, l, zeros-say) (meets-refused clearedClient closed (opening h) m tape [] r m′ [] k n)

@@ -1,3 +1,4 @@
 pub mod Small
 pub mod Progress
 pub mod Exported
+pub mod Idle

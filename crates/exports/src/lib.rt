@@ -4,9 +4,12 @@ use meets::Answer;
 use memory::Shape;
 ghost use mathlib.Core.Path.{_≡_};
 ghost use mathlib.Core.List.{[]};
-ghost use lib.ListN.{length};
+ghost use lib.ListN.{length, replicate};
+ghost use Rattle.lists.specs.Tests.{if_then_else_};
+ghost use Rattle.rules.specs.Shape.{within};
 ghost use Rattle.rules.specs.State.{cmd};
 ghost use Rattle.rules.specs.Questions.{request, turn, completion as completionOf, collect};
+ghost use Rattle.memory.specs.Fits.{shapeOf};
 ghost use Rattle.codec.specs.Codec.{stateLength, withProgress, withRest};
 ghost use Rattle.exports.specs.Exported.{Opened, Exported, HandedBack, HandedBackOpened, numbers};
 
@@ -32,6 +35,14 @@ fn hand_back_progress(state: &mut [u8], r: Answer) -> u64
     }
     codec::encode_progress(state, r.client);
     codec::pack(r)
+}
+
+// An open of this shape with a state of another length.
+fn refuse_state(state: &mut [u8], h: Shape) -> u64
+    ensures { λ u. ⌜ (u ≡ (if within (shapeOf h) then 2 else 1)) × (now (state .exit) ≡ replicate (length (now (state .entry))) 0) ⌝ }
+{
+    memory::blocks::zeros(state);
+    if meets::is_within(h) { 2 } else { 1 }
 }
 
 // A refused open hands back zeros.
@@ -62,7 +73,7 @@ pub extern "C" fn rinwolfedd_open(
     ensures { λ u. ⌜ Opened (numbers n p l b e w) (now (state .entry)) (now (memory .entry)) (now (tape .entry)) u (now (state .exit)) (now (memory .exit)) ⌝ }
 {
     if state.len() != 64 {
-        return 2;
+        return refuse_state(state, Shape { n, p, l, b, e, w });
     }
     let r = opening::open(Shape { n, p, l, b, e, w }, memory, tape);
     hand_back_opened(state, r)

@@ -18,6 +18,7 @@ use Rattle.rules.specs.Blocks.{zeros, contents, slotBytes, isNowhere}
 use Rattle.rules.specs.Collect.{answer}
 use Rattle.rules.specs.Laws.Answers.{Passed, opens}
 use Rattle.rules.specs.Laws.Kept.{given-in}
+use Rattle.rules.specs.Laws.Lengths.{Whole, slot-length, contents-length}
 use Rattle.rules.specs.Memory.{needed}
 use Rattle.rules.specs.Questions.{Ask, opening, request, turn, completion, collect, ready, questions, inHand}
 use Rattle.rules.specs.Ranges.{isKind}
@@ -33,9 +34,6 @@ use Rattle.client.specs.View.{stateOf, view, bytesIn}
 use Rattle.meets.specs.Meets.{handedTo}
 
 -- ---- The state's blocks have B bytes
-
-abbrev pub Whole : State → Type 0
-Whole s = (b : ℕ) → length (s .bytes b) ≡ s .shape .B
 
 -- a block ends where the memory needed does, or before
 pub block-last : (h : Shape) (b : ℕ) → b ≤ h .N → blockStart h b + h .B ≤ needed h
@@ -64,19 +62,6 @@ state-whole c m long b = go (ltb b (c .shape .n))
     go : (t : Bool) → length (if t then blockTable (shapeOf (c .shape)) m b else replicate (c .shape .b) 0) ≡ c .shape .b
     go true = block-length (shapeOf (c .shape)) m long b
     go false = length-replicate (c .shape .b) 0
-
-pub slot-length : (s : State) → Whole s → (o : Option ℕ) → length (slotBytes s o) ≡ s .shape .B
-unfolding slotBytes zeros
-slot-length s w none = length-replicate (s .shape .B) 0
-slot-length s w (some b) = w b
-
-pub contents-length : (s : State) → Whole s → (b : ℕ) → length (contents s b) ≡ s .shape .B
-unfolding contents zeros
-contents-length s w b = go (isNowhere (s .place b) && not (member b (s .waiting)))
-  where
-    go : (t : Bool) → length (if t then zeros s else s .bytes b) ≡ s .shape .B
-    go true = length-replicate (s .shape .B) 0
-    go false = w b
 
 -- a turn keeps them
 turn-whole : (s : State) → Whole s → (x : Step) (js : List ℕ) → Whole (doStep x js s) × (doStep x js s .shape .B ≡ s .shape .B)

@@ -10,7 +10,7 @@ use Rattle.rules.specs.Shape.{slots}
 use Rattle.rules.specs.State.{State, Command, cmd, closed, Place, nowhere}
 use Rattle.rules.specs.Draws.{draws}
 use Rattle.rules.specs.Memory.{needed}
-use Rattle.rules.specs.Questions.{Ask, Call, bounds, number}
+use Rattle.rules.specs.Questions.{Ask, opening, request, turn, completion, collect, Call, bounds, number}
 use Rattle.rules.specs.Run.{Outcome, step, act, refuse, refused, accepted, sentCommand, handed, takenOf, numbersOf}
 use Rattle.rules.specs.Laws.Answers.{step-refused, step-accepted}
 use borrow.Author.Tests.{le-ltb}
@@ -19,8 +19,10 @@ use Rattle.memory.specs.Blocks.{blockTable}
 use Rattle.memory.specs.Tables.{tablesOf, orderAt, markAt, holdsAt}
 use Rattle.memory.specs.Fits.{fit, fit-lt, fit-zero}
 use Rattle.client.specs.declared.Client.{Client}
+use Rattle.client.specs.declared.Request.{Request}
 use Rattle.client.specs.View.{stateOf, view, rows, requestOf, bytesIn, placeOf, levelAt}
 use Rattle.client.specs.Changes.{place-nowhere}
+use Rattle.client.specs.Moves.{noRequest}
 use Rattle.tape.specs.Tape.{wordsOf}
 use Rattle.meets.specs.declared.Answer.{Answer}
 use Rattle.meets.specs.Answers.{refusedWith, clearedClient}
@@ -37,12 +39,22 @@ handedTo buffer (x ∷ xs) = x ∷ xs
 abbrev pub commandOf : Answer → Command
 commandOf r = cmd (r .kind) (r .partition) (r .level) (r .slot)
 
+-- The numbers of a request while none is in hand, which the state does not read: an accepted open or collect leaves zeros, a turn or completion
+-- what was there. (After an accepted request one is in hand)
+abbrev pub unasked : Ask → Request → Request
+unasked (opening h) r = noRequest
+unasked (request k b bs) r = r
+unasked turn r = r
+unasked (completion c bs) r = r
+unasked collect r = noRequest
+
 -- The call's answer r, and the memory m′ and the buffer b′ after it, against the rules' step from the state s; c is the client that a refusal hands back
 pub record Meets (c : Client) (s : State) (a : Ask) (m tape b : List ℕ) (r : Answer) (m′ b′ : List ℕ) : Type 0 where
   pub number : r .number ≡ step s (callOf a m tape b) .1 .number
   pub taken : r .taken ≡ step s (callOf a m tape b) .1 .taken
   pub command : commandOf r ≡ step s (callOf a m tape b) .1 .command
   pub state : stateOf (r .client) m′ ≡ step s (callOf a m tape b) .0
+  pub idle : r .number ≡ 0 → r .client .request .kind ≡ 0 → r .client .request ≡ unasked a (c .request)
   pub buffer : b′ ≡ handedTo b (step s (callOf a m tape b) .1 .bytes)
   -- a refusal changes no byte of client and memory, and no call those past what the shape needs
   pub refused : (r .number ≡ 0 → ⊥) → (m′ ≡ m) × (r .client ≡ c)
@@ -61,22 +73,24 @@ meets-no c s a m tape b n e z k =
       taken = sym (ap (λ (x : State × Outcome). x .1 .taken) r);
       command = sym (ap (λ (x : State × Outcome). x .1 .command) r);
       state = k ∙ sym (ap (λ (x : State × Outcome). x .0) r);
+      idle = λ x. absurd (z x);
       buffer = sym (ap (λ (x : State × Outcome). handedTo b (x .1 .bytes)) r);
       refused = λ x. (refl, refl);
       tail = refl;
     }
 
 -- it is accepted
-pub record Accepts (s : State) (a : Ask) (m tape b : List ℕ) (r : Answer) (m′ b′ : List ℕ) : Type 0 where
+pub record Accepts (c : Client) (s : State) (a : Ask) (m tape b : List ℕ) (r : Answer) (m′ b′ : List ℕ) : Type 0 where
   pub yes : number s (callOf a m tape b) ≡ 0
   pub number : r .number ≡ 0
   pub taken : r .taken ≡ takenOf (draws (bounds s a) (wordsOf tape))
   pub command : commandOf r ≡ sentCommand s a
+  pub idle : r .client .request .kind ≡ 0 → r .client .request ≡ unasked a (c .request)
   pub state : stateOf (r .client) m′ ≡ act s a (numbersOf (draws (bounds s a) (wordsOf tape)))
   pub buffer : b′ ≡ handedTo b (handed s a (act s a (numbersOf (draws (bounds s a) (wordsOf tape)))))
   pub tail : drop (needed (stateOf (r .client) m′ .shape)) m′ ≡ drop (needed (stateOf (r .client) m′ .shape)) m
 
-pub meets-yes : (c : Client) (s : State) (a : Ask) (m tape b : List ℕ) (r : Answer) (m′ b′ : List ℕ) → Accepts s a m tape b r m′ b′ → Meets c s a m tape b r m′ b′
+pub meets-yes : (c : Client) (s : State) (a : Ask) (m tape b : List ℕ) (r : Answer) (m′ b′ : List ℕ) → Accepts c s a m tape b r m′ b′ → Meets c s a m tape b r m′ b′
 unfolding accepted
 meets-yes c s a m tape b r m′ b′ k =
     let q = step-accepted s (callOf a m tape b) (k .yes) in
@@ -85,6 +99,7 @@ meets-yes c s a m tape b r m′ b′ k =
       taken = k .taken ∙ sym (ap (λ (x : State × Outcome). x .1 .taken) q);
       command = k .command ∙ sym (ap (λ (x : State × Outcome). x .1 .command) q);
       state = k .state ∙ sym (ap (λ (x : State × Outcome). x .0) q);
+      idle = λ _. k .idle;
       buffer = k .buffer ∙ sym (ap (λ (x : State × Outcome). handedTo b (x .1 .bytes)) q);
       refused = λ x. absurd (x (k .number));
       tail = k .tail;

@@ -29,6 +29,7 @@ use Rattle.memory.specs.declared.Shape.{Shape as Numbers}
 use Rattle.client.specs.declared.Client.{Client}
 use Rattle.client.specs.View.{stateOf, view, rows, requestOf, bytesIn, placeOf, levelAt}
 use Rattle.client.specs.Changes.{place-nowhere}
+use Rattle.client.specs.Moves.{noRequest}
 use Rattle.tape.specs.Tape.{wordsOf, draws-enough, draws-number, length-numbers}
 use Rattle.meets.specs.Meets.{callOf}
 
@@ -40,7 +41,7 @@ unfolding number questions openNumber bounds
 open-number h m tape = rw (draws-enough (replicate (h .N) (h .P)) (wordsOf tape), length-replicate {A = ℕ} (h .N) (h .P))
 
 abbrev pub freshClient : Numbers → Client
-freshClient h = record { shape = h; request = record { kind = 0; block = 0; next = 0; evict = 0; level = 0 }; jobs = 0; cursor = 0; sent = 0; waiting = 0; out = 0 }
+freshClient h = record { shape = h; request = noRequest; jobs = 0; cursor = 0; sent = 0; waiting = 0; out = 0 }
 
 -- the numbers drawn
 abbrev pub drawnBy : Numbers → List ℕ → List ℕ

@@ -64,13 +64,7 @@ fn fresh(h: Shape) -> Client
 {
     Client {
         shape: h,
-        request: Request {
-            kind: 0,
-            block: 0,
-            next: 0,
-            evict: 0,
-            level: 0,
-        },
+        request: Request::none(),
         jobs: 0,
         cursor: 0,
         sent: 0,

@@ -1,6 +1,6 @@
 -- Request: its number by the client's numbers and the lengths lent, and the state that it leaves.
 use mathlib.Core.Path.{_≡_, refl, ap, sym, _∙_, fun-ext}
-use mathlib.Core.Bool.{Bool, true, false, _&&_, _||_}
+use mathlib.Core.Bool.{Bool, true, false, _&&_, _||_, true≢false}
 use mathlib.Core.List.{List, [], _∷_}
 use mathlib.Core.Option.{none, some}
 use Prim.Native.Nat.{ℕ, _%_, _≤_}
@@ -27,7 +27,7 @@ use Rattle.memory.specs.declared.Shape.{Shape as Numbers}
 use Rattle.client.specs.declared.Client.{Client}
 use Rattle.client.specs.declared.Request.{Request}
 use Rattle.client.specs.View.{stateOf, view, requestOf}
-use Rattle.client.specs.Readings.{jobs-count, waiting-count}
+use Rattle.client.specs.Readings.{jobs-count, waiting-count, held-none}
 use Rattle.client.specs.Changes.{view-asked}
 use Rattle.client.specs.Moves.{withRequest, Stands, stands}
 use Rattle.tape.specs.Tape.{wordsOf, draws-enough, draws-number}
@@ -141,3 +141,8 @@ taken-stands c m₀ m k b bs tape next evict t l e w n u =
     let c′ : Client = withRequest (record { kind = k; block = b; next = next; evict = evict; level = 0 }) c in
     stands c′ m₀ m _ (Taken c m₀ k b bs tape) t refl
     (view-asked c′ (tablesOf (shapeOf (c .shape)) m₀) _ ∙ ap (λ r. setRequest r (stateOf c m₀)) (hand-is c k b bs _ tape next evict l e w n u))
+
+-- a request is in hand then
+pub in-hand : (c r : Client) (m m′ : List ℕ) (k b : ℕ) (bs tape : List ℕ) → stateOf r m′ ≡ Taken c m k b bs tape → r .request .kind ≡ 0 → ⊥
+unfolding accept isNone
+in-hand c r m m′ k b bs tape e z = true≢false (ap isNone (sym (held-none r m′ z) ∙ ap (λ (x : State). x .request) e))

@@ -9,3 +9,4 @@ pub mod Decided
 pub mod Kept
 pub mod Shapes
 pub mod Asked
+pub mod Lengths

@@ -20,12 +20,14 @@ use Rattle.rules.specs.Rebuild.{gathered, doRebuild}
 use Rattle.rules.specs.Turn.{Step, idle, noDummy, readForRequest, readForJob, rebuild, writeNext, decide, command, stepBounds, markRead, send, doStep}
 use Rattle.rules.specs.Questions.{turn, ready, sends, possible, questions, firstNo, number, bounds}
 use Rattle.rules.specs.Run.{act, sentCommand, handed, written, numbersOf, refuse}
+use Rattle.rules.specs.Laws.Asked.{reads-asked}
 use Rattle.rules.specs.Laws.Decided.{StepIn, decide-in}
 use Rattle.memory.specs.Fits.{shapeOf, fit, fit-lt}
 use Rattle.memory.specs.Tables.{tablesOf}
 use Rattle.client.specs.declared.Client.{Client}
 use Rattle.client.specs.View.{stateOf, view, heldBy, requestOf, bytesIn}
 use Rattle.client.specs.Rows.{length-rows}
+use Rattle.client.specs.Readings.{held-none}
 use Rattle.client.specs.Moves.{atLevel, withRequest, withCursor, withSent, withOut, Stands, then as next}
 use Rattle.tape.specs.Tape.{wordsOf, draws-enough, taken-all}
 use Rattle.ready.specs.Usable.{Usable}
@@ -56,6 +58,11 @@ Writes c m b r m′ b′ = (tape : List ℕ) → Meets c (stateOf c m) turn m ta
 
 abbrev pub answerOf : Client → ℕ → ℕ → ℕ → ℕ → ℕ → Answer
 answerOf c n k q l i = record { number = 0; taken = n; kind = k; partition = q; level = l; slot = i; client = c }
+
+-- A turn of the client c leaves e, which stands for s; while no request is in hand, its numbers stay
+pub record Left (c e : Client) (m m′ : List ℕ) (s : State) : Type 0 where
+  pub stands : Stands e m m′ s
+  pub idle : e .request .kind ≡ 0 → e .request ≡ c .request
 
 -- ---- The number
 
@@ -99,16 +106,17 @@ module _ (c : Client) (m tape b : List ℕ) (x : Step) (d : Due c m x) where
 
   pub accepts : (r : Answer) (m′ b′ : List ℕ) → firstNo asked ≡ 0 → length (stepBounds x) ≤ length (wordsOf tape)
       → r .number ≡ 0 → r .taken ≡ length (stepBounds x) → commandOf r ≡ command x
-      → Stands (r .client) m m′ (doStep x drawn s) → b′ ≡ handedTo b (written (doStep x drawn s) (command x)) → Meets c s turn m tape b r m′ b′
+      → Left c (r .client) m m′ (doStep x drawn s) → b′ ≡ handedTo b (written (doStep x drawn s) (command x)) → Meets c s turn m tape b r m′ b′
   unfolding bounds act sentCommand handed stateOf view
   accepts r m′ b′ e l n t k f h = meets-yes c s turn m tape b r m′ b′ (record {
     yes = turn-number ∙ e;
     number = n;
     taken = rw (d .step) (t ∙ sym (taken-all (stepBounds x) (wordsOf tape) l));
     command = rw (d .step) k;
-    state = rw (d .step) (f .state);
+    state = rw (d .step) (f .stands .state);
+    idle = f .idle;
     buffer = rw (d .step) h;
-    tail = f .tail;
+    tail = f .stands .tail;
   })
 
 -- ---- What a turn hands out
@@ -149,6 +157,9 @@ handed-write b b′ s q l i n e = e ∙ sym (handed-some b (slotBytes s (holder 
 restated : {c : Client} {m m′ : List ℕ} {s s′ : State} → Stands c m m′ s → s ≡ s′ → Stands c m m′ s′
 restated k e = record { state = k .state ∙ e; tail = k .tail }
 
+left : {c e : Client} {m m′ : List ℕ} {s : State} → (e .request .kind ≡ 0 → e .request ≡ c .request) → Stands e m m′ s → Left c e m m′ s
+left i k = record { stands = k; idle = i }
+
 -- the request goes on from the level above l
 abbrev pub passed : ℕ → Client → Client
 passed l c = withRequest (atLevel (l + 1) (c .request)) c
@@ -168,37 +179,40 @@ module _ (c d e : Client) (m m₁ m₂ : List ℕ) where
   abbrev S : State
   S = stateOf c m
 
-  pub request-sent : (q l i : ℕ) → Stands c m m₁ (markRead q l i S) → d ≡ passed l c → e ≡ withOut (d .out + 1) d → Stands e m₁ m₂ (send (cmd 1 q l i) (stateOf d m₁))
-      → (js : List ℕ) → Stands e m m₂ (doStep (readForRequest q l i) js S)
+  pub request-sent : (q l i : ℕ) → decide S ≡ readForRequest q l i → Stands c m m₁ (markRead q l i S) → d ≡ passed l c → e ≡ withOut (d .out + 1) d → Stands e m₁ m₂ (send (cmd 1 q l i) (stateOf d m₁))
+      → (js : List ℕ) → Left c e m m₂ (doStep (readForRequest q l i) js S)
   unfolding doStep markRead
-  request-sent q l i a x y b js =
+  request-sent q l i k a x y b js =
       let shape : e .shape ≡ c .shape = ap (λ (z : Client). z .shape) y ∙ ap (λ (z : Client). z .shape) x in
-      restated (next c e m m₁ m₂ _ _ shape a b) (ap (send (cmd 1 q l i)) (ap (λ z. stateOf z m₁) x ∙ passed-is l c m₁ ∙ ap (λ (z : State). setRequest (passLevel l (z .request)) z) (a .state)))
+      let kind : e .request .kind ≡ c .request .kind = ap (λ (z : Client). z .request .kind) y ∙ ap (λ (z : Client). z .request .kind) x in
+      left (λ z. absurd (reads-asked S q l i k (held-none c m (sym kind ∙ z)))) (restated (next c e m m₁ m₂ _ _ shape a b) (ap (send (cmd 1 q l i)) (ap (λ z. stateOf z m₁) x ∙ passed-is l c m₁ ∙ ap (λ (z : State). setRequest (passLevel l (z .request)) z) (a .state))))
 
   pub job-sent : (q l i n : ℕ) → Stands c m m₁ (markRead q l i S) → n ≡ suc (offset l i) → d ≡ withCursor n c → e ≡ withOut (d .out + 1) d → Stands e m₁ m₂ (send (cmd 1 q l i) (stateOf d m₁))
-      → (js : List ℕ) → Stands e m m₂ (doStep (readForJob q l i) js S)
+      → (js : List ℕ) → Left c e m m₂ (doStep (readForJob q l i) js S)
   unfolding doStep
   job-sent q l i n a z x y b js =
       let shape : e .shape ≡ c .shape = ap (λ (w : Client). w .shape) y ∙ ap (λ (w : Client). w .shape) x in
-      restated (next c e m m₁ m₂ _ _ shape a b) (ap (send (cmd 1 q l i)) (ap (λ w. stateOf w m₁) x ∙ cursor-is ∙ ap (setCursor n) (a .state) ∙ ap (λ k. setCursor k (markRead q l i S)) z))
+      left (λ _. ap (λ (w : Client). w .request) y ∙ ap (λ (w : Client). w .request) x)
+      (restated (next c e m m₁ m₂ _ _ shape a b) (ap (send (cmd 1 q l i)) (ap (λ w. stateOf w m₁) x ∙ cursor-is ∙ ap (setCursor n) (a .state) ∙ ap (λ k. setCursor k (markRead q l i S)) z)))
     where
       cursor-is : stateOf (withCursor n c) m₁ ≡ setCursor n (stateOf c m₁)
       cursor-is = unfold stateOf view in refl
 
   pub write-sent : (q t i : ℕ) → d ≡ withSent (i + 1) c → e ≡ withOut (d .out + 1) d → Stands e m m₁ (send (cmd 2 q t i) (stateOf d m))
-      → (js : List ℕ) → Stands e m m₁ (doStep (writeNext q t i) js S)
+      → (js : List ℕ) → Left c e m m₁ (doStep (writeNext q t i) js S)
   unfolding doStep
   write-sent q t i x y b js =
       let k : i + 1 ≡ suc i = omega arith in
-      restated b (ap (send (cmd 2 q t i)) (ap (λ w. stateOf w m) x ∙ sent-is ∙ ap (λ n. setSent n S) k))
+      left (λ _. ap (λ (w : Client). w .request) y ∙ ap (λ (w : Client). w .request) x)
+      (restated b (ap (send (cmd 2 q t i)) (ap (λ w. stateOf w m) x ∙ sent-is ∙ ap (λ n. setSent n S) k)))
     where
       sent-is : stateOf (withSent (i + 1) c) m ≡ setSent (i + 1) S
       sent-is = unfold stateOf view in refl
 
-  pub rebuild-sent : (q t : ℕ) (js : List ℕ) → d .shape ≡ c .shape → Stands d m m₁ (doRebuild q t (newOrder (slots t) js) S) → e ≡ withOut (d .out + 1) d → Stands e m₁ m₂ (send (cmd 2 q t 0) (stateOf d m₁))
-      → Stands e m m₂ (doStep (rebuild q t) js S)
+  pub rebuild-sent : (q t : ℕ) (js : List ℕ) → d .shape ≡ c .shape → d .request ≡ c .request → Stands d m m₁ (doRebuild q t (newOrder (slots t) js) S) → e ≡ withOut (d .out + 1) d → Stands e m₁ m₂ (send (cmd 2 q t 0) (stateOf d m₁))
+      → Left c e m m₂ (doStep (rebuild q t) js S)
   unfolding doStep
-  rebuild-sent q t js h a y b = restated (next d e m m₁ m₂ _ _ (ap (λ (z : Client). z .shape) y) a b) (ap (send (cmd 2 q t 0)) (a .state))
+  rebuild-sent q t js h k a y b = left (λ _. ap (λ (z : Client). z .request) y ∙ k) (restated (next d e m m₁ m₂ _ _ (ap (λ (z : Client). z .shape) y) a b) (ap (send (cmd 2 q t 0)) (a .state)))
 
 -- ---- Whole turns
 
@@ -213,7 +227,7 @@ module _ (c : Client) (m tape b : List ℕ) (x : Step) (d : Due c m x) where
 
   -- a read
   pub read-meets : (e : Client) (m′ : List ℕ) (q l i : ℕ) → command x ≡ cmd 1 q l i → sends x ≡ true → possible (stateOf c m) x ≡ true → length (stepBounds x) ≡ 0
-      → Stands e m m′ (doStep x (drawn c m tape b x d) (stateOf c m)) → Meets c (stateOf c m) turn m tape b (answerOf e 0 1 q l i) m′ b
+      → Left c e m m′ (doStep x (drawn c m tape b x d) (stateOf c m)) → Meets c (stateOf c m) turn m tape b (answerOf e 0 1 q l i) m′ b
   unfolding firstNo
   read-meets e m′ q l i k g p n f = accepts c m tape b x d (answerOf e 0 1 q l i) m′ b
       (rw (g, k, p, n, le-leb 0 (length (wordsOf tape)) (omega arith)))
@@ -234,12 +248,12 @@ module _ (c : Client) (m tape b : List ℕ) (x : Step) (d : Due c m x) where
     no-room e n p = rw (g, k, eq-eqb (length b) (c .shape .b) e, le-leb (length (stepBounds x)) (length (wordsOf tape)) n, p)
 
     pub write-meets : (e : Client) (m′ b′ : List ℕ) (n : ℕ) → possible (stateOf c m) x ≡ true → length b ≡ c .shape .b → n ≡ length (stepBounds x) → n ≤ length (wordsOf tape)
-        → Stands e m m′ (doStep x (drawn c m tape b x d) (stateOf c m)) → 1 ≤ length b′ → b′ ≡ slotBytes (stateOf e m′) (holder (stateOf e m′) q l i)
+        → Left c e m m′ (doStep x (drawn c m tape b x d) (stateOf c m)) → 1 ≤ length b′ → b′ ≡ slotBytes (stateOf e m′) (holder (stateOf e m′) q l i)
         → Meets c (stateOf c m) turn m tape b (answerOf e n 2 q l i) m′ b′
     unfolding firstNo
     write-meets e m′ b′ n p h t w f o z = accepts c m tape b x d (answerOf e n 2 q l i) m′ b′
         (rw (g, k, eq-eqb (length b) (c .shape .b) h, le-leb (length (stepBounds x)) (length (wordsOf tape)) (omega arith), p))
-        (omega arith) refl t (sym k) f (rw k (handed-write b b′ (doStep x (drawn c m tape b x d) (stateOf c m)) q l i o (z ∙ ap (λ s. slotBytes s (holder s q l i)) (f .state))))
+        (omega arith) refl t (sym k) f (rw k (handed-write b b′ (doStep x (drawn c m tape b x d) (stateOf c m)) q l i o (z ∙ ap (λ s. slotBytes s (holder s q l i)) (f .stands .state))))
 
 -- ---- The rebuild
 pub rebuilt-stands : (c d : Client) (m m₁ m₂ : List ℕ) (q t n : ℕ) (bs o : List ℕ) (x : Found) → d .shape ≡ c .shape

@@ -166,7 +166,7 @@ fn plan(c: Client, m: &[u8], q: usize, x: Found, limit: usize, list: &mut [usize
 // The chosen block waits no longer.
 fn leave(c: Client, m: &mut [u8], x: Found) -> Client
     requires { ⌜ Room c (now m) × (c .waiting ≤ c .shape .n) × PlaceBelow (c .waiting) x ⌝ }
-    ensures { λ r. ⌜ (r .shape ≡ c .shape) × (r .out ≡ c .out) × Stands r (now (m .entry)) (now (m .exit)) (setWaiting (leftBy x (stateOf c (now (m .entry)) .waiting)) (stateOf c (now (m .entry)))) ⌝ }
+    ensures { λ r. ⌜ (r .shape ≡ c .shape) × (r .out ≡ c .out) × Stands r (now (m .entry)) (now (m .exit)) (setWaiting (leftBy x (stateOf c (now (m .entry)) .waiting)) (stateOf c (now (m .entry)))) × (r .request ≡ c .request) ⌝ }
 {
     match x {
         Found::At(j) => cache::leave(c, m, j),
@@ -186,7 +186,7 @@ fn write_level(
     tape: &[u8],
 ) -> Client
     requires { ⌜ Usable c (now m) × (q < c .shape .p) × (t < c .shape .l) × Chosen (stateOf c (now m)) q x × (take k (now list) ≡ gathered (stateOf c (now m)) q) × (k ≤ 2 ^ t) × (k ≤ length (now list)) × (slots t - 1 ≤ length (wordsOf (now tape))) ⌝ }
-    ensures { λ r. ⌜ (r .shape ≡ c .shape) × (r .out ≡ c .out) × Stands r (now (m .entry)) (now (m .exit)) (doRebuild q t (newOrder (slots t) (numbersOf (draws (orderBounds (slots t)) (wordsOf (now (tape .entry)))))) (stateOf c (now (m .entry)))) ⌝ }
+    ensures { λ r. ⌜ (r .shape ≡ c .shape) × (r .out ≡ c .out) × Stands r (now (m .entry)) (now (m .exit)) (doRebuild q t (newOrder (slots t) (numbersOf (draws (orderBounds (slots t)) (wordsOf (now (tape .entry)))))) (stateOf c (now (m .entry)))) × (r .request ≡ c .request) ⌝ }
 {
     let sources = bits::sources(memory::tables::counter(c.shape, m, q), c.shape.l);
     rebuild::rebuild_tables(c, m, q, t, sources, list, k, tape);

@@ -62,9 +62,10 @@ returns-2 c =
       number = refl;
       taken = refl;
       command = refl;
-      state = f .finish .ensures .state ∙ sym (collected-is (a .c) (a .m .now) (y .some));
+      idle = λ z. f .finish .ensures .0;
+      state = f .finish .ensures .1 .state ∙ sym (collected-is (a .c) (a .m .now) (y .some));
       buffer = answer-is (a .c) (a .m .now) (a .buffer .now) (o .hand-out .last .1 .1 .0) (y .some) (o .hand-out .ensures) full;
-      tail = f .finish .ensures .tail;
+      tail = f .finish .ensures .1 .tail;
     })
 
 pub collect-spec : {M : Type 1} → statement M

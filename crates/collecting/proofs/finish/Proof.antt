@@ -91,12 +91,14 @@ returns c =
     let k = d .before .before in
     let s = k .before .before .before .before in
     let a = s .args in
-    let all = after (queued (k .partition .result) (a .c .request .evict)) (f .settle .result) _ (a .m .now) _ _ _ (g .queue .ensures .shape) (state-3 f) (g .queue .ensures .stands) in
-    record {
-      state = all .state
-          ∙ finish-is (heldOf (a .c) (a .m .now)) (stateOf (a .c) (a .m .now)) (k .partition .result) (a .buffer .now) (partition-is (a .c) (a .m .now) (a .c .request .block) (k .partition .result) (k .partition .ensures)) (s .pre .2);
-      tail = all .tail;
-    }
+    let all = after (queued (k .partition .result) (a .c .request .evict)) (f .settle .result) _ (a .m .now) _ _ _ (g .queue .ensures .shape) (state-3 f) (g .queue .ensures .stands) in (
+      g .queue .ensures .request,
+      record {
+        state = all .state
+            ∙ finish-is (heldOf (a .c) (a .m .now)) (stateOf (a .c) (a .m .now)) (k .partition .result) (a .buffer .now) (partition-is (a .c) (a .m .now) (a .c .request .block) (k .partition .result) (k .partition .ensures)) (s .pre .2);
+        tail = all .tail;
+      },
+    )
 
 pub finish-spec : {M : Type 1} → statement M
 finish-spec =

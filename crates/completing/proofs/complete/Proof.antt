@@ -2,6 +2,7 @@ use mathlib.Core.Path.{ap, _∙_}
 use native.Mathlib.Omega.{arith}
 use borrow.Author.Tests.{eq-eqb}
 use Rattle.lists.specs.Tests.{if_then_else_}
+use Rattle.client.specs.declared.Client.{Client}
 use Rattle.completing.specs.Completing.{read-done, write-done}
 use Rattle.completing.proofs.complete.Statement.{statement}
 use Rattle.completing.proofs.complete.Tie as tie
@@ -25,7 +26,7 @@ returns c =
     let k = c .before .before .before .before .before .before .before .complete in
     let s = c .before .before .before .before .before .before .before .before .before .before .before in
     let a = s .args in
-    read-done (a .c) (k .result) (a .m .now) _ _ (a .bytes .now) (a .j) (s .pre) (k .ensures .1) _ (c .before .before .before .before .if1 .taken) (c .before .before .gather .ensures)
+    (ap (λ (x : Client). x .request) (k .ensures .0), read-done (a .c) (k .result) (a .m .now) _ _ (a .bytes .now) (a .j) (s .pre) (k .ensures .1) _ (c .before .before .before .before .if1 .taken) (c .before .before .gather .ensures))
 
 finish-job-requires : tie.Need-finish-job-requires
 finish-job-requires c κs =
@@ -42,7 +43,7 @@ returns-2 c =
     let k = c .before .before .before .before .before .before .before .complete in
     let s = c .before .before .before .before .before .before .before .before .before .before .before in
     let a = s .args in
-    write-done (a .c) (k .result) (a .m .now) _ _ (a .bytes .now) (a .j) (s .pre) (k .ensures .1) _ _ (f .ensures .0) (c .before .before .before .before .if1 .left) (f .ensures .1)
+    (f .ensures .2 ∙ ap (λ (x : Client). x .request) (k .ensures .0), write-done (a .c) (k .result) (a .m .now) _ _ (a .bytes .now) (a .j) (s .pre) (k .ensures .1) _ _ (f .ensures .0) (c .before .before .before .before .if1 .left) (f .ensures .1))
 
 pub complete-spec : {M : Type 1} → statement M
 complete-spec =

@@ -125,7 +125,7 @@ returns-5 c =
     let k = d .before .before in
     let f = k .before .before .before in
     let s = f .before .before .before .before .before .before .before .before .before .before in
-    yes (s .args .c) (s .args .m .now) (named s) (s .args .bytes .now) (begun (f .before .before)) (there k .there) _ _ (sized d) (c .before .before .complete .ensures)
+    yes (s .args .c) (s .args .m .now) (named s) (s .args .bytes .now) (begun (f .before .before)) (there k .there) _ _ (sized d) (c .before .before .complete .ensures .0) (c .before .before .complete .ensures .1)
 
 pub completion-spec : {M : Type 1} → statement M
 completion-spec =

@@ -39,7 +39,7 @@ returns c =
     let n = d .before .before .before .counter in
     let a = d .before .before .before .before .before .before .args in
     let k = counted (a .c) (a .m .now) _ (a .q) (n .result) (g .result) (n .ensures) (g .ensures .0) (g .ensures .1) (d .set-counter .ensures) in
-    rw (c .with-sent .ensures, c .before .with-cursor .ensures) (rw (p .ensures .0), ended (a .c) (p .result) (a .m .now) _ _ (a .q) k (p .ensures .0) (p .ensures .1))
+    rw (c .with-sent .ensures, c .before .with-cursor .ensures) (rw (p .ensures .0), ended (a .c) (p .result) (a .m .now) _ _ (a .q) k (p .ensures .0) (p .ensures .1), rw (p .ensures .0))
 
 pub end-job-spec : {M : Type 1} → statement M
 end-job-spec =

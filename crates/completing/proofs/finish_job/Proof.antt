@@ -11,7 +11,7 @@ same-length c = omega arith
 returns : tie.Need-returns
 returns c =
     let a = c .before .before .before .args in
-    (refl, finish-none (a .c) (a .m .now) (c .if1 .taken))
+    (refl, finish-none (a .c) (a .m .now) (c .if1 .taken), refl)
 
 front-requires : tie.Need-front-requires
 front-requires c κs = omega arith
@@ -23,7 +23,7 @@ returns-2 : tie.Need-returns-2
 returns-2 c =
     let q = c .before .before .before .front in
     let a = c .before .before .before .before .before .before .before .before .args in
-    (refl, finish-later (a .c) (a .m .now) (q .result) (q .ensures .0) (sym (c .before .is-done .ensures) ∙ not-true _ (c .if2 .taken)))
+    (refl, finish-later (a .c) (a .m .now) (q .result) (q .ensures .0) (sym (c .before .is-done .ensures) ∙ not-true _ (c .if2 .taken)), refl)
 
 end-job-requires : tie.Need-end-job-requires
 end-job-requires c κs = omega arith
@@ -37,7 +37,7 @@ returns-3 c =
     let d = c .before .before .before .before in
     let q = d .before .before .before .front in
     let a = d .before .before .before .before .before .before .before .before .args in
-    (e .ensures .0, finish-now (a .c) (a .m .now) (q .result) (q .ensures .0) _ _ (sym (d .before .is-done .ensures) ∙ not-false _ (d .if2 .left)) (e .ensures .1))
+    (e .ensures .0, finish-now (a .c) (a .m .now) (q .result) (q .ensures .0) _ _ (sym (d .before .is-done .ensures) ∙ not-false _ (d .if2 .left)) (e .ensures .1), e .ensures .2)
 
 pub finish-job-spec : {M : Type 1} → statement M
 finish-job-spec =

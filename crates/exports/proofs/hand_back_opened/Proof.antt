@@ -21,7 +21,7 @@ returns : tie.Need-returns
 returns c =
     let d = c .before .before .before in
     let a = d .before .before .before .before .before in
-    record { answer = c .pack .ensures; accepted = λ z. absurd (d .before .before .if1 .taken z); refused = λ n. d .zeros .ensures ∙ ap (λ k. replicate {A = ℕ} k 0) (a .pre) }
+    record { answer = c .pack .ensures; accepted = λ z. absurd (d .before .before .if1 .taken z); refused = λ n. d .zeros .ensures }
 
 encode-requires : tie.Need-encode-requires
 encode-requires c κs = omega arith

@@ -33,7 +33,7 @@ returns-2 c =
     let r = c .before .before .before .before .before .before .completion in
     let d = c .before .before .before .before .before .before .before .before .decode in
     let a = c .before .before .before .before .before .before .before .before .before .before .before .before .before .before .args in
-    exported-progress (completion (cmd (a .kind) (a .partition) (a .level) (a .slot)) (a .bytes .now)) (unfold opens in refl) (a .state .now) (a .memory .now) [] [] (r .result) (h .result) _ _ _ (c .before .before .before .before .before .before .before .before .before .before .if1 .left) (rw (← d .ensures) (r .ensures)) (completion-asked _ _ _) (h .ensures)
+    exported-progress (completion (cmd (a .kind) (a .partition) (a .level) (a .slot)) (a .bytes .now)) (unfold opens in refl) (a .state .now) (a .memory .now) [] [] (r .result) (h .result) _ _ _ (c .before .before .before .before .before .before .before .before .before .before .if1 .left) (rw (← d .ensures) (r .ensures)) (completion-asked _ _ _) refl (h .ensures)
 
 pub rinwolfedd-completion-spec : {M : Type 1} → statement M
 rinwolfedd-completion-spec =

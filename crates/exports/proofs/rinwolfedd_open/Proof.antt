@@ -1,5 +1,6 @@
 use mathlib.Core.Path.{refl}
-use Rattle.exports.specs.Exported.{exported-open, numbers}
+use Rattle.rules.specs.Shape.{within}
+use Rattle.exports.specs.Exported.{one-or-two, exported-open, numbers}
 use native.Mathlib.Omega.{arith}
 use Rattle.exports.proofs.rinwolfedd_open.Statement.{statement}
 use Rattle.exports.proofs.rinwolfedd_open.Tie as tie
@@ -7,7 +8,14 @@ use Rattle.exports.proofs.hand_back_opened.Reads as hand-back-opened-re
 use Rattle.opening.proofs.open.Reads as open-reads
 
 returns : tie.Need-returns
-returns c = record { meets = λ l. absurd (c .if1 .taken l); refused = λ l. absurd (c .if1 .taken l); between = λ z. absurd (omega arith); other = λ _. (refl, refl, refl) }
+returns c =
+    let r = c .before .before .refuse-state in
+    let n = c .before .before .before .before .if1 .taken in
+    let a = c .before .before .before .before .before .before .before .before .args in
+    record { meets = λ l. absurd (n l); refused = λ _. r .ensures .1; between = λ z. absurd (one-or-two (within (numbers (a .n) (a .p) (a .l) (a .b) (a .e) (a .w))) _ (r .ensures .0) z); other = λ _. (r .ensures .0, refl) }
+
+refuse-state-requires : tie.Need-refuse-state-requires
+refuse-state-requires c κs = omega arith
 
 open-requires : tie.Need-open-requires
 open-requires c κs = omega arith
@@ -21,6 +29,9 @@ same-length c = omega arith
 same-length-2 : tie.Need-same-length-2
 same-length-2 c = omega arith
 
+same-length-3 : tie.Need-same-length-3
+same-length-3 c = omega arith
+
 returns-2 : tie.Need-returns-2
 returns-2 c =
     let d = c .before .before in
@@ -31,4 +42,12 @@ returns-2 c =
 pub rinwolfedd-open-spec : {M : Type 1} → statement M
 rinwolfedd-open-spec =
     tie.close
-    (tie.spec returns open-requires hand-back-opened-requires same-length same-length-2 returns-2)
+    (tie.spec
+    refuse-state-requires
+    same-length
+    returns
+    open-requires
+    hand-back-opened-requires
+    same-length-2
+    same-length-3
+    returns-2)

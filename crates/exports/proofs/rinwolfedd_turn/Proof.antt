@@ -34,7 +34,7 @@ returns-2 c =
     let r = c .before .before .before .before .before .before .before .before .turn in
     let d = c .before .before .before .before .before .before .before .before .before .before .before .decode in
     let a = c .before .before .before .before .before .before .before .before .before .before .before .before .before .before .before .before .before .before .args in
-    exported-progress (turn) (unfold opens in refl) (a .state .now) (a .memory .now) (a .tape .now) (a .buffer .now) (r .result) (h .result) _ _ _ (c .before .before .before .before .before .before .before .before .before .before .before .before .before .if1 .left) (rw (← d .ensures) (r .ensures)) (turn-asked _) (h .ensures)
+    exported-progress (turn) (unfold opens in refl) (a .state .now) (a .memory .now) (a .tape .now) (a .buffer .now) (r .result) (h .result) _ _ _ (c .before .before .before .before .before .before .before .before .before .before .before .before .before .if1 .left) (rw (← d .ensures) (r .ensures)) (turn-asked _) refl (h .ensures)
 
 pub rinwolfedd-turn-spec : {M : Type 1} → statement M
 rinwolfedd-turn-spec =

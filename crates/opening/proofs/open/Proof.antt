@@ -97,6 +97,7 @@ returns-2 c =
       taken = sym (taken-all (replicate (a .h .n) (a .h .p)) (wordsOf (a .tape .now)) words ∙ length-replicate (a .h .n) (a .h .p));
       command = refl;
       state = s;
+      idle = λ z. refl;
       buffer = refl;
       tail = tail;
     }))

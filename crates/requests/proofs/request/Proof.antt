@@ -7,7 +7,7 @@ use Rattle.rules.specs.Run.{refuse, act, sentCommand, handed}
 use Rattle.client.specs.View.{stateOf, view}
 use Rattle.tape.specs.Tape.{wordsOf, taken-all}
 use Rattle.meets.specs.Meets.{callOf, meets-no, meets-yes}
-use Rattle.requests.specs.Requests.{requestNumber, request-number, Asked, request-passed}
+use Rattle.requests.specs.Requests.{requestNumber, request-number, Asked, request-passed, in-hand}
 use Rattle.requests.proofs.request.Statement.{statement}
 use Rattle.requests.proofs.request.Tie as tie
 
@@ -63,6 +63,7 @@ returns-2 c =
       taken = sym (taken-all (a .c .shape .p ∷ a .c .shape .p ∷ []) (wordsOf (a .tape .now)) (y .words));
       command = refl;
       state = d .take .ensures .state;
+      idle = λ z. absurd (in-hand (a .c) _ (a .m .now) _ (a .kind) (a .block) (a .contents .now) (a .tape .now) (d .take .ensures .state) z);
       buffer = refl;
       tail = d .take .ensures .tail;
     })

@@ -1,16 +1,50 @@
--- A turn and a completion change no more of the request in hand than the level from which its reads go on.
-use mathlib.Core.Path.{_≡_, refl, ap}
-use mathlib.Core.List.{List}
-use mathlib.Core.Option.{Option, none, some}
+-- A read for a request is decided with one in hand only. A turn and a completion change no more of it than the level from which its reads go on.
+use mathlib.Core.Path.{_≡_, refl, ap, sym, _∙_}
+use mathlib.Core.Bool.{Bool, true, false, true≢false}
+use mathlib.Core.List.{List, [], _∷_}
+use mathlib.Core.Option.{Option, none, some, Option·getD}
 use Prim.Native.Nat.{ℕ}
+use lib.Dec.{eqb, ltb}
+use Rattle.lists.specs.Search.{any}
+use Rattle.lists.specs.Tests.{if_then_else_}
 use Rattle.rules.specs.Laws.Shapes.{complete-keeps}
 use Rattle.rules.specs.Questions.{turn, completion}
-use Rattle.rules.specs.Rebuild.{doRebuild}
+use Rattle.rules.specs.Levels.{target}
+use Rattle.rules.specs.Rebuild.{unread, doRebuild}
 use Rattle.rules.specs.Request.{passLevel}
 use Rattle.rules.specs.Run.{act}
-use Rattle.rules.specs.Shape.{Shape}
+use Rattle.rules.specs.Shape.{Shape, slots}
 use Rattle.rules.specs.State.{State, Command, Request}
-use Rattle.rules.specs.Turn.{Step, idle, noDummy, readForRequest, readForJob, rebuild, writeNext, decide, doStep, markRead, send}
+use Rattle.rules.specs.Turn.{Step, idle, noDummy, readForRequest, readForJob, rebuild, writeNext, gatherStep, rebuildStep, writeStep, jobStep, requestStep, decide, doStep, markRead, send}
+
+-- a read for a request
+unfoldable forRequest : Step → Bool
+forRequest idle = false
+forRequest noDummy = false
+forRequest (readForRequest q ℓ i) = true
+forRequest (readForJob q ℓ i) = false
+forRequest (rebuild q t) = false
+forRequest (writeNext q t i) = false
+
+job-not : (s : State) (qs : List ℕ) → forRequest (jobStep s qs) ≡ false
+unfolding forRequest jobStep gatherStep rebuildStep writeStep
+job-not s [] = refl
+job-not s (q ∷ qs) = go (eqb (s .sent) 0) (unread s q) (any (λ c. eqb (c .partition) q) (s .outstanding)) (ltb (s .sent) (slots t))
+  where
+    t : ℕ
+    t = target (s .shape) (s .counter q)
+
+    go : (a : Bool) (o : Option (ℕ × ℕ)) (b c : Bool) → forRequest (if a then gatherStep q o (if b then idle else rebuild q t) else (if c then writeNext q t (s .sent) else idle)) ≡ false
+    go true none true c = refl
+    go true none false c = refl
+    go true (some p) b c = refl
+    go false o b true = refl
+    go false o b false = refl
+
+-- .. is decided with a request in hand only
+pub reads-asked : (s : State) (q ℓ i : ℕ) → decide s ≡ readForRequest q ℓ i → s .request ≡ none → ⊥
+unfolding decide requestStep forRequest
+reads-asked s q ℓ i e n = true≢false (sym (ap forRequest e) ∙ ap (λ o. forRequest (Option·getD (requestStep s o) (jobStep s (s .queue)))) n ∙ job-not s (s .queue))
 
 -- a request but for that level
 abbrev pub asked : Option Request → Option Request

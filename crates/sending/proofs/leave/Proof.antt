@@ -27,10 +27,10 @@ same-length c = omega arith
 returns : tie.Need-returns
 returns c =
     let k = c .before .before .leave in
-    rw (c .before .before .before .before .before .x .given .1) (ap (λ (x : Client). x .shape) (k .ensures .0), ap (λ (x : Client). x .out) (k .ensures .0), k .ensures .1)
+    rw (c .before .before .before .before .before .x .given .1) (ap (λ (x : Client). x .shape) (k .ensures .0), ap (λ (x : Client). x .out) (k .ensures .0), k .ensures .1, ap (λ (x : Client). x .request) (k .ensures .0))
 
 returns-2 : tie.Need-returns-2
-returns-2 c = rw (c .enum-told .given .1) (refl, refl, record { state = refl; tail = refl })
+returns-2 c = rw (c .enum-told .given .1) (refl, refl, record { state = refl; tail = refl }, refl)
 
 pub leave-spec : {M : Type 1} → statement M
 leave-spec =

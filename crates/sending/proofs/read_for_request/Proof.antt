@@ -36,7 +36,7 @@ returns c =
     let a = c .before .before .before .before .before .before .before .before .before .before .before in
     let r = a .args in
     rw (c .sent .ensures) (λ tape b. read-meets (r .c) (r .m .now) tape b (readForRequest (r .q) (r .l) (r .i)) (a .pre) _ _ (r .q) (r .l) (r .i) refl refl refl refl
-    (request-sent (r .c) (p .result) (s .result) (r .m .now) (k .last .1 .0) (s .last .1 .0) (r .q) (r .l) (r .i) (k .ensures) (p .ensures) (s .ensures .0) (s .ensures .1) _))
+    (request-sent (r .c) (p .result) (s .result) (r .m .now) (k .last .1 .0) (s .last .1 .0) (r .q) (r .l) (r .i) (a .pre .step) (k .ensures) (p .ensures) (s .ensures .0) (s .ensures .1) _))
 
 pub read-for-request-spec : {M : Type 1} → statement M
 read-for-request-spec =

@@ -73,7 +73,7 @@ returns c =
     let long : length (r .buffer .now) ≡ r .c .shape .b = p .6 in
     let words : w .result - 1 ≡ length (orderBounds (slots (r .t))) = let e = length-bounds (slots (r .t)) in omega (arith, w .ensures) in
     rw (c .sent .ensures) (write-meets (r .c) (r .m .now) (r .tape .now) (r .buffer .now) (rebuild (r .q) (r .t)) (p .0) (r .q) (r .t) 0 refl refl _ _ _ (w .result - 1) (room-yes (stateOf (r .c) (r .m .now)) (r .q) (r .t) (r .k) (r .list .now) (p .2) (p .3)) long words (omega (arith, p .5, w .ensures))
-    (rebuild-sent (r .c) (k .result) (s .result) (r .m .now) (k .last .1 .0) (s .last .1 .0) (r .q) (r .t) _ (k .ensures .0) (k .ensures .2) (s .ensures .0) (s .ensures .1)) (omega arith) (o .ensures))
+    (rebuild-sent (r .c) (k .result) (s .result) (r .m .now) (k .last .1 .0) (s .last .1 .0) (r .q) (r .t) _ (k .ensures .0) (k .ensures .3) (k .ensures .2) (s .ensures .0) (s .ensures .1)) (omega arith) (o .ensures))
 
 pub send-rebuild-spec : {M : Type 1} → statement M
 send-rebuild-spec =

@@ -56,7 +56,7 @@ returns c =
     let k = c .before .before .before .before .before .before .before .before .before .before .counter in
     let a = c .before .before .before .before .before .before .before .before .before .before .before .before .before .before .before in
     let r = a .args in
-    rw (c .with-sent .ensures) (l .ensures .0, l .ensures .1, rebuilt-stands (r .c) (l .result) (r .m .now) _ _ (r .q) (r .t) (s .result) _ _ (r .x) (l .ensures .0) (b .ensures) (l .ensures .2) (a .pre .3) (a .pre .4) (sources-is (r .c) (r .m .now) (r .q) (k .result) (s .result) (k .ensures) (s .ensures .0)))
+    rw (c .with-sent .ensures) (l .ensures .0, l .ensures .1, rebuilt-stands (r .c) (l .result) (r .m .now) _ _ (r .q) (r .t) (s .result) _ _ (r .x) (l .ensures .0) (b .ensures) (l .ensures .2) (a .pre .3) (a .pre .4) (sources-is (r .c) (r .m .now) (r .q) (k .result) (s .result) (k .ensures) (s .ensures .0)), l .ensures .3)
 
 pub write-level-spec : {M : Type 1} → statement M
 write-level-spec =
