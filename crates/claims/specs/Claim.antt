@@ -3,6 +3,7 @@
 -- To believe the claims, read this file, `Exported` and `Opened` of crate `exports`, and the claims of crates `array` and `hiding`. They are
 -- proved in Theorem.antt, the last of them in Words.antt.
 use mathlib.Core.Path.{_≡_}
+use mathlib.Core.Logic.{_⊎_}
 use mathlib.Core.Bool.{_&&_}
 use mathlib.Core.List.{List, [], _∷_, _++_, map}
 use Prim.Native.Nat.{ℕ, _^_, _≤_, _<_}
@@ -14,13 +15,15 @@ use Rattle.rules.specs.Shape.{Shape}
 use Rattle.rules.specs.State.{closed, write}
 use Rattle.rules.specs.Questions.{Ask, opening, request, turn, completion, collect, Call}
 use Rattle.rules.specs.Run.{Outcome, run}
+use Rattle.memory.specs.Fits.{shapeOf}
 use Rattle.tape.specs.Tape.{wordsOf}
 use Rattle.meets.specs.Meets.{callOf, commandOf}
 use Rattle.codec.specs.Codec.{answerOf, stateLength}
 use Rattle.exports.specs.Exported.{clientIn, Exported, Opened}
-use Rattle.array.specs.Claim.{Host, Expected, Honest, Plain}
+use Rattle.array.specs.Claim.{Slots, Host, Expected, Honest, Plain}
+use Rattle.array.specs.Served.{served}
 use Rattle.hiding.specs.Chosen.{Told, Choice, Plays, Draws}
-use Rattle.hiding.specs.Claim.{Lent, first, Same, Compared, Tape, drawsIn, Gives, Matching, told, NoOpen, openOver, Twins, AgreeUntil8}
+use Rattle.hiding.specs.Claim.{Lent, first, WellFormed, Same, Compared, Tape, drawsIn, Gives, Matching, told, NoOpen, openOver, Twins, AgreeUntil8}
 
 -- ---- A run of exported calls
 
@@ -119,6 +122,12 @@ HidingClaim = (h : Shape) → h .E ≡ h .N → (m w n : ℕ) (as′ bs′ : Lis
     Gives closed (first h m w n ∷ as′) t (map callMade xs) → Gives closed (first h m w n ∷ bs′) (p .f t) (map callMade ys) →
     map told (map outcomeOf xs) ≡ map told (map outcomeOf ys))
 
+-- Every run can be served: `served` puts into its completions of reads what the host has, which takes a write's bytes from the turn that sends it
+-- (x has what it had in each slot before). Exported calls that are lent these bytes have an honest host
+abbrev pub ServedClaim : Type 0
+ServedClaim = (x : Slots) (h : Shape) (c : Call) (cs : List Call) → c .ask ≡ opening h → (xs : List Made) → FromOpen xs → map callMade xs ≡ served x closed (c ∷ cs)
+    → Honest (record { last = x; has = x }) (map callMade xs) (map outcomeOf xs)
+
 -- Both at once, with an honest host in either run: the host is told the same at each place, and each collect hands out a plain array's contents
 abbrev pub HonestClaim : Type 0
 HonestClaim = (h : Shape) → h .E ≡ h .N → (m w n : ℕ) (as′ bs′ : List Lent) → Compared h as′ bs′ →
@@ -150,6 +159,13 @@ abbrev pub CacheBytesClaim : Type 0
 CacheBytesClaim = (h : Shape) (e : ℕ) → 1 ≤ e → e < h .N → (m n : ℕ) (ws : List ℕ) (cs : List Call) → NoOpen cs → (xs ys : List Made) → FromOpen xs → FromOpen ys
     → map callMade xs ≡ openOver (h .N) h m ws n ∷ cs → map callMade ys ≡ openOver e h m ws n ∷ cs
     → AgreeUntil8 (λ o. o) (map outcomeOf xs) (map outcomeOf ys)
+
+-- "Among such requests only 8 may depend on names": two well-formed requests that are handed the same state and memory, and as many words
+abbrev pub NamesClaim : Type 0
+NamesClaim = (x y : Made) (k b k′ b′ : ℕ) (bs bs′ : List ℕ) → x .ask ≡ request k b bs → y .ask ≡ request k′ b′ bs′ → Called x → Called y
+    → length (x .state) ≡ stateLength → x .state ≡ y .state → x .memory ≡ y .memory → length (wordsOf (x .tape)) ≡ length (wordsOf (y .tape))
+    → WellFormed (shapeOf (clientIn (x .state) .shape)) k b (length bs) → WellFormed (shapeOf (clientIn (x .state) .shape)) k′ b′ (length bs′)
+    → (outcomeOf x .number ≡ outcomeOf y .number) ⊎ ((outcomeOf x .number ≡ 8) ⊎ (outcomeOf y .number ≡ 8))
 
 -- The words of a run may be any: words of 16 bits are those of some bytes. (`Tapes` of crate `hiding` gives each tape such words)
 abbrev pub WordsClaim : Type 0

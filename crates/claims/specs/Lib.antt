@@ -2,8 +2,9 @@
 -- Theorem proves it
 pub mod Claim
 pub mod Theorem
--- A small run, computed
+-- A small run, computed; and one in which every call is accepted
 pub mod Example
+pub mod Accepted
 -- The proof: the memory as far as it is lent, what is in the buffer, one call, and words as bytes
 pub mod Memory
 pub mod Buffers

@@ -2,17 +2,25 @@
 use mathlib.Core.Path.{_≡_, refl, ap, sym, subst, _∙_}
 use mathlib.Core.List.{List, [], _∷_, _++_, map}
 use Prim.Native.Nat.{ℕ}
+use lib.ListN.{length}
+use Rattle.rules.specs.Laws.Answers.{step-number}
+use Rattle.rules.specs.Questions.{request, number}
 use Rattle.rules.specs.Run.{Outcome, run}
 use Rattle.rules.specs.State.{State, closed}
-use Rattle.client.specs.View.{stateOf}
+use Rattle.client.specs.View.{stateOf, view}
+use Rattle.meets.specs.Meets.{callOf}
+use Rattle.codec.specs.Codec.{stateLength}
 use Rattle.exports.specs.Exported.{clientIn}
 use Rattle.reachable.specs.Reached.{open-first}
 use Rattle.array.specs.Claim.{Honest, Plain}
+use Rattle.array.specs.Hosts.{at-once}
+use Rattle.array.specs.Served.{served, served-at-once}
 use Rattle.array.specs.Theorem.{plain-array}
 use Rattle.hiding.specs.Claim.{told}
 use Rattle.hiding.specs.Chosen.{chosen-hidden}
+use Rattle.hiding.specs.Names.{only-eight}
 use Rattle.hiding.specs.Theorem.{hidden}
-use Rattle.claims.specs.Claim.{Made, Runs, Opens, callMade, outcomeOf, RulesClaim, ArrayClaim, HidingClaim, HonestClaim, ChosenExported, CacheClaim, CacheBytesClaim}
+use Rattle.claims.specs.Claim.{Made, Contract, Called, Runs, Opens, callMade, outcomeOf, RulesClaim, ArrayClaim, ServedClaim, HidingClaim, HonestClaim, ChosenExported, CacheClaim, CacheBytesClaim, NamesClaim}
 use Rattle.claims.specs.Steps.{made-step}
 
 -- from any bytes of state and memory: each call finds the state that the last one left
@@ -47,6 +55,12 @@ exported-hiding h e m w n as′ bs′ k =
     let y = hidden .lists h e m w n as′ bs′ k closed closed in
     (y .0, (λ t a xs ys q r u v. ap (map told) (exported-run xs q) ∙ y .1 t a (map callMade xs) (map callMade ys) u v ∙ sym (ap (map told) (exported-run ys r))))
 
+-- Served by an honest host
+pub exported-served : ServedClaim
+exported-served x h c cs k xs q e =
+    let ds = served x closed (c ∷ cs) in
+    rw (exported-run xs q, e) (at-once ds (run closed ds) x x (served-at-once closed x h c cs k))
+
 -- Both, with an honest host
 pub exported-honest : HonestClaim
 exported-honest h e m w n as′ bs′ k =
@@ -73,3 +87,19 @@ exported-cache h e lo hi m n ws cs ds k l xs ys q r u v =
 pub exported-cache-bytes : CacheBytesClaim
 exported-cache-bytes h e lo hi m n ws cs k xs ys q r u v =
     rw (exported-run xs q ∙ ap (run closed) u, exported-run ys r ∙ ap (run closed) v) (hidden .cache .whole h e lo hi m n ws cs k closed closed)
+
+-- Requests and names
+asked-number : (x : Made) (k b : ℕ) (bs : List ℕ) → x .ask ≡ request k b bs → Called x → length (x .state) ≡ stateLength
+    → outcomeOf x .number ≡ number (stateOf (clientIn (x .state)) (x .memory)) (callOf (request k b bs) (x .memory) (x .tape) (x .buffer))
+asked-number x k b bs e c l =
+    let y : Contract (request k b bs) x = subst (λ a. Contract a x) e (c .0) in
+    y .meets l .number ∙ step-number (stateOf (clientIn (x .state)) (x .memory)) (callOf (request k b bs) (x .memory) (x .tape) (x .buffer))
+
+pub exported-names : NamesClaim
+unfolding stateOf view
+exported-names x y k b k′ b′ bs bs′ e e′ c c′ l s m w f f′ =
+    let d = callOf (request k b bs) (x .memory) (x .tape) (x .buffer) in
+    let d′ = callOf (request k′ b′ bs′) (y .memory) (y .tape) (y .buffer) in
+    let z : number (stateOf (clientIn (y .state)) (y .memory)) d′ ≡ number (stateOf (clientIn (x .state)) (x .memory)) d′ = λ i. number (stateOf (clientIn (sym s i)) (sym m i)) d′ in
+    rw (asked-number x k b bs e c l, asked-number y k′ b′ bs′ e′ c′ (ap length (sym s) ∙ l) ∙ z)
+    (only-eight (stateOf (clientIn (x .state)) (x .memory)) d d′ k b k′ b′ bs bs′ refl refl f f′ (ap length m) w)
