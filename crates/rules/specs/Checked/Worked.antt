@@ -1,4 +1,4 @@
--- Document 01's worked session. WRITTEN BY gen/gen.py.
+-- Document 01's worked session.
 use mathlib.Core.Path.{_≡_, refl}
 use mathlib.Core.List.{List, [], _∷_}
 use Rattle.rules.specs.State.{cmd, closed}
