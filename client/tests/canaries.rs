@@ -95,6 +95,21 @@ fn between(state: &[u8]) -> Vec<&[u8]> {
     state.chunks_exact(4).map(|number| &number[2..]).collect()
 }
 
+/// The numbers of a request in a state: kind, block, next partition, eviction
+/// partition, level.
+fn request_numbers(state: &[u8]) -> [u16; 5] {
+    std::array::from_fn(|k| u16::from_le_bytes([state[24 + 4 * k], state[25 + 4 * k]]))
+}
+
+/// 0 while no request is in hand.
+fn kind_of_request(state: &[u8]) -> u16 {
+    request_numbers(state)[0]
+}
+
+/// The calls by number.
+const OPEN: usize = 0;
+const COLLECT: usize = 4;
+
 /// The numbers that each call may answer.
 const NUMBERS: [&[u8]; 5] = [
     &[0, 1, 2, 3],
@@ -117,14 +132,23 @@ fn check(rng: &mut Rng, state_len: usize, memory: usize, seen: &mut [[usize; 16]
         );
         if answer.number != 0 {
             let mut after = lending.bytes();
-            if which == 0 && state_len == STATE {
-                assert_eq!(after[0], [0; STATE]);
+            if which == OPEN {
+                assert_eq!(after[0], vec![0; state_len]);
                 after[0].clone_from(&before[0]);
             }
             assert_eq!(after, before, "call {which} answers {answer:?}");
             assert_eq!((answer.taken, answer.command), Default::default());
         } else {
-            assert_eq!(between(&lending.bytes()[0]), between(&before[0]));
+            let after = lending.bytes();
+            assert_eq!(between(&after[0]), between(&before[0]));
+            if kind_of_request(&after[0]) == 0 {
+                let left = if [OPEN, COLLECT].contains(&which) {
+                    [0; 5]
+                } else {
+                    request_numbers(&before[0])
+                };
+                assert_eq!(request_numbers(&after[0]), left, "call {which}");
+            }
         }
         seen[which][usize::from(answer.number)] += 1;
     }
@@ -159,6 +183,8 @@ fn every_length_of_state() {
     for state_len in (0..100).filter(|len| *len != STATE) {
         check(&mut rng, state_len, needed, &mut seen);
     }
-    // a state of another length is answered 2
-    assert!(seen.iter().all(|numbers| numbers[2] == 99));
+    // a state of another length is answered 2, an open of no shape 1
+    assert!(seen[1..].iter().all(|numbers| numbers[2] == 99));
+    assert_eq!(seen[OPEN][1] + seen[OPEN][2], 99);
+    assert!(seen[OPEN][1] > 0 && seen[OPEN][2] > 0);
 }
