@@ -7,7 +7,6 @@ use lib.ListN.{length, replicate}
 use Rattle.lists.specs.Search.{below, count}
 use Rattle.rules.specs.Questions.{Call, opening, request, turn, completion, collect}
 use Rattle.rules.specs.Run.{Outcome, run}
-use Rattle.rules.specs.Shape.{Shape}
 use Rattle.rules.specs.State.{cmd, write, closed}
 use Rattle.rules.specs.Unfold.{model, shape, call, out}
 use Rattle.memory.specs.Words.{wordAt}

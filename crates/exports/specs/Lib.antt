@@ -2,3 +2,4 @@ pub mod Small
 pub mod Progress
 pub mod Exported
 pub mod Idle
+pub mod Determined

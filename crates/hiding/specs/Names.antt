@@ -10,7 +10,6 @@ use borrow.Author.Tests.{lt-ltb, eq-eqb}
 use Rattle.lists.specs.Search.{isNone, member}
 use Rattle.rules.specs.Questions.{request, Call, bounds, ready, questions, firstNo, number}
 use Rattle.rules.specs.Ranges.{bytesOf}
-use Rattle.rules.specs.Shape.{Shape}
 use Rattle.rules.specs.State.{State}
 use Rattle.hiding.specs.Claim.{WellFormed}
 use Rattle.hiding.specs.Orders.Number.{enough}

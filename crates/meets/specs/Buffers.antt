@@ -1,6 +1,6 @@
 -- What a call puts into the buffer has B bytes, of which there is one at least: so the buffer has it whole.
 use mathlib.Core.Path.{_≡_, refl, ap, sym, _∙_}
-use mathlib.Core.Bool.{Bool, true, false, not, _&&_, true≢false}
+use mathlib.Core.Bool.{Bool, true, false, true≢false}
 use mathlib.Core.List.{List, [], _∷_}
 use mathlib.Core.Option.{Option, none, some}
 use Prim.Native.Nat.{ℕ, suc, _+_, _≤_, _<_}
@@ -12,9 +12,8 @@ use lib.ListN.{length, drop, replicate, length-drop, length-replicate}
 use lib.Seq.{length-take-le}
 use borrow.Author.Tests.{leb-true}
 use Rattle.lists.specs.Tests.{if_then_else_, and-l}
-use Rattle.lists.specs.Search.{member}
 use Rattle.rules.specs.Shape.{Shape}
-use Rattle.rules.specs.Blocks.{zeros, contents, slotBytes, isNowhere}
+use Rattle.rules.specs.Blocks.{slotBytes}
 use Rattle.rules.specs.Collect.{answer}
 use Rattle.rules.specs.Laws.Answers.{Passed, opens}
 use Rattle.rules.specs.Laws.Kept.{given-in}

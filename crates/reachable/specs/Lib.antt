@@ -27,3 +27,5 @@ pub mod Pending
 pub mod Blocks
 pub mod Slots
 pub mod Outstanding
+-- All blocks may wait, whatever partitions store: computed
+pub mod Example

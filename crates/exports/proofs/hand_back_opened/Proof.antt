@@ -1,12 +1,6 @@
-use mathlib.Core.Path.{ap, _∙_}
-use Prim.Native.Nat.{ℕ}
-use lib.ListN.{replicate}
 use native.Mathlib.Omega.{arith}
 use Rattle.exports.proofs.hand_back_opened.Statement.{statement}
 use Rattle.exports.proofs.hand_back_opened.Tie as tie
-use Rattle.codec.proofs.encode.Reads as encode-reads
-use Rattle.codec.proofs.pack.Reads as pack-reads
-use Rattle.memory.proofs.blocks.zeros.Reads as zeros-reads
 
 zeros-requires : tie.Need-zeros-requires
 zeros-requires c κs = omega arith

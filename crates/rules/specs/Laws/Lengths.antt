@@ -7,7 +7,6 @@ use lib.ListN.{length, length-replicate}
 use Rattle.lists.specs.Search.{member}
 use Rattle.lists.specs.Tests.{if_then_else_}
 use Rattle.rules.specs.Blocks.{zeros, contents, slotBytes, isNowhere}
-use Rattle.rules.specs.Shape.{Shape}
 use Rattle.rules.specs.State.{State}
 
 -- each block has B bytes

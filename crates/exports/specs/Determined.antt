@@ -1,0 +1,131 @@
+-- The contract of an exported call says all of the number that it answers and every byte of the state after it: two that meet it from the same
+-- bytes are the same. (Of the memory it says what it stands for: docs/MEMORY.md names the bytes that are free.)
+use mathlib.Core.Path.{_≡_, ap, sym, _∙_}
+use mathlib.Core.List.{List, []}
+use mathlib.Core.Option.{Option·getD}
+use Prim.Native.Nat.{ℕ, _+_, _*_, _/_, _%_}
+use native.Mathlib.Omega.{arith}
+use native.Mathlib.Decide.{ℕ-discrete}
+use lib.ListN.{length}
+use Rattle.rules.specs.Shape.{Shape}
+use Rattle.rules.specs.State.{State, Command, closed}
+use Rattle.rules.specs.Questions.{Ask, opening}
+use Rattle.memory.specs.Words.{wordAt}
+use Rattle.memory.specs.Fits.{shapeOf}
+use Rattle.client.specs.declared.Client.{Client}
+use Rattle.client.specs.declared.Request.{Request}
+use Rattle.client.specs.View.{stateOf, view}
+use Rattle.client.specs.Rows.{length-rows}
+use Rattle.client.specs.Readings.{jobs-count, waiting-count, heldOf, held-none, held-some}
+use Rattle.meets.specs.Answers.{clearedClient}
+use Rattle.meets.specs.Meets.{Meets}
+use Rattle.codec.specs.Codec.{stateLength, Between, answerOf}
+use Rattle.exports.specs.Exported.{clientIn, Exported, Opened}
+use Rattle.exports.specs.Idle.{Idle, none-kind}
+
+-- ---- The client
+
+-- a client is given by the state that it stands for and, while no request is in hand, by what is left of one
+module _ (c d : Client) (m n : List ℕ) (e : stateOf c m ≡ stateOf d n) where
+  same-out : c .out ≡ d .out
+  unfolding stateOf view
+  same-out = sym (length-rows _ (c .out)) ∙ ap (λ (s : State). length (s .outstanding)) e ∙ length-rows _ (d .out)
+
+  same-numbers : (shapeOf (c .shape) ≡ shapeOf (d .shape)) × (c .cursor ≡ d .cursor) × (c .sent ≡ d .sent)
+  unfolding stateOf view
+  same-numbers = (ap (λ (s : State). s .shape) e, ap (λ (s : State). s .cursor) e, ap (λ (s : State). s .sent) e)
+
+  same-hand : (c .request .kind ≡ 0 → ⊥) → (d .request .kind ≡ 0 → ⊥) → c .request ≡ d .request
+  same-hand x y =
+      let f : heldOf c m ≡ heldOf d n = ap (λ o. Option·getD o (heldOf c m)) (sym (held-some c m x) ∙ ap (λ (s : State). s .request) e ∙ held-some d n y) in
+      λ i. record { kind = f i .kind; block = f i .block; next = f i .next; evict = f i .evict; level = f i .level }
+
+  same-request : (a : Ask) (r : Request) → Idle a r c → Idle a r d → c .request ≡ d .request
+  same-request a r i j = go (ℕ-discrete (c .request .kind) 0)
+    where
+      go : Dec (c .request .kind ≡ 0) → c .request ≡ d .request
+      go (yes z) = i z ∙ sym (j (none-kind d n (ap (λ (s : State). s .request) (sym e) ∙ held-none c m z)))
+      go (no x) = same-hand x (λ z. x (none-kind c m (ap (λ (s : State). s .request) e ∙ held-none d n z)))
+
+  same-client : (a : Ask) (r : Request) → Idle a r c → Idle a r d → c ≡ d
+  same-client a r i j =
+      let s = same-numbers in
+      let q = same-request a r i j in
+      let jobs = sym (jobs-count c m) ∙ ap (λ (s : State). length (s .queue)) e ∙ jobs-count d n in
+      let waiting = sym (waiting-count c m) ∙ ap (λ (s : State). length (s .waiting)) e ∙ waiting-count d n in
+      let out = same-out in
+      λ k. record {
+        shape = record { n = s .0 k .N; p = s .0 k .P; l = s .0 k .L; b = s .0 k .B; e = s .0 k .E; w = s .0 k .W };
+        request = q k;
+        jobs = jobs k;
+        cursor = s .1 k;
+        sent = s .2 k;
+        waiting = waiting k;
+        out = out k;
+      }
+
+-- ---- The answer
+
+-- a number is given by what is read off it: the parts above a place are given by those above the next
+module _ (u v : ℕ) where
+  same-high : u / 4294967296 % 65536 ≡ v / 4294967296 % 65536 → u / 281474976710656 ≡ v / 281474976710656 → u / 4294967296 ≡ v / 4294967296
+  same-high a b = omega arith
+
+  same-level : u / 16777216 % 256 ≡ v / 16777216 % 256 → u / 4294967296 ≡ v / 4294967296 → u / 16777216 ≡ v / 16777216
+  same-level a b = omega arith
+
+  same-partition : u / 65536 % 256 ≡ v / 65536 % 256 → u / 16777216 ≡ v / 16777216 → u / 65536 ≡ v / 65536
+  same-partition a b = omega arith
+
+  same-kind : u / 256 % 256 ≡ v / 256 % 256 → u / 65536 ≡ v / 65536 → u / 256 ≡ v / 256
+  same-kind a b = omega arith
+
+  same-number : u % 256 ≡ v % 256 → u / 256 ≡ v / 256 → u ≡ v
+  same-number a b = omega arith
+
+module _ (c : Client) (s : State) (a : Ask) (m tape b : List ℕ) (u v : ℕ) (x y : Client) (m′ n′ b′ d′ : List ℕ)
+    (k : Meets c s a m tape b (answerOf u x) m′ b′) (l : Meets c s a m tape b (answerOf v y) n′ d′) where
+  same-answer : u ≡ v
+  same-answer =
+      let o = k .command ∙ sym (l .command) in
+      let high = same-high u v (ap (λ (z : Command). z .slot) o) (k .taken ∙ sym (l .taken)) in
+      let low = same-partition u v (ap (λ (z : Command). z .partition) o) (same-level u v (ap (λ (z : Command). z .level) o) high) in
+      same-number u v (k .number ∙ sym (l .number)) (same-kind u v (ap (λ (z : Command). z .kind) o) low)
+
+  -- a refused call hands back c
+  same-left : x ≡ y
+  same-left = go (ℕ-discrete (u % 256) 0)
+    where
+      go : Dec (u % 256 ≡ 0) → x ≡ y
+      go (yes z) = same-client x y m′ n′ (k .state ∙ sym (l .state)) a (c .request) (k .idle z) (l .idle (rw same-answer at z))
+      go (no n) = k .refused n .1 ∙ sym (l .refused (λ z. n (rw same-answer z)) .1)
+
+-- ---- The bytes of the state: the client that they say, and the words between its numbers
+
+abbrev pub SameState : List ℕ → List ℕ → Type 0
+SameState st st′ = (clientIn st ≡ clientIn st′) × Between (wordAt st) (wordAt st′)
+
+-- A request, turn, completion or collect
+pub determined : (a : Ask) (st m tape b : List ℕ) (u v : ℕ) (st′ st″ m′ m″ b′ b″ : List ℕ) → length st ≡ stateLength
+    → Exported a st m tape b u st′ m′ b′ → Exported a st m tape b v st″ m″ b″ → (u ≡ v) × SameState st′ st″
+determined a st m tape b u v st′ st″ m′ m″ b′ b″ l x y =
+    let c = clientIn st in
+    let s = stateOf c m in (
+      same-answer c s a m tape b u v (clientIn st′) (clientIn st″) m′ m″ b′ b″ (x .meets l) (y .meets l),
+      (same-left c s a m tape b u v (clientIn st′) (clientIn st″) m′ m″ b′ b″ (x .meets l) (y .meets l), (λ k. y .between k ∙ sym (x .between k))),
+    )
+
+-- An open
+pub determined-open : (h : Shape) (st m tape : List ℕ) (u v : ℕ) (st′ st″ m′ m″ : List ℕ) → length st ≡ stateLength
+    → Opened h st m tape u st′ m′ → Opened h st m tape v st″ m″ → (u ≡ v) × SameState st′ st″
+determined-open h st m tape u v st′ st″ m′ m″ l x y = (answer, go (ℕ-discrete (u % 256) 0))
+  where
+    answer : u ≡ v
+    answer = same-answer clearedClient closed (opening h) m tape [] u v (clientIn st′) (clientIn st″) m′ m″ [] [] (x .meets l) (y .meets l)
+
+    go : Dec (u % 256 ≡ 0) → SameState st′ st″
+    go (yes z) = (
+      same-left clearedClient closed (opening h) m tape [] u v (clientIn st′) (clientIn st″) m′ m″ [] [] (x .meets l) (y .meets l),
+      (λ k. y .between (rw answer at z) k ∙ sym (x .between z k)),
+    )
+    go (no n) = let e = x .refused n ∙ sym (y .refused (λ z. n (rw answer z))) in (ap clientIn e, (λ k. ap (λ s. wordAt s (k * 2 + 1)) (sym e)))
