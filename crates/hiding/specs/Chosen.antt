@@ -2,22 +2,25 @@
 -- list that is known beforehand. The tapes of two who choose alike are matched as those of compared lists are: `chosen-from` has it from
 -- `Claim` and `Tapes`. With an honest host in both, demand 2 holds besides: `chosen-together`.
 use mathlib.Core.Path.{_≡_, refl, ap, ap₂, sym, _∙_, subst}
+use mathlib.Core.Bool.{Bool, true, false}
 use mathlib.Core.List.{List, [], _∷_, _++_, map}
 use Prim.Native.Nat.{ℕ, zero, suc}
 use native.Mathlib.Omega.{arith}
 use lib.ListN.{length, take, drop}
+use lib.Dec.{eqb, ltb}
 use lib.Seq.{take-at, drop-at}
+use Rattle.lists.specs.Tests.{if_then_else_}
 use Rattle.rules.specs.Questions.{Call}
 use Rattle.rules.specs.Run.{Outcome, step, run}
 use Rattle.rules.specs.Shape.{Shape}
-use Rattle.rules.specs.State.{State, Command}
+use Rattle.rules.specs.State.{State, Command, read}
 use Rattle.hiding.specs.Claim
 use Rattle.array.specs.Claim as Array
 use Rattle.array.specs.Served.{served}
 use Rattle.array.specs.Claim.{Slots, Host, Expected, Honest, Plain}
 use Rattle.array.specs.Theorem.{plain-array}
 use Rattle.hiding.specs.Honest.{list-plain, lending, lending-lends, honest-run}
-use Rattle.hiding.specs.Claim.{outline, zeroed, Lent, first, Same, Compared, boundsOf, nextOf, Tape, Lends, drawsOf, drawsIn, Gives, Matching, told, Claim, Tapes}
+use Rattle.hiding.specs.Claim.{aCompletion, outline, zeroed, Lent, first, Same, Compared, boundsOf, nextOf, Tape, Lends, drawsOf, drawsIn, Gives, Matching, told, Claim, Tapes}
 use Rattle.hiding.specs.Lists.Bytes.{outline-zeroed, bareCall, twins-told, twins-drawn, zeros-twins}
 use Rattle.hiding.specs.Lists.Calls
 use Rattle.hiding.specs.Lists.Calls.{plain, Plainly, plainly, stepped, toldOf}
@@ -65,6 +68,25 @@ ChosenTogether = (h : Shape) → h .E ≡ h .N → (m w n : ℕ) (σ τ : Choice
     × ((cs ds : List Call) → Plays h m w n σ k s cs → Plays h m w n τ k s′ ds → p .f (drawsIn s cs) ≡ drawsIn s′ ds →
     (host host′ : Host) → Honest host cs (run s cs) → Honest host′ ds (run s′ ds) → (x x′ : Expected) →
     (map told (run s cs) ≡ map told (run s′ ds)) × Plain x cs (run s cs) × Plain x′ ds (run s′ ds))
+
+-- A host that completes each command as soon as it is sent is such a choice: after a command comes its completion, with B bytes for a read. All
+-- other calls are chosen by σ; m bytes of memory are lent to a completion
+abbrev pub promptly : Shape → ℕ → Choice → Choice
+promptly h m σ [] = σ []
+promptly h m σ (o ∷ os) =
+    if ltb 0 (o .2 .kind) then record { ask = aCompletion (o .2) (if eqb (o .2 .kind) read then h .B else 0); memory = m; words = 0; buffer = 0 } else σ (o ∷ os)
+
+-- .. and two who choose alike choose alike with it
+pub promptly-alike : (h : Shape) (m : ℕ) (σ τ : Choice) → ((os : List Told) → Same h (σ os) (τ os)) → (os : List Told) → Same h (promptly h m σ os) (promptly h m τ os)
+promptly-alike h m σ τ alike [] = alike []
+promptly-alike h m σ τ alike (o ∷ os) = go (ltb 0 (o .2 .kind))
+  where
+    c : Lent
+    c = record { ask = aCompletion (o .2) (if eqb (o .2 .kind) read then h .B else 0); memory = m; words = 0; buffer = 0 }
+
+    go : (t : Bool) → Same h (if t then c else σ (o ∷ os)) (if t then c else τ (o ∷ os))
+    go true = record { ask = Claim.completions; memory = refl; words = refl; buffer = refl }
+    go false = alike (o ∷ os)
 
 -- ---- The list of the calls chosen, by what is told
 
