@@ -19,10 +19,10 @@ use Rattle.tape.specs.Tape.{wordsOf}
 use Rattle.lines.specs.Lines.{Line}
 use Rattle.meets.specs.declared.Answer.{Answer}
 use Rattle.meets.specs.Answers.{clearedClient}
-use Rattle.meets.specs.Meets.{commandOf}
+use Rattle.meets.specs.Meets.{commandOf, closed-is}
 use Rattle.printing.specs.Written.{Written}
 use Rattle.session.specs.Session as S
-use Rattle.session.specs.Session.{serves, gives, room, call, replied, brought, start}
+use Rattle.session.specs.Session.{serves, gives, room, call, replied, brought, start, begun}
 use Rattle.session.specs.declared.Session.{Session}
 use Rattle.session.specs.declared.Printed.{Printed}
 
@@ -44,6 +44,10 @@ pub record Served (s : Session) (tape : List ℕ) : Type 0 where
 pub fresh-served : (tape : List ℕ) → Served fresh tape
 unfolding S.serves
 fresh-served tape = record { serves = refl; block = omega arith; taken = omega arith }
+
+pub fresh-kept : (m tape host : List ℕ) → kept fresh m tape host ≡ begun host (wordsOf tape)
+unfolding begun
+fresh-kept m tape host = λ i. record { state = closed-is m i; words = wordsOf tape; host = host }
 
 -- room for the text of one line
 abbrev pub textRoom : ℕ

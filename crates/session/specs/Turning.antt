@@ -42,7 +42,7 @@ use Rattle.session.specs.Opening as O
 
 -- ---- The completion
 
-no-words : wordsOf [] ≡ []
+pub no-words : wordsOf [] ≡ []
 unfolding wordsOf below count
 no-words = refl
 

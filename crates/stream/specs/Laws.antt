@@ -1,12 +1,12 @@
--- One byte more of a line, and the words of a tape.
+-- One byte more of a line, what waits behind a line, and the words of a tape.
 use mathlib.Core.Path.{_≡_, ap, sym, _∙_}
 use mathlib.Core.List.{List, [], _∷_, _++_, append-assoc}
 use Prim.Native.Nat.{ℕ, zero, suc, _+_, _-_, _*_, _/_, _≤_, _<_}
 use native.Mathlib.Numerals.{add-one}
 use native.Mathlib.Omega.{arith}
 use native.Mathlib.Decide.{ℕ-discrete}
-use lib.ListN.{length, take, getD, set}
-use lib.Seq.{take-suc, take-suc-set, getD-take, ext-getD, length-take-le}
+use lib.ListN.{length, take, drop, getD, set}
+use lib.Seq.{take-suc, take-suc-set, take-nil, drop-drop, getD-take, ext-getD, length-take-le}
 use Rattle.memory.specs.Words.{wordAt}
 use Rattle.tape.specs.Tape.{wordsOf, length-words, word-is}
 use Rattle.lines.specs.Stored.{length-first, first-is}
@@ -21,7 +21,7 @@ pub appended : (line had bytes : List ℕ) (k i : ℕ) → k < length line → i
     take (k + 1) (set line k (getD bytes i 0)) ≡ had ++ take (i + 1) bytes
 appended line had bytes k i f g e = rw (add-one k, add-one i, take-suc-set line k (getD bytes i 0) f, e, take-suc bytes i 0 g, append-assoc)
 
-most : (n : ℕ) (l : List ℕ) → length (take n l) ≤ n
+pub most : (n : ℕ) (l : List ℕ) → length (take n l) ≤ n
 most zero l = omega arith
 most (suc n) [] = omega arith
 most (suc n) (x ∷ l) = let r = most n l in omega arith
@@ -29,6 +29,29 @@ most (suc n) (x ∷ l) = let r = most n l in omega arith
 -- a place in a part of what was read lies before the part's end
 pub behind : (l : List ℕ) (from to i : ℕ) → from ≤ to → i < length (take (to - from) l) → from + i + 1 ≤ to
 behind l from to i h m = let r = most (to - from) l in omega arith
+
+-- the first n without the first m
+drop-take : (m n : ℕ) (l : List ℕ) → drop m (take n l) ≡ take (n - m) (drop m l)
+drop-take zero n l = ap (λ k. take k l) (whole n)
+  where
+    whole : (n : ℕ) → n ≡ n - 0
+    whole n = omega arith
+drop-take (suc m) zero l = ap (λ k. take k (drop (suc m) l)) (none m)
+  where
+    none : (m : ℕ) → 0 ≡ 0 - suc m
+    none m = omega arith
+drop-take (suc m) (suc n) [] = sym (take-nil (suc n - suc m))
+drop-take (suc m) (suc n) (x ∷ l) = drop-take m n l ∙ ap (λ k. take k (drop m l)) (less m n)
+  where
+    less : (m n : ℕ) → n - m ≡ suc n - suc m
+    less m n = omega arith
+
+-- what waits behind a newline at place i of what waited
+pub waits-behind : (l : List ℕ) (from to i : ℕ) → take (to - (from + i + 1)) (drop (from + i + 1) l) ≡ drop (i + 1) (take (to - from) (drop from l))
+waits-behind l from to i =
+    let place : from + i + 1 ≡ from + (i + 1) = omega arith in
+    let size : to - (from + i + 1) ≡ (to - from) - (i + 1) = omega arith in
+    (λ j. take (size j) (drop (place j) l)) ∙ ap (take ((to - from) - (i + 1))) (sym (drop-drop (i + 1) from l)) ∙ sym (drop-take (i + 1) (to - from) (drop from l))
 
 -- ---- The tape
 

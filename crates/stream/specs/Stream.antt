@@ -5,20 +5,20 @@ use mathlib.Core.List.{List, _++_}
 use mathlib.Core.Option.{Option, none, some}
 use Prim.Native.Nat.{ℕ, _+_, _-_, _≤_, _<_}
 use lib.ListN.{length, take, getD}
+use lib.Dec.{eqb}
 use Rattle.tape.specs.Tape.{wordsOf}
 use Rattle.lines.specs.Lines.{lineOf, tapeOf}
 use Rattle.session.specs.Session.{ends}
-use Rattle.session.specs.Answers.{Served, Answers, fresh}
+use Rattle.session.specs.Answers.{Served, Answers, fresh, textRoom}
 use Rattle.session.specs.declared.Session.{Session}
 use Rattle.stream.specs.declared.State.{State}
+use Rattle.stream.specs.declared.output.Output.{Output}
 use Rattle.stream.specs.declared.Brought.{Brought}
 use Rattle.stream.specs.declared.Brought.the-variants.{Whole, Part, TooLong}
+use Rattle.stream.specs.Output.{outRoom, total, Placed}
 
 abbrev pub lineRoom : ℕ
 lineRoom = 49153
-
-abbrev pub outRoom : ℕ
-outRoom = 65536
 
 -- what holds between turns: the session is served with its part of the tape's buffer, and each count is within its buffer
 pub record Ready (s : State) (words : List ℕ) : Type 0 where
@@ -27,7 +27,7 @@ pub record Ready (s : State) (words : List ℕ) : Type 0 where
   pub from : s .from ≤ s .to
   pub to : s .to ≤ 65536
   pub len : s .len ≤ lineRoom
-  pub at : s .at ≤ outRoom
+  pub at : s .output .at ≤ outRoom
 
 -- none of the first n bytes is a newline
 abbrev pub Plain : ℕ → List ℕ → Type 0
@@ -68,24 +68,46 @@ abbrev pub buffers : List ℕ → List ℕ → List ℕ → List ℕ → Buffers
 buffers tape memory host out = record { tape = tape; memory = memory; host = host; out = out }
 
 -- A line that is no tape. One that ends the session leaves all as it was. The answer to any other is what the definition gives, with the first n bytes of the
--- tape's buffer; its text is behind place `at` of the output, or at the start if what was there is written out
-abbrev pub Gives : Bool → Session → ℕ → ℕ → List ℕ → Buffers → State → Buffers → Type 0
-Gives true s n at line b r e = (r .session ≡ s) × (r .at ≡ at) × (e ≡ b)
-Gives false s n at line b r e = (k : ℕ) × ((0 < k → k ≡ at) × Answers s (lineOf line) (b .memory) (take n (b .tape)) (b .host) (b .out) k (record { session = r .session; at = r .at }) (e .memory) (e .host) (e .out))
+-- tape's buffer; its text stands behind what the output's buffer holds, at the start if all of that has left
+abbrev pub Gives : Bool → Session → ℕ → Output → List ℕ → Buffers → State → Buffers → Type 0
+Gives true s n o line b r e = (r .session ≡ s) × (r .output ≡ o) × (e ≡ b)
+Gives false s n o line b r e = (p : Output) × (Placed o p × (r .output .gone ≡ p .gone) × Answers s (lineOf line) (b .memory) (take n (b .tape)) (b .host) (b .out) (p .at) (record { session = r .session; at = r .output .at }) (e .memory) (e .host) (e .out))
+
+-- the places of the bytes that wait, and the length of the line that has begun, are as they were
+pub record Stays (s r : State) : Type 0 where
+  pub from : r .from ≡ s .from
+  pub to : r .to ≡ s .to
+  pub len : r .len ≡ s .len
 
 pub record Responds (s : State) (line : List ℕ) (b : Buffers) (r : State) (e : Buffers) : Type 0 where
   pub ready : Ready r (e .tape)
+  pub size : total (r .output) ≤ total (s .output) + textRoom
+  pub stays : Stays s r
   pub ended : ends (lineOf line) ≡ r .done
   pub tape : r .tape ≡ s .tape
   pub first : r .first ≡ s .first
-  pub gives : Gives (ends (lineOf line)) (s .session) (s .tape) (s .at) line b r e
+  pub gives : Gives (ends (lineOf line)) (s .session) (s .tape) (s .output) line b r e
 
 -- The first line: a tape is lent from then on, exactly its words, and prints nothing; without one the tape is empty, and the line is any other
 abbrev pub Begins : Option (List ℕ) → State → List ℕ → Buffers → State → Buffers → Type 0
-Begins (some ws) s line b r e = (wordsOf (take (r .tape) (e .tape)) ≡ ws) × (r .session ≡ fresh) × (r .at ≡ s .at) × (r .done ≡ s .done) × (e ≡ buffers (e .tape) (b .memory) (b .host) (b .out))
-Begins none s line b r e = (r .tape ≡ 0) × (ends (lineOf line) ≡ r .done) × Gives (ends (lineOf line)) fresh 0 (s .at) line (buffers (e .tape) (b .memory) (b .host) (b .out)) r e
+Begins (some ws) s line b r e = (wordsOf (take (r .tape) (e .tape)) ≡ ws) × (r .session ≡ fresh) × (r .output ≡ s .output) × (r .done ≡ s .done) × (e ≡ buffers (e .tape) (b .memory) (b .host) (b .out))
+Begins none s line b r e = (r .tape ≡ 0) × (ends (lineOf line) ≡ r .done) × Gives (ends (lineOf line)) fresh 0 (s .output) line (buffers (e .tape) (b .memory) (b .host) (b .out)) r e
 
 pub record Begun (s : State) (line : List ℕ) (b : Buffers) (r : State) (e : Buffers) : Type 0 where
   pub ready : Ready r (e .tape)
+  pub size : total (r .output) ≤ total (s .output) + textRoom
+  pub stays : Stays s r
   pub first : r .first ≡ false
   pub begins : Begins (tapeOf line) s line b r e
+
+-- All that was printed has left, and what was read is at the start of its buffer; the session has ended if that is nothing
+pub record Refilled (s r : State) : Type 0 where
+  pub session : r .session ≡ s .session
+  pub tape : r .tape ≡ s .tape
+  pub first : r .first ≡ s .first
+  pub len : r .len ≡ s .len
+  pub at : r .output .at ≡ 0
+  pub gone : r .output .gone ≡ total (s .output)
+  pub from : r .from ≡ 0
+  pub to : r .to ≤ 65536
+  pub done : r .done ≡ eqb (r .to) 0

@@ -1,21 +1,23 @@
 // Reads the lines of a session from a descriptor and writes the answers to standard output, with fixed buffers and input of any length.
+mod output;
+
 use lines::Line;
+use output::OUT;
+use output::Output;
 use session::Session;
 ghost use mathlib.Core.Path.{_≡_};
+ghost use mathlib.Core.Bool.{false};
 ghost use mathlib.Core.List.{List};
-ghost use Prim.Native.Nat.{ℕ, _+_, _≤_, _<_};
+ghost use Prim.Native.Nat.{ℕ, _≤_};
 ghost use lib.ListN.{length, take};
 ghost use Rattle.lines.specs.Said.{said};
 ghost use Rattle.session.specs.Session.{ends as endsOf};
-ghost use Rattle.session.specs.Answers.{textRoom};
-ghost use Rattle.stream.specs.Stream.{Ready, Brings, Responds, Begun, buffers, outRoom, lineRoom};
+ghost use Rattle.stream.specs.Output.{total, Placed};
+ghost use Rattle.stream.specs.Stream.{Ready, Brings, Responds, Begun, Refilled, buffers, lineRoom};
+ghost use Rattle.stream.specs.History.{Due, Turned, Prints, zeros};
 
-const STDOUT: i32 = 1;
-
-// The bytes that a read may bring, and those of the output.
+// The bytes that a read may bring.
 const CHUNK: usize = 65536;
-
-const OUT: usize = 65536;
 
 // The longest legal line: a T with 8,192 numbers of five digits.
 const LINE: usize = 49153;
@@ -41,9 +43,9 @@ pub struct State {
     // the bytes of the last read that are not taken yet: from place `from` up to place `to`
     pub from: usize,
     pub to: usize,
-    // how many bytes of the line's and of the output's buffer are filled
+    // how many bytes of the line's buffer are filled
     pub len: usize,
-    pub at: usize,
+    pub output: Output,
 }
 
 // What bytes bring to a line that has begun.
@@ -78,24 +80,25 @@ fn scan(bytes: &[u8], line: &mut [u8], len: usize) -> Brought
     Brought::Part(k)
 }
 
-// Writes out what the output's buffer holds, and tells whether that went well.
-fn flush(out: &[u8; OUT], at: usize) -> bool
-    requires { ⌜ at ≤ outRoom ⌝ }
+// Where the text of an answer goes. What the output's buffer holds is handed over first if the text might not fit behind it.
+fn place(out: &[u8; OUT], o: Output) -> Output
+    requires { ⌜ Due (now out) o ⌝ }
+    ensures { λ r. ⌜ Placed o r ⌝ }
 {
-    let all: &[u8] = out;
-    io::write_all(STDOUT, &all[..at])
+    if TEXT <= OUT - o.at {
+        return o;
+    }
+    let sent = output::flush(out, o);
+    sent.output
 }
 
-// Where the text of an answer goes: the buffer is written out first if the text might not fit.
-fn place(out: &[u8; OUT], at: usize) -> usize
-    requires { ⌜ at ≤ outRoom ⌝ }
-    ensures { λ r. ⌜ (r + textRoom ≤ outRoom) × (0 < r → r ≡ at) ⌝ }
+// Hands over what is left, and tells how many bytes left in all.
+fn finish(out: &[u8; OUT], o: Output) -> u64
+    requires { ⌜ Due (now out) o ⌝ }
+    ensures { λ r. ⌜ r ≡ total o ⌝ }
 {
-    if TEXT <= OUT - at {
-        return at;
-    }
-    flush(out, at);
-    0
+    let last = output::flush(out, o);
+    output::gone(last.output)
 }
 
 // Whether a line ends the session.
@@ -121,7 +124,7 @@ fn respond(
     host: &mut [u8; HOST],
     out: &mut [u8; OUT],
 ) -> State
-    requires { ⌜ Ready s (now tape) ⌝ }
+    requires { ⌜ Ready s (now tape) × Due (now out) (s .output) ⌝ }
     ensures { λ r. ⌜ Responds s (now (line .entry)) (buffers (now (tape .entry)) (now (memory .entry)) (now (host .entry)) (now (out .entry))) r (buffers (now (tape .entry)) (now (memory .exit)) (now (host .exit)) (now (out .exit))) ⌝ }
 {
     let mut contents = [0u8; 1024];
@@ -133,12 +136,14 @@ fn respond(
     }
     let n = s.tape;
     let words: &[u8] = tape;
-    let at = place(out, s.at);
+    let mut o = place(out, s.output);
+    let at = o.at;
     let p = session::answer(s.session, l, &contents, &words[..n], memory, host, out, at);
     t.done = false;
     let kept = p.session;
     t.session = kept;
-    t.at = p.at;
+    o.at = p.at;
+    t.output = o;
     t
 }
 
@@ -152,7 +157,7 @@ fn begin(
     host: &mut [u8; HOST],
     out: &mut [u8; OUT],
 ) -> State
-    requires { ⌜ Ready s (now tape) ⌝ }
+    requires { ⌜ Ready s (now tape) × Due (now out) (s .output) ⌝ }
     ensures { λ r. ⌜ Begun s (now (line .entry)) (buffers (now (tape .entry)) (now (memory .entry)) (now (host .entry)) (now (out .entry))) r (buffers (now (tape .exit)) (now (memory .exit)) (now (host .exit)) (now (out .exit))) ⌝ }
 {
     let mut t = s;
@@ -168,16 +173,18 @@ fn begin(
 }
 
 // Writes out what is answered, and then reads: nothing is held back while the read waits. Where nothing comes, at the input's end or by an error,
-// the session ends: the line that has begun has no newline.
+// the session ends: the line that has begun has no newline. No contract can say which bytes the system reads: the input is what each read leaves in the
+// first bytes of the chunk, as many as it tells.
 fn refill(s: State, fd: i32, chunk: &mut [u8; CHUNK], out: &[u8; OUT]) -> State
-    requires { ⌜ s .at ≤ outRoom ⌝ }
-    ensures { λ r. ⌜ (r .session ≡ s .session) × (r .tape ≡ s .tape) × (r .len ≡ s .len) × (r .at ≡ 0) × (r .from ≡ 0) × (r .to ≤ 65536) ⌝ }
+    requires { ⌜ Due (now out) (s .output) ⌝ }
+    ensures { λ r. ⌜ Refilled s r ⌝ }
 {
     let mut t = s;
-    let written = flush(out, s.at);
-    t.at = 0;
+    let f = output::flush(out, s.output);
+    let o = f.output;
+    t.output = o;
     t.from = 0;
-    if !written {
+    if !f.well {
         t.to = 0;
         t.done = true;
         return t;
@@ -189,7 +196,8 @@ fn refill(s: State, fd: i32, chunk: &mut [u8; CHUNK], out: &[u8; OUT]) -> State
     t
 }
 
-// Answers the next line of what was read, or reads.
+// Answers the next line of what was read, or reads. Each byte that was read is taken once, in order, and all that the bytes taken print has left or is in the
+// output's buffer (`History`).
 fn turn(
     s: State,
     fd: i32,
@@ -200,8 +208,8 @@ fn turn(
     host: &mut [u8; HOST],
     out: &mut [u8; OUT],
 ) -> State
-    requires { ⌜ Ready s (now tape) ⌝ }
-    ensures { λ r. ⌜ Ready r (now (tape .exit)) ⌝ }
+    requires { ⌜ Ready s (now tape) × Due (now out) (s .output) × (s .done ≡ false) ⌝ }
+    ensures { λ r. ⌜ Turned s (now (chunk .entry)) (now (line .entry)) (buffers (now (tape .entry)) (now (memory .entry)) (now (host .entry)) (now (out .entry))) r (now (chunk .exit)) (now (line .exit)) (buffers (now (tape .exit)) (now (memory .exit)) (now (host .exit)) (now (out .exit))) ⌝ }
 {
     let from = s.from;
     let to = s.to;
@@ -228,8 +236,14 @@ fn turn(
     }
 }
 
-// A proved loop has to end, and nothing says that the input does: the turns are counted down from a number that no run uses up.
-pub fn run(fd: i32) {
+// A proved loop has to end, and nothing says that the input does: the turns are counted down from a number that no run uses up. 2^53 turns last 28 years at ten
+// million a second. A turn prints at most 1,027 bytes, so that the count of them all stays below 2^64.
+const TURNS: u64 = 9007199254740992;
+
+// Answers the lines that come from a descriptor, and tells how many bytes it handed to the system's write: as many as the lines print.
+pub fn run(fd: i32) -> u64
+    ensures { λ r. ⌜ Prints zeros r ⌝ }
+{
     let mut chunk = [0u8; CHUNK];
     let mut line = [0u8; LINE];
     let mut tape = [0u8; TAPE];
@@ -244,9 +258,9 @@ pub fn run(fd: i32) {
         from: 0,
         to: 0,
         len: 0,
-        at: 0,
+        output: output::empty(),
     };
-    let mut turns = u64::MAX;
+    let mut turns = TURNS;
     while turns > 0 {
         turns -= 1;
         s = turn(
@@ -260,8 +274,8 @@ pub fn run(fd: i32) {
             &mut out,
         );
         if s.done {
-            flush(&out, s.at);
-            return;
+            return finish(&out, s.output);
         }
     }
+    finish(&out, s.output)
 }

@@ -24,7 +24,7 @@ mul-t c = search needs
 returns : tie.Need-returns
 returns c =
     let k = c .before in
-    let p = c .before .before .before .before .before .pre in
+    let p = c .before .before .before .before .before .pre .0 in
     let n = k .read-tape .result in
     let t = k .read-tape .last .1 .0 in
     let few : n ≤ length t / 2 = omega (arith, k .read-tape .kept .1 .0, k .before .read-tape-arg .given) in
@@ -32,14 +32,17 @@ returns c =
     let new = k .before .before .start .ensures in
     record {
       ready = record { served = rw new (fresh-served _); tape = omega arith; from = p .from; to = p .to; len = p .len; at = p .at };
+      size = omega arith;
+      stays = record { from = refl; to = refl; len = refl };
       first = refl;
       begins = rw said (words-first n t few, new, refl, refl, refl);
     }
 
 respond-requires : tie.Need-respond-requires
 respond-requires c κs =
-    let p = c .before .before .before .before .before .before .before .before .before .pre in
-    record { served = rw (c .before .before .before .before .before .before .before .start .ensures) (fresh-served _); tape = omega arith; from = p .from; to = p .to; len = p .len; at = p .at }
+    let q = c .before .before .before .before .before .before .before .before .before .pre in
+    let p = q .0 in
+    (record { served = rw (c .before .before .before .before .before .before .before .start .ensures) (fresh-served _); tape = omega arith; from = p .from; to = p .to; len = p .len; at = p .at }, q .1)
 
 returns-2 : tie.Need-returns-2
 returns-2 c =
@@ -48,7 +51,7 @@ returns-2 c =
     let n = k .read-tape .result in
     let t = k .read-tape .last .1 .0 in
     let no : tapeOf (c .before .before .before .before .before .before .before .before .before .before .args .line .now) ≡ none = sym (k .read-tape .ensures) ∙ words-out n t (omega (arith, k .read-tape .kept .1 .0, k .before .read-tape-arg .given)) in
-    record { ready = e .ready; first = e .first; begins = rw no (e .tape, e .ended, rw (c .before .before .before .before .before .before .before .before .start .ensures) at (e .gives)) }
+    record { ready = e .ready; size = e .size; stays = record { from = e .stays .from; to = e .stays .to; len = e .stays .len }; first = e .first; begins = rw no (e .tape, e .ended, rw (c .before .before .before .before .before .before .before .before .start .ensures) at (e .gives)) }
 
 pub begin-spec : {M : Type 1} → statement M
 begin-spec =

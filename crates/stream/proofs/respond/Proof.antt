@@ -6,7 +6,7 @@ use native.Mathlib.Omega.{arith}
 use mathlib.Core.Bool.{true, false}
 use Rattle.lines.specs.Lines.{lineOf}
 use Rattle.session.specs.Session.{ends}
-use Rattle.stream.specs.Stream.{outRoom}
+use Rattle.stream.specs.Output.{outRoom}
 use Rattle.stream.proofs.respond.Statement.{statement}
 use Rattle.stream.proofs.respond.Tie as tie
 
@@ -23,9 +23,9 @@ returns : tie.Need-returns
 returns c =
     let e = c .before .ends in
     let l = c .before .before .before .read-line in
-    let p = c .before .before .before .before .before .before .pre in
+    let p = c .before .before .before .before .before .before .pre .0 in
     let ended : ends (lineOf (c .before .before .before .before .before .before .args .line .now)) ≡ true = ap ends (sym (l .ensures .0)) ∙ e .ensures _ ∙ c .if1 .taken in
-    record { ready = search needs; ended = ended; tape = refl; first = refl; gives = rw ended (refl, refl, refl) }
+    record { ready = search needs; size = omega arith; stays = record { from = refl; to = refl; len = refl }; ended = ended; tape = refl; first = refl; gives = rw ended (refl, refl, refl) }
 
 place-requires : tie.Need-place-requires
 place-requires c κs = search needs
@@ -40,26 +40,28 @@ answer-requires : tie.Need-answer-requires
 answer-requires c κs =
     let l = c .before .before .before .before .before .before .before .before .before .before .before .read-line in
     let s = c .before .before .before .before .before .before .before .before .before .before .before .before .before .before in
-    let p = s .pre in
+    let p = s .pre .0 in
     let t = length-take-le (s .args .s .tape) (s .args .tape .now) (search needs) in
-    (p .served, l .ensures .1, search needs, omega (arith, t, p .tape), search needs, search needs, omega (arith, c .before .before .before .before .before .place .ensures .0))
+    (p .served, l .ensures .1, search needs, omega (arith, t, p .tape), search needs, search needs, omega (arith, c .before .before .before .before .before .place .ensures .room))
 
 -- `a` is what `answer` ensures, here alone: its fields `served` and `room` are found by what they say
 returns-2 : tie.Need-returns-2
 returns-2 c =
     let a = c .before .answer .ensures in
     let spot = c .before .before .before .before .before .before .before .place .ensures in
-    let room : c .before .answer .result .at ≤ outRoom = omega (arith, a, spot .0) in
+    let room : c .before .answer .result .at ≤ outRoom = omega (arith, a, spot .room) in
     let e = c .before .before .before .before .before .before .before .before .before .before .before .ends in
     let l = c .before .before .before .before .before .before .before .before .before .before .before .before .before .read-line in
-    let p = c .before .before .before .before .before .before .before .before .before .before .before .before .before .before .before .before .pre in
+    let p = c .before .before .before .before .before .before .before .before .before .before .before .before .before .before .before .before .pre .0 in
     let ended : ends (lineOf (c .before .before .before .before .before .before .before .before .before .before .before .before .before .before .before .before .args .line .now)) ≡ false = ap ends (sym (l .ensures .0)) ∙ e .ensures _ ∙ c .before .before .before .before .before .before .before .before .before .before .if1 .left in
     record {
       ready = record { served = search a; tape = p .tape; from = p .from; to = p .to; len = p .len; at = room };
+      size = omega (arith, a, spot .all);
+      stays = record { from = refl; to = refl; len = refl };
       ended = ended;
       tape = refl;
       first = refl;
-      gives = rw ended (_, (spot .1, rw (l .ensures .0) at a));
+      gives = rw ended (_, (spot, refl, rw (l .ensures .0) at a));
     }
 
 pub respond-spec : {M : Type 1} → statement M

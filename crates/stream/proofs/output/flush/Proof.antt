@@ -1,0 +1,26 @@
+use borrow.Author.Needs.{needs}
+use mathlib.Core.Path.{_≡_, sym}
+use lib.ListN.{length, take}
+use lib.Seq.{length-take-le}
+use native.Mathlib.Omega.{arith}
+use Rattle.stream.proofs.output.flush.Statement.{statement}
+use Rattle.stream.proofs.output.flush.Tie as tie
+
+slice-aggregate-held : tie.Need-slice-aggregate-held
+slice-aggregate-held c = sym (length-take-le _ _ (search needs))
+
+write-all-requires : tie.Need-write-all-requires
+write-all-requires c κs = search needs
+
+-- as many bytes are handed over as the buffer holds
+handed : (c : tie.After-struct-known) → length (take (c .before .before .before .before .args .o .at) (c .before .before .before .before .args .out .now)) ≡ c .before .before .before .before .args .o .at
+handed c = length-take-le _ _ (search needs)
+
+add-gone : tie.Need-add-gone
+add-gone c = record { fits = omega (arith, handed c) }
+
+returns : tie.Need-returns
+returns c = omega (arith, handed c)
+
+pub flush-spec : {M : Type 1} → statement M
+flush-spec = tie.close (tie.spec slice-aggregate-held write-all-requires add-gone returns)

@@ -1,0 +1,90 @@
+-- What holds, between turns, of the whole input and of all that it prints.
+use mathlib.Core.Path.{_≡_}
+use mathlib.Core.Bool.{Bool, true, false}
+use mathlib.Core.List.{List, [], _∷_, _++_}
+use Prim.Native.Nat.{ℕ, _+_, _-_, _≤_}
+use lib.ListN.{length, take, drop, replicate}
+use lib.Dec.{eqb}
+use Rattle.session.specs.Session as S
+use Rattle.session.specs.Session.{prints, session}
+use Rattle.session.specs.Answers.{kept, textRoom}
+use Rattle.stream.specs.declared.State.{State}
+use Rattle.stream.specs.declared.Brought.{Brought}
+use Rattle.stream.specs.declared.Brought.the-variants.{Whole, Part, TooLong}
+use Rattle.stream.specs.declared.output.Output.{Output}
+use Rattle.stream.specs.Output.{outRoom, total, totalMost, Holds}
+use Rattle.stream.specs.Stream.{Ready, Brings, Buffers}
+
+-- The lines that bytes make; `had` are the bytes of the first line that were there before. Each line ends with a newline, and what is behind the last newline
+-- is no line yet (`cut-joined`)
+unfoldable pub cut : List ℕ → List ℕ → List (List ℕ)
+cut had [] = []
+cut had (x ∷ xs) = elim (eqb x 10) [ true ↦ had ∷ cut [] xs | false ↦ cut (had ++ (x ∷ [])) xs ]
+
+-- All that a session prints for an input; the host has these bytes at its start
+unfoldable pub printed : List ℕ → List ℕ → List ℕ
+printed host input = session host (cut [] input)
+
+-- What the output's buffer holds may be handed to the system's write: of all that an input prints, it is what follows the bytes that left. The code can count it
+pub record Due (out : List ℕ) (o : Output) : Type 0 where
+  pub room : o .at ≤ outRoom
+  pub count : total o ≤ totalMost
+  pub host : List ℕ
+  pub input : List ℕ
+  pub holds : Holds (printed host input) out o
+
+-- the host's bytes at the start of the program
+abbrev pub zeros : List ℕ
+zeros = replicate 16384 0
+
+-- Whatever bytes come after `past`, they print f of the lines that they make, the first of which begins with `had`
+abbrev pub Follows : List ℕ → List ℕ → (List (List ℕ) → List ℕ) → List ℕ → Type 0
+Follows host past f had = (more : List ℕ) → printed host (past ++ more) ≡ printed host past ++ f (cut had more)
+
+-- What lines print in a session; at its start the first may be the tape
+abbrev pub coming : Bool → S.Session → List (List ℕ) → List ℕ
+coming true k ls = session (k .host) ls
+coming false k ls = prints k ls
+
+-- the session that is kept in a state and the buffers
+abbrev pub keptIn : State → Buffers → S.Session
+keptIn s b = kept (s .session) (b .memory) (take (s .tape) (b .tape)) (b .host)
+
+-- the bytes that were read and are not taken yet
+abbrev pub waiting : State → List ℕ → List ℕ
+waiting s chunk = take (s .to - s .from) (drop (s .from) chunk)
+
+-- `past` are the bytes that were taken so far, in order, of those that were read
+pub record History (host past : List ℕ) (s : State) (chunk line : List ℕ) (b : Buffers) : Type 0 where
+  -- all that they print has left, but for what the output's buffer holds
+  pub text : Holds (printed host past) (b .out) (s .output)
+  -- until the session ends, the rest of the input prints what the session that is kept prints for it; the line that has begun is in its buffer
+  pub goes : s .done ≡ false → Follows host past (coming (s .first) (keptIn s b)) (take (s .len) line)
+  -- after its end, what was read and is not taken prints nothing
+  pub over : s .done ≡ true → printed host (past ++ waiting s chunk) ≡ printed host past
+
+-- n is the number of all bytes that an input prints
+pub record Prints (host : List ℕ) (n : ℕ) : Type 0 where
+  pub input : List ℕ
+  pub all : n ≡ length (printed host input)
+
+-- What a turn takes of the bytes that wait: all up to and with the first newline, or all if there is none; none if the line does not fit into its buffer
+abbrev pub taken : Brought → List ℕ → List ℕ
+taken (Whole k i) bytes = take (i + 1) bytes
+taken (Part k) bytes = bytes
+taken TooLong bytes = []
+
+-- .. and what it leaves: the others wait; or what a read brought waits, and all that was printed has left
+abbrev pub Leaves : Brought → List ℕ → State → List ℕ → Type 0
+Leaves (Whole k i) bytes r chunk = waiting r chunk ≡ drop (i + 1) bytes
+Leaves (Part k) bytes r chunk = (r .from ≡ 0) × (r .output .at ≡ 0)
+Leaves TooLong bytes r chunk = waiting r chunk ≡ bytes
+
+-- What a turn promises: it carries every history on by the bytes that it takes
+pub record Turned (s : State) (chunk line : List ℕ) (b : Buffers) (r : State) (chunk′ line′ : List ℕ) (e : Buffers) : Type 0 where
+  pub ready : Ready r (e .tape)
+  pub size : total (r .output) ≤ total (s .output) + textRoom
+  pub found : Brought
+  pub brings : Brings (waiting s chunk) (take (s .len) line) found line′
+  pub leaves : Leaves found (waiting s chunk) r chunk′
+  pub history : (host past : List ℕ) → History host past s chunk line b → History host (past ++ taken found (waiting s chunk)) r chunk′ line′ e

@@ -1,0 +1,60 @@
+-- What the output's buffer holds of all that was printed, and what left it.
+use mathlib.Core.Path.{_≡_, sym, ap, _∙_}
+use mathlib.Core.List.{List, _++_}
+use Prim.Native.Nat.{ℕ, _+_, _≤_, _<_}
+use native.Mathlib.Omega.{arith}
+use native.Mathlib.Decide.{decLt}
+use lib.ListN.{length, take, drop, length-append, drop-of-length-le}
+use lib.Seq.{drop-append-le}
+use Rattle.session.specs.Answers.{textRoom}
+use Rattle.stream.specs.declared.output.Output.{Output}
+
+abbrev pub outRoom : ℕ
+outRoom = 65536
+
+-- how many bytes were printed so far: those that left, and those that the buffer holds
+abbrev pub total : Output → ℕ
+total o = o .gone + o .at
+
+-- the code counts no further
+abbrev pub totalMost : ℕ
+totalMost = 18446744073709551615
+
+-- There is room for a text; no byte is lost; and the buffer holds what it held, or all of that has left
+pub record Placed (o r : Output) : Type 0 where
+  pub room : r .at + textRoom ≤ outRoom
+  pub all : total r ≡ total o
+  pub same : 0 < r .at → r .at ≡ o .at
+
+-- Of all that was printed so far, the first bytes have left, and the others are what the buffer holds
+pub record Holds (text out : List ℕ) (o : Output) : Type 0 where
+  pub all : length text ≡ total o
+  pub rest : drop (o .gone) text ≡ take (o .at) out
+
+-- ---- Laws
+
+module _ (text out : List ℕ) (o r : Output) (h : Holds text out o) (all : total r ≡ total o) where
+  -- all of it has left
+  pub holds-none : r .at ≡ 0 → Holds text out r
+  holds-none z = record {
+    all = omega (arith, h .all);
+    rest = drop-of-length-le text {i = r .gone} (omega (arith, h .all)) ∙ ap (λ n. take n out) (sym z);
+  }
+
+  -- what was held is held where it was, or has left
+  pub holds-placed : (0 < r .at → r .at ≡ o .at) → Holds text out r
+  holds-placed same = go (decLt 0 (r .at))
+    where
+      go : Dec (0 < r .at) → Holds text out r
+      go (yes l) =
+          let a : o .at ≡ r .at = sym (same l) in
+          let g : r .gone ≡ o .gone = omega (arith, same l) in
+          record { all = omega (arith, h .all); rest = ap (λ n. drop n text) g ∙ h .rest ∙ ap (λ n. take n out) a }
+      go (no l) = holds-none (omega arith)
+
+-- a text that is written behind what is held, is held too
+pub holds-more : (text more out out′ : List ℕ) (o r : Output) → Holds text out o → r .gone ≡ o .gone → r .at ≡ o .at + length more → take (r .at) out′ ≡ take (o .at) out ++ more → Holds (text ++ more) out′ r
+holds-more text more out out′ o r h g a w = record {
+  all = length-append text more ∙ omega (arith, h .all);
+  rest = ap (λ n. drop n (text ++ more)) g ∙ drop-append-le (o .gone) text more (omega (arith, h .all)) ∙ ap (λ t. t ++ more) (h .rest) ∙ sym w;
+}
