@@ -1,5 +1,5 @@
 -- A run in which each of the five calls is accepted: one block of one byte is asked to be written, collected, and stored. The function
--- `accepted_run` of src/ makes it, and ensures that there is one.
+-- `accepted_run` of crate `callers` makes it, and ensures that there is one.
 use mathlib.Core.Path.{_≡_, refl, ap, _∙_}
 use mathlib.Core.List.{List, [], _∷_, _++_, map}
 use Prim.Native.Nat.{ℕ}

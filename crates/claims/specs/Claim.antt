@@ -47,8 +47,8 @@ Contract turn x = Exported turn (x .state) (x .memory) (x .tape) (x .buffer) (x 
 Contract (completion c bs) x = Exported (completion c bs) (x .state) (x .memory) (x .tape) (x .buffer) (x .answer) (x .state′) (x .memory′) (x .buffer′)
 Contract collect x = Exported collect (x .state) (x .memory) (x .tape) (x .buffer) (x .answer) (x .state′) (x .memory′) (x .buffer′)
 
--- What an exported function ensures: its contract, and that the memory it is lent has the same length after it. Each function of src/ calls one
--- of the five and ensures this of it: were the exported one's contract weaker, it would not be proved
+-- What an exported function ensures: its contract, and that the memory it is lent has the same length after it. Each function of crate
+-- `callers` calls one of the five and ensures this of it: were the exported one's contract weaker, it would not be proved
 abbrev pub Called : Made → Type 0
 Called x = Contract (x .ask) x × (length (x .memory′) ≡ length (x .memory))
 

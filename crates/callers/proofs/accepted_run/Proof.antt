@@ -1,8 +1,8 @@
 use native.Mathlib.Omega.{arith}
 use borrow.Author.Needs.{needs}
 use Rattle.claims.specs.Accepted.{zeros-words, accepted}
-use Rattle.claims.proofs.accepted_run.Statement.{statement}
-use Rattle.claims.proofs.accepted_run.Tie as tie
+use Rattle.callers.proofs.accepted_run.Statement.{statement}
+use Rattle.callers.proofs.accepted_run.Tie as tie
 
 slice-aggregate-open : tie.Need-slice-aggregate-open
 slice-aggregate-open c = search needs
