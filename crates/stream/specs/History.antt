@@ -1,37 +1,18 @@
 -- What holds, between turns, of the whole input and of all that it prints.
 use mathlib.Core.Path.{_≡_}
 use mathlib.Core.Bool.{Bool, true, false}
-use mathlib.Core.List.{List, [], _∷_, _++_}
+use mathlib.Core.List.{List, [], _++_}
 use Prim.Native.Nat.{ℕ, _+_, _-_, _≤_}
 use lib.ListN.{length, take, drop, replicate}
-use lib.Dec.{eqb}
 use Rattle.session.specs.Session as S
 use Rattle.session.specs.Session.{prints, session}
 use Rattle.session.specs.Answers.{kept, textRoom}
 use Rattle.stream.specs.declared.State.{State}
 use Rattle.stream.specs.declared.Brought.{Brought}
 use Rattle.stream.specs.declared.Brought.the-variants.{Whole, Part, TooLong}
-use Rattle.stream.specs.declared.output.Output.{Output}
-use Rattle.stream.specs.Output.{outRoom, total, totalMost, Holds}
+use Rattle.output.specs.Output.{total, Holds}
+use Rattle.output.specs.Printed.{cut, printed}
 use Rattle.stream.specs.Stream.{Ready, Brings, Buffers}
-
--- The lines that bytes make; `had` are the bytes of the first line that were there before. Each line ends with a newline, and what is behind the last newline
--- is no line yet (`cut-joined`)
-unfoldable pub cut : List ℕ → List ℕ → List (List ℕ)
-cut had [] = []
-cut had (x ∷ xs) = elim (eqb x 10) [ true ↦ had ∷ cut [] xs | false ↦ cut (had ++ (x ∷ [])) xs ]
-
--- All that a session prints for an input; the host has these bytes at its start
-unfoldable pub printed : List ℕ → List ℕ → List ℕ
-printed host input = session host (cut [] input)
-
--- What the output's buffer holds may be handed to the system's write: of all that an input prints, it is what follows the bytes that left. The code can count it
-pub record Due (out : List ℕ) (o : Output) : Type 0 where
-  pub room : o .at ≤ outRoom
-  pub count : total o ≤ totalMost
-  pub host : List ℕ
-  pub input : List ℕ
-  pub holds : Holds (printed host input) out o
 
 -- the host's bytes at the start of the program
 abbrev pub zeros : List ℕ

@@ -1,5 +1,4 @@
 -- The code's contracts, and laws
-pub mod Output
 pub mod Stream
 pub mod History
 pub mod Laws

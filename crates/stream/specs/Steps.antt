@@ -13,10 +13,11 @@ use Rattle.session.specs.Answers.{kept, fresh, fresh-kept}
 use Rattle.session.specs.Turning.{no-words}
 use Rattle.session.specs.declared.Session.{Session}
 use Rattle.stream.specs.declared.State.{State}
-use Rattle.stream.specs.declared.output.Output.{Output}
-use Rattle.stream.specs.Output.{Holds, holds-placed, holds-more}
+use Rattle.output.specs.declared.Output.{Output}
+use Rattle.output.specs.Output.{Holds, holds-placed, holds-more}
 use Rattle.stream.specs.Stream.{Plain, Buffers, buffers, Gives, Responds, Begun, Begins}
-use Rattle.stream.specs.History.{cut, printed, Follows, coming, keptIn}
+use Rattle.output.specs.Printed.{cut, printed}
+use Rattle.stream.specs.History.{Follows, coming, keptIn}
 
 -- ---- The lines that bytes make
 

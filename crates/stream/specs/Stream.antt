@@ -12,10 +12,10 @@ use Rattle.session.specs.Session.{ends}
 use Rattle.session.specs.Answers.{Served, Answers, fresh, textRoom}
 use Rattle.session.specs.declared.Session.{Session}
 use Rattle.stream.specs.declared.State.{State}
-use Rattle.stream.specs.declared.output.Output.{Output}
+use Rattle.output.specs.declared.Output.{Output}
 use Rattle.stream.specs.declared.Brought.{Brought}
 use Rattle.stream.specs.declared.Brought.the-variants.{Whole, Part, TooLong}
-use Rattle.stream.specs.Output.{outRoom, total, Placed}
+use Rattle.output.specs.Output.{outRoom, total, Placed}
 
 abbrev pub lineRoom : ℕ
 lineRoom = 49153

@@ -5,7 +5,7 @@ use mathlib.Core.List.{List, [], _∷_, _++_, append-nil}
 use Prim.Native.Nat.{ℕ, _+_, _-_, _≤_, _<_}
 use native.Mathlib.Numerals.{add-one}
 use native.Mathlib.Omega.{arith}
-use lib.ListN.{length, take, drop, getD, length-append, take-append-drop}
+use lib.ListN.{length, take, drop, length-append, take-append-drop}
 use lib.Seq.{take-suc, getD-take, length-take-le}
 use lib.Dec.{eqb}
 use borrow.Author.Tests.{eqb-true}
@@ -14,9 +14,10 @@ use Rattle.session.specs.Session.{ends, prints, session}
 use Rattle.session.specs.Answers.{kept, Served, textRoom}
 use Rattle.stream.specs.declared.State.{State}
 use Rattle.stream.specs.declared.Brought.the-variants.{Whole, Part, TooLong}
-use Rattle.stream.specs.Output.{outRoom, total, totalMost, holds-none}
+use Rattle.output.specs.Output.{outRoom, total, totalMost, holds-none}
 use Rattle.stream.specs.Stream.{lineRoom, Ready, Plain, Ended, Goes, Past, Buffers, Stays, Responds, Begun, Refilled}
-use Rattle.stream.specs.History.{cut, printed, Due, Follows, coming, keptIn, waiting, History, Turned, Prints}
+use Rattle.output.specs.Printed.{cut, printed, Due}
+use Rattle.stream.specs.History.{Follows, coming, keptIn, waiting, History, Turned, Prints}
 use Rattle.stream.specs.Laws.{most, waits-behind}
 use Rattle.stream.specs.Steps.{cut-plain, line-prints, line-follows, part-prints, part-follows, until, Does, responds-does, begun-does}
 use Rattle.stream.specs.Long.{long-line, long-tape}

@@ -1,6 +1,4 @@
 // Reads the lines of a session from a descriptor and writes the answers to standard output, with fixed buffers and input of any length.
-mod output;
-
 use lines::Line;
 use output::OUT;
 use output::Output;
@@ -12,9 +10,9 @@ ghost use Prim.Native.Nat.{ℕ, _≤_};
 ghost use lib.ListN.{length, take};
 ghost use Rattle.lines.specs.Said.{said};
 ghost use Rattle.session.specs.Session.{ends as endsOf};
-ghost use Rattle.stream.specs.Output.{total, Placed};
 ghost use Rattle.stream.specs.Stream.{Ready, Brings, Responds, Begun, Refilled, buffers, lineRoom};
-ghost use Rattle.stream.specs.History.{Due, Turned, Prints, zeros};
+ghost use Rattle.output.specs.Printed.{Due};
+ghost use Rattle.stream.specs.History.{Turned, Prints, zeros};
 
 // The bytes that a read may bring.
 const CHUNK: usize = 65536;
@@ -28,9 +26,6 @@ const TAPE: usize = 16384;
 const MEMORY: usize = 133120;
 
 const HOST: usize = 16384;
-
-// The text of a line's answer is no longer.
-const TEXT: usize = 1027;
 
 // What is kept from turn to turn.
 pub struct State {
@@ -80,27 +75,6 @@ fn scan(bytes: &[u8], line: &mut [u8], len: usize) -> Brought
     Brought::Part(k)
 }
 
-// Where the text of an answer goes. What the output's buffer holds is handed over first if the text might not fit behind it.
-fn place(out: &[u8; OUT], o: Output) -> Output
-    requires { ⌜ Due (now out) o ⌝ }
-    ensures { λ r. ⌜ Placed o r ⌝ }
-{
-    if TEXT <= OUT - o.at {
-        return o;
-    }
-    let sent = output::flush(out, o);
-    sent.output
-}
-
-// Hands over what is left, and tells how many bytes left in all.
-fn finish(out: &[u8; OUT], o: Output) -> u64
-    requires { ⌜ Due (now out) o ⌝ }
-    ensures { λ r. ⌜ r ≡ total o ⌝ }
-{
-    let last = output::flush(out, o);
-    output::gone(last.output)
-}
-
 // Whether a line ends the session.
 fn ends(line: Line) -> bool
     ensures { λ r. ⌜ ((b : List ℕ) → endsOf (said line b) ≡ r) ⌝ }
@@ -136,7 +110,7 @@ fn respond(
     }
     let n = s.tape;
     let words: &[u8] = tape;
-    let mut o = place(out, s.output);
+    let mut o = output::place(out, s.output);
     let at = o.at;
     let p = session::answer(s.session, l, &contents, &words[..n], memory, host, out, at);
     t.done = false;
@@ -274,8 +248,8 @@ pub fn run(fd: i32) -> u64
             &mut out,
         );
         if s.done {
-            return finish(&out, s.output);
+            return output::finish(&out, s.output);
         }
     }
-    finish(&out, s.output)
+    output::finish(&out, s.output)
 }

@@ -6,7 +6,7 @@ use native.Mathlib.Omega.{arith}
 use mathlib.Core.Bool.{true, false}
 use Rattle.lines.specs.Lines.{lineOf}
 use Rattle.session.specs.Session.{ends}
-use Rattle.stream.specs.Output.{outRoom}
+use Rattle.output.specs.Output.{outRoom}
 use Rattle.stream.proofs.respond.Statement.{statement}
 use Rattle.stream.proofs.respond.Tie as tie
 

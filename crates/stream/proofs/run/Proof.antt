@@ -5,7 +5,7 @@ use mathlib.Core.Bool.{false}
 use mathlib.Core.List.{List, []}
 use native.Mathlib.Omega.{arith}
 use Rattle.session.specs.Answers.{fresh-served}
-use Rattle.stream.specs.Output.{total}
+use Rattle.output.specs.Output.{total}
 use Rattle.stream.specs.Stream.{Ready, buffers}
 use Rattle.stream.specs.History.{History}
 use Rattle.stream.specs.Turns.{history-start, history-due, history-end}

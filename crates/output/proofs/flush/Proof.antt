@@ -3,8 +3,8 @@ use mathlib.Core.Path.{_≡_, sym}
 use lib.ListN.{length, take}
 use lib.Seq.{length-take-le}
 use native.Mathlib.Omega.{arith}
-use Rattle.stream.proofs.output.flush.Statement.{statement}
-use Rattle.stream.proofs.output.flush.Tie as tie
+use Rattle.output.proofs.flush.Statement.{statement}
+use Rattle.output.proofs.flush.Tie as tie
 
 slice-aggregate-held : tie.Need-slice-aggregate-held
 slice-aggregate-held c = sym (length-take-le _ _ (search needs))

@@ -1,12 +1,15 @@
-// The output's buffer: how much it holds, and how much left it. The field `gone` is private to this file, so that nothing but `flush` can raise it.
+// The output's buffer: how much it holds, and how much left it. The field `gone` is private to this crate, so that nothing but `flush` can raise it.
 ghost use mathlib.Core.Path.{_≡_};
-ghost use Rattle.stream.specs.Output.{total};
-ghost use Rattle.stream.specs.History.{Due};
+ghost use Rattle.output.specs.Output.{total, Placed};
+ghost use Rattle.output.specs.Printed.{Due};
 
 const STDOUT: i32 = 1;
 
 // The bytes of the output's buffer.
 pub const OUT: usize = 65536;
+
+// The text of a line's answer is no longer.
+const TEXT: usize = 1027;
 
 pub struct Output {
     // how many bytes of the buffer are filled
@@ -45,9 +48,23 @@ pub fn flush(out: &[u8; OUT], o: Output) -> Flushed
     }
 }
 
-// How many bytes left.
-pub fn gone(o: Output) -> u64
-    ensures { λ r. ⌜ r ≡ o .gone ⌝ }
+// Where the text of an answer goes. What the output's buffer holds is handed over first if the text might not fit behind it.
+pub fn place(out: &[u8; OUT], o: Output) -> Output
+    requires { ⌜ Due (now out) o ⌝ }
+    ensures { λ r. ⌜ Placed o r ⌝ }
 {
-    o.gone
+    if TEXT <= OUT - o.at {
+        return o;
+    }
+    let sent = flush(out, o);
+    sent.output
+}
+
+// Hands over what is left, and tells how many bytes left in all.
+pub fn finish(out: &[u8; OUT], o: Output) -> u64
+    requires { ⌜ Due (now out) o ⌝ }
+    ensures { λ r. ⌜ r ≡ total o ⌝ }
+{
+    let last = flush(out, o);
+    last.output.gone
 }

@@ -1,13 +1,14 @@
 use borrow.Author.Needs.{needs}
+use mathlib.Core.Path.{refl}
 use native.Mathlib.Omega.{arith}
-use Rattle.stream.proofs.place.Statement.{statement}
-use Rattle.stream.proofs.place.Tie as tie
+use Rattle.output.proofs.place.Statement.{statement}
+use Rattle.output.proofs.place.Tie as tie
 
 sub-if1 : tie.Need-sub-if1
 sub-if1 c = search needs
 
 returns : tie.Need-returns
-returns c = search needs
+returns c = record { room = omega arith; all = refl; same = λ l. refl }
 
 flush-requires : tie.Need-flush-requires
 flush-requires c κs = search needs

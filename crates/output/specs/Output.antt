@@ -7,7 +7,7 @@ use native.Mathlib.Decide.{decLt}
 use lib.ListN.{length, take, drop, length-append, drop-of-length-le}
 use lib.Seq.{drop-append-le}
 use Rattle.session.specs.Answers.{textRoom}
-use Rattle.stream.specs.declared.output.Output.{Output}
+use Rattle.output.specs.declared.Output.{Output}
 
 abbrev pub outRoom : ℕ
 outRoom = 65536
