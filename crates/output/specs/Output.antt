@@ -20,11 +20,11 @@ total o = o .gone + o .at
 abbrev pub totalMost : ℕ
 totalMost = 18446744073709551615
 
--- There is room for a text; no byte is lost; and the buffer holds what it held, or all of that has left
-pub record Placed (o r : Output) : Type 0 where
+-- There is room for a text; no byte is lost; and the buffer is as it was, or all that it held has left
+pub record Placed (o : Output) (out : List ℕ) (r : Output) (out′ : List ℕ) : Type 0 where
   pub room : r .at + textRoom ≤ outRoom
   pub all : total r ≡ total o
-  pub same : 0 < r .at → r .at ≡ o .at
+  pub same : 0 < r .at → (r .at ≡ o .at) × (out′ ≡ out)
 
 -- Of all that was printed so far, the first bytes have left, and the others are what the buffer holds
 pub record Holds (text out : List ℕ) (o : Output) : Type 0 where
@@ -33,23 +33,23 @@ pub record Holds (text out : List ℕ) (o : Output) : Type 0 where
 
 -- ---- Laws
 
-module _ (text out : List ℕ) (o r : Output) (h : Holds text out o) (all : total r ≡ total o) where
+module _ (text out out′ : List ℕ) (o r : Output) (h : Holds text out o) (all : total r ≡ total o) where
   -- all of it has left
-  pub holds-none : r .at ≡ 0 → Holds text out r
+  pub holds-none : r .at ≡ 0 → Holds text out′ r
   holds-none z = record {
     all = omega (arith, h .all);
-    rest = drop-of-length-le text {i = r .gone} (omega (arith, h .all)) ∙ ap (λ n. take n out) (sym z);
+    rest = drop-of-length-le text {i = r .gone} (omega (arith, h .all)) ∙ ap (λ n. take n out′) (sym z);
   }
 
   -- what was held is held where it was, or has left
-  pub holds-placed : (0 < r .at → r .at ≡ o .at) → Holds text out r
+  pub holds-placed : (0 < r .at → (r .at ≡ o .at) × (out′ ≡ out)) → Holds text out′ r
   holds-placed same = go (decLt 0 (r .at))
     where
-      go : Dec (0 < r .at) → Holds text out r
+      go : Dec (0 < r .at) → Holds text out′ r
       go (yes l) =
-          let a : o .at ≡ r .at = sym (same l) in
-          let g : r .gone ≡ o .gone = omega (arith, same l) in
-          record { all = omega (arith, h .all); rest = ap (λ n. drop n text) g ∙ h .rest ∙ ap (λ n. take n out) a }
+          let a : r .at ≡ o .at = same l .0 in
+          let g : r .gone ≡ o .gone = omega arith in
+          record { all = omega (arith, h .all); rest = ap (λ n. drop n text) g ∙ h .rest ∙ (λ i. take (sym a i) (sym (same l .1) i)) }
       go (no l) = holds-none (omega arith)
 
 -- a text that is written behind what is held, is held too

@@ -32,8 +32,9 @@ pub fn empty() -> Output
 }
 
 // Hands what the buffer holds to the system's write, and counts it. `Due` says that these bytes are what follows those that left before, so that all calls
-// together hand over all that the session prints, in order. No contract can say which bytes the system then writes.
-pub fn flush(out: &[u8; OUT], o: Output) -> Flushed
+// together hand over all that the session prints, in order. The buffer is lent as `&mut`, and nothing is promised of what it holds then, so that nothing is
+// handed over twice. No contract can say which bytes the system writes.
+pub fn flush(out: &mut [u8; OUT], o: Output) -> Flushed
     requires { ⌜ Due (now out) o ⌝ }
     ensures { λ r. ⌜ (r .output .at ≡ 0) × (r .output .gone ≡ total o) ⌝ }
 {
@@ -49,9 +50,9 @@ pub fn flush(out: &[u8; OUT], o: Output) -> Flushed
 }
 
 // Where the text of an answer goes. What the output's buffer holds is handed over first if the text might not fit behind it.
-pub fn place(out: &[u8; OUT], o: Output) -> Output
+pub fn place(out: &mut [u8; OUT], o: Output) -> Output
     requires { ⌜ Due (now out) o ⌝ }
-    ensures { λ r. ⌜ Placed o r ⌝ }
+    ensures { λ r. ⌜ Placed o (now (out .entry)) r (now (out .exit)) ⌝ }
 {
     if TEXT <= OUT - o.at {
         return o;
@@ -61,7 +62,7 @@ pub fn place(out: &[u8; OUT], o: Output) -> Output
 }
 
 // Hands over what is left, and tells how many bytes left in all.
-pub fn finish(out: &[u8; OUT], o: Output) -> u64
+pub fn finish(out: &mut [u8; OUT], o: Output) -> u64
     requires { ⌜ Due (now out) o ⌝ }
     ensures { λ r. ⌜ r ≡ total o ⌝ }
 {

@@ -1,6 +1,7 @@
--- The code's contracts, and laws
+-- The code's contracts
 pub mod Stream
 pub mod History
+-- Laws
 pub mod Laws
 pub mod Steps
 pub mod Long

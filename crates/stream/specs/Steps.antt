@@ -103,10 +103,10 @@ gives-does true k n o l b r e q (u, v, w) = record {
   prints = λ ls. rw q;
   holds = λ t h. rw (append-nil t, v, w) h;
 }
-gives-does false k n o l b r e q (p, (u, v, a)) = record {
+gives-does false k n o l b r e q (p, (mid, (u, v, a))) = record {
   text = gives (kept k (b .memory) (take n (b .tape)) (b .host)) (lineOf l) .1;
   prints = λ ls. rw q (ap (λ x. gives (kept k (b .memory) (take n (b .tape)) (b .host)) (lineOf l) .1 ++ prints x ls) (sym (a .session)));
-  holds = λ t h. holds-more t _ (b .out) (e .out) p (r .output) (holds-placed t (b .out) o p h (u .all) (u .same)) v (a .text .place) (a .text .bytes);
+  holds = λ t h. holds-more t _ mid (e .out) p (r .output) (holds-placed t (b .out) mid o p h (u .all) (u .same)) v (a .text .place) (a .text .bytes);
 }
 
 does-same : {f f′ g g′ : List (List ℕ) → List ℕ} {l out out′ : List ℕ} {o r : Output} → f ≡ f′ → g ≡ g′ → Does f l o out g r out′ → Does f′ l o out g′ r out′

@@ -71,7 +71,7 @@ buffers tape memory host out = record { tape = tape; memory = memory; host = hos
 -- tape's buffer; its text stands behind what the output's buffer holds, at the start if all of that has left
 abbrev pub Gives : Bool → Session → ℕ → Output → List ℕ → Buffers → State → Buffers → Type 0
 Gives true s n o line b r e = (r .session ≡ s) × (r .output ≡ o) × (e ≡ b)
-Gives false s n o line b r e = (p : Output) × (Placed o p × (r .output .gone ≡ p .gone) × Answers s (lineOf line) (b .memory) (take n (b .tape)) (b .host) (b .out) (p .at) (record { session = r .session; at = r .output .at }) (e .memory) (e .host) (e .out))
+Gives false s n o line b r e = (p : Output) × ((out : List ℕ) × (Placed o (b .out) p out × (r .output .gone ≡ p .gone) × Answers s (lineOf line) (b .memory) (take n (b .tape)) (b .host) out (p .at) (record { session = r .session; at = r .output .at }) (e .memory) (e .host) (e .out)))
 
 -- the places of the bytes that wait, and the length of the line that has begun, are as they were
 pub record Stays (s r : State) : Type 0 where

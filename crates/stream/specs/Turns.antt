@@ -15,7 +15,7 @@ use Rattle.session.specs.Answers.{kept, Served, textRoom}
 use Rattle.stream.specs.declared.State.{State}
 use Rattle.stream.specs.declared.Brought.the-variants.{Whole, Part, TooLong}
 use Rattle.output.specs.Output.{outRoom, total, totalMost, holds-none}
-use Rattle.stream.specs.Stream.{lineRoom, Ready, Plain, Ended, Goes, Past, Buffers, Stays, Responds, Begun, Refilled}
+use Rattle.stream.specs.Stream.{lineRoom, Ready, Plain, Ended, Goes, Past, Buffers, buffers, Stays, Responds, Begun, Refilled}
 use Rattle.output.specs.Printed.{cut, printed, Due}
 use Rattle.stream.specs.History.{Follows, coming, keptIn, waiting, History, Turned, Prints}
 use Rattle.stream.specs.Laws.{most, waits-behind}
@@ -108,10 +108,10 @@ module _ (host past : List ℕ) (s : State) (chunk line : List ℕ) (b : Buffers
         next = line-follows host past (take (s .len) line) (coming (s .first) (keptIn s b)) (h .goes going) p plain (until (r .done) (prints (keptIn r e))) (d .text) one (until-none (r .done) (keptIn r e))
 
   -- none is found, and more is read
-  module _ (k : ℕ) (line′ : List ℕ) (w : Goes (waiting s chunk) (take (s .len) line) k line′) (r : State) (chunk′ : List ℕ) (f : Refilled (withLen k s) r) where
-    pub part-history : History host (past ++ waiting s chunk) r chunk′ line′ b
+  module _ (k : ℕ) (line′ : List ℕ) (w : Goes (waiting s chunk) (take (s .len) line) k line′) (r : State) (chunk′ out′ : List ℕ) (f : Refilled (withLen k s) r) where
+    pub part-history : History host (past ++ waiting s chunk) r chunk′ line′ (buffers (b .tape) (b .memory) (b .host) out′)
     part-history = record {
-      text = rw printed-is (holds-none (printed host past) (b .out) (s .output) (r .output) (h .text) (omega (arith, f .at, f .gone)) (f .at));
+      text = rw printed-is (holds-none (printed host past) (b .out) out′ (s .output) (r .output) (h .text) (omega (arith, f .at, f .gone)) (f .at));
       goes = λ z more. next more ∙ (λ i. printed host (past ++ waiting s chunk) ++ coming (sym (f .first) i) (keptNow i) (cut (sym text i) more));
       over = λ z. ap (λ l. printed host ((past ++ waiting s chunk) ++ l)) (nothing z) ∙ ap (printed host) (append-nil (past ++ waiting s chunk));
     }
@@ -122,7 +122,7 @@ module _ (host past : List ℕ) (s : State) (chunk line : List ℕ) (b : Buffers
         next : Follows host (past ++ waiting s chunk) (coming (s .first) (keptIn s b)) (take (s .len) line ++ waiting s chunk)
         next = part-follows host past (take (s .len) line) (coming (s .first) (keptIn s b)) (h .goes going) (waiting s chunk) (w .plain) (coming-none (s .first) (keptIn s b))
 
-        keptNow : keptIn s b ≡ keptIn r b
+        keptNow : keptIn s b ≡ keptIn r (buffers (b .tape) (b .memory) (b .host) out′)
         keptNow = λ i. kept (sym (f .session) i) (b .memory) (take (sym (f .tape) i) (b .tape)) (b .host)
 
         text : take (r .len) line′ ≡ take (s .len) line ++ waiting s chunk
@@ -170,14 +170,14 @@ module _ (s : State) (chunk line : List ℕ) (b : Buffers) (going : s .done ≡ 
     pub begin-turned : s .first ≡ true → Begun (moved (s .from + i + 1) s) (take k line′) b r e → Turned s chunk line b r chunk line′ e
     begin-turned first p = line-turned (p .ready) (p .size) (p .stays) (p .first) (begun-does (moved (s .from + i + 1) s) (take k line′) b r e first going p)
 
-  pub part-turned : Served (s .session) (take (s .tape) (b .tape)) → s .tape ≤ 16384 → (k : ℕ) (line′ : List ℕ) → Goes (waiting s chunk) (take (s .len) line) k line′ → (r : State) (chunk′ : List ℕ) → Refilled (withLen k s) r → Turned s chunk line b r chunk′ line′ b
-  part-turned v t k line′ w r chunk′ f = record {
+  pub part-turned : Served (s .session) (take (s .tape) (b .tape)) → s .tape ≤ 16384 → (k : ℕ) (line′ : List ℕ) → Goes (waiting s chunk) (take (s .len) line) k line′ → (r : State) (chunk′ out′ : List ℕ) → Refilled (withLen k s) r → Turned s chunk line b r chunk′ line′ (buffers (b .tape) (b .memory) (b .host) out′)
+  part-turned v t k line′ w r chunk′ out′ f = record {
     ready = record { served = rw (f .session, f .tape) v; tape = omega (arith, f .tape); from = omega (arith, f .from); to = f .to; len = omega (arith, f .len, w .room); at = omega (arith, f .at) };
     size = omega (arith, f .at, f .gone);
     found = Part k;
     brings = w;
     leaves = (f .from, f .at);
-    history = λ host past h. part-history host past s chunk line b h going k line′ w r chunk′ f;
+    history = λ host past h. part-history host past s chunk line b h going k line′ w r chunk′ out′ f;
   }
 
   pub long-turned : Ready s (b .tape) → (line′ : List ℕ) → Past (waiting s chunk) (take (s .len) line) → Turned s chunk line b (withDone s) chunk line′ b

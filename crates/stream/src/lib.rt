@@ -149,7 +149,7 @@ fn begin(
 // Writes out what is answered, and then reads: nothing is held back while the read waits. Where nothing comes, at the input's end or by an error,
 // the session ends: the line that has begun has no newline. No contract can say which bytes the system reads: the input is what each read leaves in the
 // first bytes of the chunk, as many as it tells.
-fn refill(s: State, fd: i32, chunk: &mut [u8; CHUNK], out: &[u8; OUT]) -> State
+fn refill(s: State, fd: i32, chunk: &mut [u8; CHUNK], out: &mut [u8; OUT]) -> State
     requires { ⌜ Due (now out) (s .output) ⌝ }
     ensures { λ r. ⌜ Refilled s r ⌝ }
 {
@@ -248,8 +248,8 @@ pub fn run(fd: i32) -> u64
             &mut out,
         );
         if s.done {
-            return output::finish(&out, s.output);
+            return output::finish(&mut out, s.output);
         }
     }
-    output::finish(&out, s.output)
+    output::finish(&mut out, s.output)
 }

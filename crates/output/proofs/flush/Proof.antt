@@ -13,7 +13,7 @@ write-all-requires : tie.Need-write-all-requires
 write-all-requires c κs = search needs
 
 -- as many bytes are handed over as the buffer holds
-handed : (c : tie.After-struct-known) → length (take (c .before .before .before .before .args .o .at) (c .before .before .before .before .args .out .now)) ≡ c .before .before .before .before .args .o .at
+handed : (c : tie.After-struct-known) → length (take (c .before .before .before .before .before .args .o .at) (c .before .before .before .before .before .args .out .now)) ≡ c .before .before .before .before .before .args .o .at
 handed c = length-take-le _ _ (search needs)
 
 add-gone : tie.Need-add-gone

@@ -8,7 +8,7 @@ sub-if1 : tie.Need-sub-if1
 sub-if1 c = search needs
 
 returns : tie.Need-returns
-returns c = record { room = omega arith; all = refl; same = λ l. refl }
+returns c = record { room = omega arith; all = refl; same = λ l. (refl, refl) }
 
 flush-requires : tie.Need-flush-requires
 flush-requires c κs = search needs

@@ -61,7 +61,7 @@ returns-2 c =
       ended = ended;
       tape = refl;
       first = refl;
-      gives = rw ended (_, (spot, refl, rw (l .ensures .0) at a));
+      gives = rw ended (_, (_, (spot, refl, rw (l .ensures .0) at a)));
     }
 
 pub respond-spec : {M : Type 1} → statement M

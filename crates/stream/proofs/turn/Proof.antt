@@ -85,7 +85,7 @@ returns-2 c =
 returns-3 : tie.Need-returns-3
 returns-3 c =
     let a = c .before .before .before .before .before .before .before .before .before .before .before in
-    part-turned (a .args .s) (a .args .chunk .now) (a .args .line .now) _ (a .pre .2) (a .pre .0 .served) (a .pre .0 .tape) _ _ (rw (c .before .before .before .before .len2 .given .1) at (c .before .before .before .before .before .before .scan .ensures)) (c .refill .result) _ (c .refill .ensures)
+    part-turned (a .args .s) (a .args .chunk .now) (a .args .line .now) _ (a .pre .2) (a .pre .0 .served) (a .pre .0 .tape) _ _ (rw (c .before .before .before .before .len2 .given .1) at (c .before .before .before .before .before .before .scan .ensures)) (c .refill .result) _ _ (c .refill .ensures)
 
 returns-4 : tie.Need-returns-4
 returns-4 c =
