@@ -18,7 +18,7 @@ has() {
 
 # each COMMAND ..: runs it in both packages
 each() {
-    for package in plain client; do
+    for package in plain rust; do
         (cd "$package" && "$@") || { echo "lint: FAILED in $package: $*"; bad=1; }
     done
 }

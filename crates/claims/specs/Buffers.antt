@@ -17,9 +17,9 @@ use Rattle.rules.specs.Questions.{Ask, opening, request, turn, completion, coll
 use Rattle.rules.specs.Run.{Outcome, act, step, accepted, refused, sentCommand, handed, written, numbersOf}
 use Rattle.rules.specs.State.{State, write}
 use Rattle.rules.specs.Turn.{decide, command}
-use Rattle.meets.specs.Meets.{handedTo}
+use Rattle.contract.specs.Meets.{handedTo}
 use Rattle.rules.specs.Laws.Lengths.{Whole}
-use Rattle.meets.specs.Buffers.{filled, written-some, answer-some}
+use Rattle.contract.specs.Buffers.{filled, written-some, answer-some}
 use Rattle.claims.specs.Claim.{handsOut}
 
 -- ---- What is handed out

@@ -17,7 +17,7 @@ use Rattle.rules.specs.Questions.{Ask, opening, request, turn, completion, coll
 use Rattle.rules.specs.Run.{Outcome, run}
 use Rattle.memory.specs.Fits.{shapeOf}
 use Rattle.tape.specs.Tape.{wordsOf}
-use Rattle.meets.specs.Meets.{callOf, commandOf}
+use Rattle.contract.specs.Meets.{callOf, commandOf}
 use Rattle.codec.specs.Codec.{answerOf, stateLength}
 use Rattle.exports.specs.Exported.{clientIn, Exported, Opened}
 use Rattle.array.specs.Claim.{Slots, Host, Expected, Honest, Plain}

@@ -10,8 +10,8 @@ use Rattle.rules.specs.Shape.{Shape}
 use Rattle.rules.specs.State.{closed}
 use Rattle.rules.specs.Unfold.{model}
 use Rattle.client.specs.View.{stateOf}
-use Rattle.meets.specs.Answers.{clearedClient}
-use Rattle.meets.specs.Meets.{Meets, callOf, meets-no, closed-is}
+use Rattle.contract.specs.Answers.{clearedClient}
+use Rattle.contract.specs.Meets.{Meets, callOf, meets-no, closed-is}
 use Rattle.codec.specs.Codec.{answerOf, stateLength}
 use Rattle.exports.specs.Exported.{Exported, Opened, zeros-say}
 use Rattle.claims.specs.Claim.{Made, FromOpen, outcomeOf, handsOut}

@@ -14,7 +14,7 @@ use Rattle.memory.specs.Tables.{tablesOf, queueAt, kindsAt, spotsAt, counterAt,
 use Rattle.memory.specs.Fits.{shapeOf}
 use Rattle.client.specs.declared.Client.{Client}
 use Rattle.client.specs.View.{stateOf, view}
-use Rattle.meets.specs.Buffers.{block-last}
+use Rattle.contract.specs.Buffers.{block-last}
 
 module _ (m rest : List ℕ) where
   word-lent : (k : ℕ) → k * 2 + 1 < length m → wordAt (m ++ rest) k ≡ wordAt m k

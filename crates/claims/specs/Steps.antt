@@ -22,11 +22,11 @@ use Rattle.rules.specs.State.{State, Command, closed}
 use Rattle.rules.specs.Turn.{Step}
 use Rattle.client.specs.declared.Client.{Client}
 use Rattle.client.specs.View.{stateOf, view}
-use Rattle.meets.specs.declared.Answer.{Answer}
-use Rattle.meets.specs.Answers.{clearedClient}
-use Rattle.meets.specs.Meets.{Meets, callOf, commandOf, closed-is}
+use Rattle.contract.specs.declared.Answer.{Answer}
+use Rattle.contract.specs.Answers.{clearedClient}
+use Rattle.contract.specs.Meets.{Meets, callOf, commandOf, closed-is}
 use Rattle.rules.specs.Laws.Lengths.{Whole}
-use Rattle.meets.specs.Buffers.{state-whole, ready-of, ready-long}
+use Rattle.contract.specs.Buffers.{state-whole, ready-of, ready-long}
 use Rattle.codec.specs.Codec.{answerOf, stateLength}
 use Rattle.exports.specs.Exported.{clientIn, Exported, Opened, zeros-say}
 use Rattle.claims.specs.Claim.{Made, Contract, Handed, callMade, handsOut, outcomeOf}

@@ -8,7 +8,7 @@ use Rattle.rules.specs.Questions.{request, number}
 use Rattle.rules.specs.Run.{Outcome, run}
 use Rattle.rules.specs.State.{State, closed}
 use Rattle.client.specs.View.{stateOf, view}
-use Rattle.meets.specs.Meets.{callOf}
+use Rattle.contract.specs.Meets.{callOf}
 use Rattle.codec.specs.Codec.{stateLength}
 use Rattle.exports.specs.Exported.{clientIn}
 use Rattle.reachable.specs.Reached.{open-first}

@@ -11,7 +11,7 @@ use Rattle.rules.specs.Levels.{trailingOnes, sources}
 use Rattle.memory.specs.Tables.{Tables, tablesOf}
 use Rattle.memory.specs.Fits.{shapeOf, fit}
 use Rattle.client.specs.declared.Client.{Client}
-use Rattle.client.specs.View.{stateOf, view, heldBy, requestOf, bytesIn, placeOf}
+use Rattle.client.specs.View.{stateOf, view, handBy, requestOf, bytesIn, placeOf}
 use Rattle.client.specs.Rows.{length-rows, getD-rows}
 
 -- how many jobs are queued, and blocks wait
@@ -34,16 +34,16 @@ module _ (c : Client) (m : List ℕ) where
   waiting-count = waiting-are c (tablesOf (shapeOf (c .shape)) m)
 
   -- the request in hand
-  abbrev pub heldOf : R.Request
-  heldOf = heldBy (c .request) (tablesOf (shapeOf (c .shape)) m .blocks (c .shape .n))
+  abbrev pub handOf : R.Request
+  handOf = handBy (c .request) (tablesOf (shapeOf (c .shape)) m .blocks (c .shape .n))
 
-  pub held-none : c .request .kind ≡ 0 → stateOf c m .request ≡ none
+  pub hand-none : c .request .kind ≡ 0 → stateOf c m .request ≡ none
   unfolding stateOf view requestOf
-  held-none e = rw (eq-eqb (c .request .kind) 0 e)
+  hand-none e = rw (eq-eqb (c .request .kind) 0 e)
 
-  pub held-some : (c .request .kind ≡ 0 → ⊥) → stateOf c m .request ≡ some heldOf
+  pub hand-some : (c .request .kind ≡ 0 → ⊥) → stateOf c m .request ≡ some handOf
   unfolding stateOf view requestOf
-  held-some n = rw (ne-eqb (c .request .kind) 0 n)
+  hand-some n = rw (ne-eqb (c .request .kind) 0 n)
 
   -- numbers of the tables
   pub partition-is : (b p : ℕ) → p ≡ fit (c .shape .p) (tablesOf (shapeOf (c .shape)) m .partition b) → stateOf c m .partition b ≡ p

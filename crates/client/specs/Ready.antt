@@ -25,7 +25,7 @@ use Rattle.memory.specs.Tables.{Tables}
 use Rattle.memory.specs.Fits.{shapeOf, fit, fit-lt}
 use Rattle.client.specs.declared.Client.{Client}
 use Rattle.client.specs.declared.Request.{Request}
-use Rattle.client.specs.View.{levelOf, placeOf, spotOf, commandOf, heldBy, requestOf, rows, view}
+use Rattle.client.specs.View.{levelOf, placeOf, spotOf, commandOf, handBy, requestOf, rows, view}
 use Rattle.client.specs.Rows.{length-rows}
 use Rattle.client.specs.Readings.{jobs-are, waiting-are}
 use Rattle.client.specs.Changes.{cell-level}
@@ -178,7 +178,7 @@ module _ (c : Client) (t : Tables) (w : within (shapeOf (c .shape)) ≡ true) (f
   Hand o = IfSome (RequestIn h) o × JobsIn (view c t .queue) o × Waits (h .E) (view c t .waiting) o
 
   abbrev inHand : R.Request
-  inHand = heldBy (c .request) (t .blocks (c .shape .n))
+  inHand = handBy (c .request) (t .blocks (c .shape .n))
 
   bytes-length : (b : Bool) → length (if b then t .blocks (c .shape .n) else []) ≡ (if b then c .shape .b else 0)
   bytes-length true = full

@@ -40,11 +40,11 @@ unfoldable pub levelAt : Shape → ℕ → ℕ
 levelAt h x = levelOf (h .L) (x % slots (h .L))
 
 -- a request in hand, with these contents if it is a write; of kind 0 there is none
-abbrev pub heldBy : Request → List ℕ → R.Request
-heldBy r bs = record { kind = r .kind; block = r .block; bytes = if eqb (r .kind) write then bs else []; next = r .next; evict = r .evict; level = r .level }
+abbrev pub handBy : Request → List ℕ → R.Request
+handBy r bs = record { kind = r .kind; block = r .block; bytes = if eqb (r .kind) write then bs else []; next = r .next; evict = r .evict; level = r .level }
 
 unfoldable pub requestOf : Request → List ℕ → Option R.Request
-requestOf r bs = if eqb (r .kind) 0 then none else some (heldBy r bs)
+requestOf r bs = if eqb (r .kind) 0 then none else some (handBy r bs)
 
 -- contents of the blocks below N
 unfoldable pub bytesIn : Shape → (ℕ → List ℕ) → ℕ → List ℕ

@@ -11,7 +11,7 @@ use Rattle.memory.specs.declared.Shape.{Shape}
 use Rattle.client.specs.declared.Client.{Client}
 use Rattle.client.specs.declared.Request.{Request}
 use Rattle.client.specs.Moves.{atLevel}
-use Rattle.meets.specs.declared.Answer.{Answer}
+use Rattle.contract.specs.declared.Answer.{Answer}
 
 -- The state lies in 64 bytes
 abbrev pub stateLength : ℕ

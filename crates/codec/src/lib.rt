@@ -1,7 +1,7 @@
 // The client's state as 64 bytes, and an answer as one number.
 use client::Client;
 use client::Request;
-use meets::Answer;
+use contract::Answer;
 use memory::Shape;
 ghost use mathlib.Core.Path.{_≡_};
 ghost use Prim.Native.Nat.{_*_, _%_, _<_};

@@ -28,12 +28,12 @@ use Rattle.memory.specs.Tables.{Tables, tablesOf, withBlocks, withHolds, withPl
 use Rattle.memory.specs.Fits.{shapeOf}
 use Rattle.client.specs.declared.Client.{Client}
 use Rattle.client.specs.View.{stateOf, view, requestOf, placeOf, levelOf}
-use Rattle.client.specs.Readings.{heldOf, held-none, held-some}
+use Rattle.client.specs.Readings.{handOf, hand-none, hand-some}
 use Rattle.client.specs.Changes.{view-bytes, view-holds, view-place, view-partition, place-nowhere, level-le}
 use Rattle.client.specs.Ready.{Asked}
 use Rattle.client.specs.Moves.{noRequest, withRequest, withWaiting, withJobs, Room, Stands, stands, then as next}
 use Rattle.tape.specs.Tape.{wordsOf}
-use Rattle.meets.specs.Meets.{handedTo}
+use Rattle.contract.specs.Meets.{handedTo}
 use Rattle.ready.specs.Usable.{Usable, usable}
 
 -- the call, by the length of its buffer
@@ -61,21 +61,21 @@ module _ (c : Client) (m : List ℕ) where
   -- the questions about it
   pub asked-none : c .request .kind ≡ 0 → inHand (λ r. true) (stateOf c m .request) ≡ false
   unfolding inHand
-  asked-none e = ap (inHand (λ r. true)) (held-none c m e)
+  asked-none e = ap (inHand (λ r. true)) (hand-none c m e)
 
   pub asked-some : (c .request .kind ≡ 0 → ⊥) → inHand (λ r. true) (stateOf c m .request) ≡ true
   unfolding inHand
-  asked-some n = ap (inHand (λ r. true)) (held-some c m n)
+  asked-some n = ap (inHand (λ r. true)) (hand-some c m n)
 
-  pub asked-finished : (c .request .kind ≡ 0 → ⊥) → inHand (finished (stateOf c m)) (stateOf c m .request) ≡ finished (stateOf c m) (heldOf c m)
+  pub asked-finished : (c .request .kind ≡ 0 → ⊥) → inHand (finished (stateOf c m)) (stateOf c m .request) ≡ finished (stateOf c m) (handOf c m)
   unfolding inHand
-  asked-finished n = ap (inHand (finished (stateOf c m))) (held-some c m n)
+  asked-finished n = ap (inHand (finished (stateOf c m))) (hand-some c m n)
 
   pub hand : Usable c m → (c .request .kind ≡ 0 → ⊥) → Hand c m
   unfolding stateOf view
   hand u n =
       let a = u .asked n in
-      let f = few (c .shape .e) (stateOf c m .waiting) (heldOf c m) (stateOf c m .request) (held-some c m n) (u .range .cache) in
+      let f = few (c .shape .e) (stateOf c m .waiting) (handOf c m) (stateOf c m .request) (hand-some c m n) (u .range .cache) in
       record {
         room = u .room;
         asked = a .0;
@@ -113,13 +113,13 @@ module _ (c : Client) (m : List ℕ) where
       record { some = some; hand = hand (usable c m (y .0)) some; size = eqb-true len (stateOf c m .shape .B) (y .1 .1 .1 .0) ∙ size-is }
 
   -- what the accepted call leaves and hands out
-  pub collected-is : (c .request .kind ≡ 0 → ⊥) → collected (stateOf c m .request) (stateOf c m) ≡ finish (heldOf c m) (stateOf c m)
+  pub collected-is : (c .request .kind ≡ 0 → ⊥) → collected (stateOf c m .request) (stateOf c m) ≡ finish (handOf c m) (stateOf c m)
   unfolding collected
-  collected-is n = ap (λ o. collected o (stateOf c m)) (held-some c m n)
+  collected-is n = ap (λ o. collected o (stateOf c m)) (hand-some c m n)
 
   pub answer-is : (xs ys : List ℕ) → (c .request .kind ≡ 0 → ⊥) → ys ≡ contents (stateOf c m) (c .request .block) → 1 ≤ length ys → ys ≡ handedTo xs (answer (stateOf c m) (stateOf c m .request))
   unfolding answer
-  answer-is xs ys n e l = handed-all xs ys l ∙ ap (handedTo xs) (e ∙ sym (ap (answer (stateOf c m)) (held-some c m n)))
+  answer-is xs ys n e l = handed-all xs ys l ∙ ap (handedTo xs) (e ∙ sym (ap (answer (stateOf c m)) (hand-some c m n)))
 
 -- ---- Whether it is finished
 

@@ -1,7 +1,7 @@
 // Collect hands out the contents before the request, for reads and writes.
 use client::Client;
 use client::Request;
-use meets::Answer;
+use contract::Answer;
 ghost use mathlib.Core.Path.{_≡_};
 ghost use mathlib.Core.Bool.{not, _&&_};
 ghost use mathlib.Core.List.{[]};
@@ -11,16 +11,16 @@ ghost use Rattle.lists.specs.Search.{member};
 ghost use Rattle.rules.specs.Blocks.{isNowhere, contents};
 ghost use Rattle.rules.specs.Collect.{finished, finish as finishOf};
 ghost use Rattle.rules.specs.Questions.{collect as collectOf, number as numberOf};
-ghost use Rattle.client.specs.Readings.{heldOf};
+ghost use Rattle.client.specs.Readings.{handOf};
 ghost use Rattle.client.specs.View.{stateOf};
 ghost use Rattle.client.specs.Moves.{noRequest, Room, Stands};
-ghost use Rattle.meets.specs.Meets.{Meets};
+ghost use Rattle.contract.specs.Meets.{Meets};
 ghost use Rattle.collecting.specs.Collecting.{callWith, Hand, newBytes, emptySlot, Settled, Queued};
 
 // A request is finished when it isn't held and all its reads are sent and completed.
 fn is_finished(c: Client, m: &[u8]) -> bool
     requires { ⌜ Hand c (now m) ⌝ }
-    ensures { λ r. ⌜ r ≡ finished (stateOf c (now (m .entry))) (heldOf c (now (m .entry))) ⌝ }
+    ensures { λ r. ⌜ r ≡ finished (stateOf c (now (m .entry))) (handOf c (now (m .entry))) ⌝ }
 {
     let levels = c.shape.l;
     let p = memory::tables::partition(c.shape, m, c.request.block);
@@ -80,7 +80,7 @@ fn hand_out(c: Client, m: &[u8], buffer: &mut [u8])
 // The block has new contents after a write, and those handed out after a read.
 fn set_contents(c: Client, m: &mut [u8], buffer: &[u8])
     requires { ⌜ Hand c (now m) × (length (now buffer) ≡ c .shape .b) ⌝ }
-    ensures { λ _. ⌜ Stands c (now (m .entry)) (now (m .exit)) (newBytes (heldOf c (now (m .entry))) (now (buffer .entry)) (stateOf c (now (m .entry)))) ⌝ }
+    ensures { λ _. ⌜ Stands c (now (m .entry)) (now (m .exit)) (newBytes (handOf c (now (m .entry))) (now (buffer .entry)) (stateOf c (now (m .entry)))) ⌝ }
 {
     let b = c.request.block;
     if c.request.kind == 2 {
@@ -127,7 +127,7 @@ fn queue(c: Client, m: &mut [u8], p: usize, evict: usize) -> Client
 // Collects the finished request; the buffer has what was handed out.
 fn finish(c: Client, m: &mut [u8], buffer: &[u8]) -> Client
     requires { ⌜ Hand c (now m) × (length (now buffer) ≡ c .shape .b) × (now buffer ≡ contents (stateOf c (now m)) (c .request .block)) ⌝ }
-    ensures { λ r. ⌜ (r .request ≡ noRequest) × Stands r (now (m .entry)) (now (m .exit)) (finishOf (heldOf c (now (m .entry))) (stateOf c (now (m .entry)))) ⌝ }
+    ensures { λ r. ⌜ (r .request ≡ noRequest) × Stands r (now (m .entry)) (now (m .exit)) (finishOf (handOf c (now (m .entry))) (stateOf c (now (m .entry)))) ⌝ }
 {
     let p = memory::tables::partition(c.shape, m, c.request.block);
     let evict = c.request.evict;
@@ -142,7 +142,7 @@ pub fn collect(c: Client, m: &mut [u8], buffer: &mut [u8]) -> Answer
 {
     let n = number(c, m, buffer.len());
     if n != 0 {
-        return meets::refused(n, c);
+        return contract::refused(n, c);
     }
     hand_out(c, m, buffer);
     Answer {

@@ -31,8 +31,8 @@ use Rattle.client.specs.View.{stateOf, view, rows}
 use Rattle.client.specs.Rows.{dropAt, length-rows}
 use Rattle.client.specs.Changes.{view-bytes, view-counter}
 use Rattle.client.specs.Moves.{Room, Stands, stands, then as next, withJobs, withCursor, withSent}
-use Rattle.meets.specs.Answers.{refusedWith}
-use Rattle.meets.specs.Meets.{Meets, callOf, meets-no, meets-yes}
+use Rattle.contract.specs.Answers.{refusedWith}
+use Rattle.contract.specs.Meets.{Meets, callOf, meets-no, meets-yes}
 use Rattle.ready.specs.Usable.{usable}
 use Rattle.jobs.specs.Queue.{jobsIn, queue-is}
 use Rattle.commands.specs.Outstanding.{OutstandingAt, ofKind}
@@ -148,21 +148,21 @@ named-some (suc b) n = let e : b ≡ suc b - 1 = omega arith in ap some e
 
 -- the slot's cell is x, and b its entry
 module _ (c : Client) (m : List ℕ) (q ℓ i x b : ℕ) (bs : List ℕ) (at : x ≡ cell (shapeOf (c .shape)) q ℓ i) (entry : b ≡ fit (c .shape .n + 1) (tablesOf (shapeOf (c .shape)) m .holds x)) where
-  held : holder (stateOf c m) q ℓ i ≡ named b
+  holder-is : holder (stateOf c m) q ℓ i ≡ named b
   unfolding holder stateOf view
-  held = rw (entry, at)
+  holder-is = rw (entry, at)
 
-  pub gathers-none : b ≡ 0 → Stands c m m (gatherBytes (holder (stateOf c m) q ℓ i) bs (stateOf c m))
+  pub stores-none : b ≡ 0 → Stands c m m (gatherBytes (holder (stateOf c m) q ℓ i) bs (stateOf c m))
   unfolding gatherBytes named
-  gathers-none z = record { state = sym (ap (λ o. gatherBytes o bs (stateOf c m)) (held ∙ ap named z)); tail = refl }
+  stores-none z = record { state = sym (ap (λ o. gatherBytes o bs (stateOf c m)) (holder-is ∙ ap named z)); tail = refl }
 
-  pub gathers-some : (m′ : List ℕ) → (b ≡ 0 → ⊥) → tablesOf (shapeOf (c .shape)) m′ ≡ withBlocks (put (b - 1) bs (tablesOf (shapeOf (c .shape)) m .blocks)) (tablesOf (shapeOf (c .shape)) m)
+  pub stores-some : (m′ : List ℕ) → (b ≡ 0 → ⊥) → tablesOf (shapeOf (c .shape)) m′ ≡ withBlocks (put (b - 1) bs (tablesOf (shapeOf (c .shape)) m .blocks)) (tablesOf (shapeOf (c .shape)) m)
       → Stands c m m′ (gatherBytes (holder (stateOf c m) q ℓ i) bs (stateOf c m))
   unfolding gatherBytes stateOf tablesOf
-  gathers-some m′ n t =
+  stores-some m′ n t =
       let l : b < c .shape .n + 1 = rw entry (fit-lt (c .shape .n + 1) _ (omega arith)) in
       let u : b - 1 < c .shape .n = omega (arith, n) in
-      stands c m m′ _ _ t refl (view-bytes c (tablesOf (shapeOf (c .shape)) m) (b - 1) bs u ∙ sym (ap (λ o. gatherBytes o bs (stateOf c m)) (held ∙ named-some b n)))
+      stands c m m′ _ _ t refl (view-bytes c (tablesOf (shapeOf (c .shape)) m) (b - 1) bs u ∙ sym (ap (λ o. gatherBytes o bs (stateOf c m)) (holder-is ∙ named-some b n)))
 
 -- ---- A write
 

@@ -1,7 +1,7 @@
 // Completion names a kind and a slot (partition, level, slot), with B bytes for a read.
 use client::Client;
 use client::Found;
-use meets::Answer;
+use contract::Answer;
 use memory::Shape;
 ghost use mathlib.Core.Path.{_≡_};
 ghost use mathlib.Core.List.{[]};
@@ -20,7 +20,7 @@ ghost use Rattle.memory.specs.Fits.{shapeOf};
 ghost use Rattle.client.specs.View.{stateOf};
 ghost use Rattle.client.specs.Rows.{dropAt};
 ghost use Rattle.client.specs.Moves.{Room, Stands};
-ghost use Rattle.meets.specs.Meets.{Meets};
+ghost use Rattle.contract.specs.Meets.{Meets};
 ghost use Rattle.completing.specs.Completing.{Completes};
 
 // 1 for a read, 2 for a write.
@@ -38,7 +38,7 @@ fn expected(kind: usize, block: usize) -> usize
 }
 
 // A read's bytes are those of the block in its slot.
-fn gather(c: Client, m: &mut [u8], q: usize, l: usize, i: usize, bytes: &[u8])
+fn store_read(c: Client, m: &mut [u8], q: usize, l: usize, i: usize, bytes: &[u8])
     requires { ⌜ Room c (now m) × (q < c .shape .p) × (l < c .shape .l) × (i < slots l) × (length (now bytes) ≡ c .shape .b) ⌝ }
     ensures { λ _. ⌜ Stands c (now (m .entry)) (now (m .exit)) (gatherBytes (holder (stateOf c (now (m .entry))) q l i) (now (bytes .entry)) (stateOf c (now (m .entry)))) ⌝ }
 {
@@ -113,7 +113,7 @@ fn complete(
 {
     let d = commands::complete(c, m, j);
     if kind == 1 {
-        gather(d, m, q, l, i, bytes);
+        store_read(d, m, q, l, i, bytes);
         return d;
     }
     finish_job(d, m)
@@ -131,17 +131,17 @@ pub fn completion(
     ensures { λ r. ⌜ Meets c (stateOf c (now (m .entry))) (completionOf (cmd kind partition level slot) (now (bytes .entry))) (now (m .entry)) [] [] r (now (m .exit)) [] ⌝ }
 {
     if !ready::shape_fits(c.shape, m.len()) {
-        return meets::refused(2, c);
+        return contract::refused(2, c);
     }
     if !(ready::numbers_fit(c, m) & is_kind(kind)) {
-        return meets::refused(2, c);
+        return contract::refused(2, c);
     }
     let found = commands::find(c, m, kind, partition, level, slot);
     let Found::At(j) = found else {
-        return meets::refused(11, c);
+        return contract::refused(11, c);
     };
     if bytes.len() != expected(kind, c.shape.b) {
-        return meets::refused(12, c);
+        return contract::refused(12, c);
     }
     Answer {
         number: 0,

@@ -22,7 +22,7 @@ use Rattle.memory.specs.Fits.{shapeOf, fit}
 use Rattle.memory.specs.Tables.{tablesOf}
 use Rattle.client.specs.declared.Client.{Client}
 use Rattle.client.specs.View.{levelOf, placeOf, rows, view, stateOf}
-use Rattle.client.specs.Readings.{heldOf, held-none, held-some}
+use Rattle.client.specs.Readings.{handOf, hand-none, hand-some}
 use Rattle.client.specs.Changes.{place-is}
 use Rattle.ready.specs.Usable.{Usable}
 use Rattle.commands.specs.Outstanding.{ofPartition}
@@ -114,11 +114,11 @@ module _ (c : Client) (m : List ℕ) where
   s = stateOf c m
 
   abbrev asked : Request
-  asked = heldOf c m
+  asked = handOf c m
 
   pub request-none : c .request .kind ≡ 0 → requestStep s (s .request) ≡ none
   unfolding requestStep
-  request-none e = ap (requestStep s) (held-none c m e)
+  request-none e = ap (requestStep s) (hand-none c m e)
 
   module _ (q : ℕ) (r : Reads c m q) where
     is-held : (t : Bool) → member q (s .queue) ≡ t → held s asked ≡ t
@@ -126,7 +126,7 @@ module _ (c : Client) (m : List ℕ) where
     is-held t e = ap (λ p. member p (s .queue)) (sym (r .partition)) ∙ e
 
     pub request-held : member q (s .queue) ≡ true → requestStep s (s .request) ≡ none
-    request-held e = ap (requestStep s) (held-some c m (r .some)) ∙ held-step s asked (is-held true e)
+    request-held e = ap (requestStep s) (hand-some c m (r .some)) ∙ held-step s asked (is-held true e)
 
     levels-is : s .shape .L ≡ c .shape .l
     unfolding stateOf view
@@ -136,7 +136,7 @@ module _ (c : Client) (m : List ℕ) where
         → requestStep s (s .request) ≡ firstRead q (s .place (c .request .block)) (dummy s q) (keep (filled (s .counter q)) (count (c .request .level) (c .shape .l - c .request .level)))
     unfolding levelsLeft
     request-free e =
-        ap (requestStep s) (held-some c m (r .some)) ∙ free-step s asked (is-held false e)
+        ap (requestStep s) (hand-some c m (r .some)) ∙ free-step s asked (is-held false e)
         ∙ ap (λ p. firstRead p (s .place (c .request .block)) (dummy s p) (keep (filled (s .counter p)) (count (c .request .level) (s .shape .L - c .request .level)))) (sym (r .partition))
         ∙ ap (λ n. firstRead q (s .place (c .request .block)) (dummy s q) (keep (filled (s .counter q)) (count (c .request .level) (n - c .request .level)))) levels-is
 

@@ -16,9 +16,9 @@ use Rattle.client.specs.declared.Client.{Client}
 use Rattle.client.specs.declared.Request.{Request}
 use Rattle.client.specs.View.{stateOf, view}
 use Rattle.client.specs.Rows.{length-rows}
-use Rattle.client.specs.Readings.{jobs-count, waiting-count, heldOf, held-none, held-some}
-use Rattle.meets.specs.Answers.{clearedClient}
-use Rattle.meets.specs.Meets.{Meets}
+use Rattle.client.specs.Readings.{jobs-count, waiting-count, handOf, hand-none, hand-some}
+use Rattle.contract.specs.Answers.{clearedClient}
+use Rattle.contract.specs.Meets.{Meets}
 use Rattle.codec.specs.Codec.{stateLength, Between, answerOf}
 use Rattle.exports.specs.Exported.{clientIn, Exported, Opened}
 use Rattle.exports.specs.Idle.{Idle, none-kind}
@@ -37,15 +37,15 @@ module _ (c d : Client) (m n : List ℕ) (e : stateOf c m ≡ stateOf d n) where
 
   same-hand : (c .request .kind ≡ 0 → ⊥) → (d .request .kind ≡ 0 → ⊥) → c .request ≡ d .request
   same-hand x y =
-      let f : heldOf c m ≡ heldOf d n = ap (λ o. Option·getD o (heldOf c m)) (sym (held-some c m x) ∙ ap (λ (s : State). s .request) e ∙ held-some d n y) in
+      let f : handOf c m ≡ handOf d n = ap (λ o. Option·getD o (handOf c m)) (sym (hand-some c m x) ∙ ap (λ (s : State). s .request) e ∙ hand-some d n y) in
       λ i. record { kind = f i .kind; block = f i .block; next = f i .next; evict = f i .evict; level = f i .level }
 
   same-request : (a : Ask) (r : Request) → Idle a r c → Idle a r d → c .request ≡ d .request
   same-request a r i j = go (ℕ-discrete (c .request .kind) 0)
     where
       go : Dec (c .request .kind ≡ 0) → c .request ≡ d .request
-      go (yes z) = i z ∙ sym (j (none-kind d n (ap (λ (s : State). s .request) (sym e) ∙ held-none c m z)))
-      go (no x) = same-hand x (λ z. x (none-kind c m (ap (λ (s : State). s .request) e ∙ held-none d n z)))
+      go (yes z) = i z ∙ sym (j (none-kind d n (ap (λ (s : State). s .request) (sym e) ∙ hand-none c m z)))
+      go (no x) = same-hand x (λ z. x (none-kind c m (ap (λ (s : State). s .request) e ∙ hand-none d n z)))
 
   same-client : (a : Ask) (r : Request) → Idle a r c → Idle a r d → c ≡ d
   same-client a r i j =

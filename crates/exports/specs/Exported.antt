@@ -24,9 +24,9 @@ use Rattle.memory.specs.declared.Shape as M
 use Rattle.client.specs.declared.Client.{Client}
 use Rattle.client.specs.View.{stateOf, view}
 use Rattle.tape.specs.Tape.{wordsOf}
-use Rattle.meets.specs.declared.Answer.{Answer}
-use Rattle.meets.specs.Answers.{clearedClient}
-use Rattle.meets.specs.Meets.{Meets, callOf, commandOf, unasked}
+use Rattle.contract.specs.declared.Answer.{Answer}
+use Rattle.contract.specs.Answers.{clearedClient}
+use Rattle.contract.specs.Meets.{Meets, callOf, commandOf, unasked}
 use Rattle.codec.specs.Codec.{stateLength, clientOf, reshaped, lowShape, lowClient, withShape, withProgress, withRest, rest-is, progress-is, stored-is, Between, between-progress, between-rest, between-shape, packed, answerOf}
 use Rattle.exports.specs.Idle.{Idle, rest-idle, progress-idle}
 use Rattle.exports.specs.Progress.{same-state}

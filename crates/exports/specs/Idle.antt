@@ -15,9 +15,9 @@ use Rattle.memory.specs.Words.{wordAt, wordAt-lt}
 use Rattle.client.specs.declared.Client.{Client}
 use Rattle.client.specs.declared.Request.{Request}
 use Rattle.client.specs.View.{stateOf}
-use Rattle.client.specs.Readings.{held-none, held-some}
+use Rattle.client.specs.Readings.{hand-none, hand-some}
 use Rattle.client.specs.Moves.{atLevel}
-use Rattle.meets.specs.Meets.{unasked}
+use Rattle.contract.specs.Meets.{unasked}
 use Rattle.codec.specs.Codec.{clientOf, lowRequest, lowClient, progressed}
 
 -- the client x, where the numbers of a request were those of r before the call
@@ -31,7 +31,7 @@ none-kind c m e = go (ℕ-discrete (c .request .kind) 0)
   where
     go : Dec (c .request .kind ≡ 0) → c .request .kind ≡ 0
     go (yes z) = z
-    go (no n) = absurd (true≢false (ap isNone (sym e ∙ held-some c m n)))
+    go (no n) = absurd (true≢false (ap isNone (sym e ∙ hand-some c m n)))
 
 asked-none : (o : Option R.Request) → asked o ≡ none → o ≡ none
 unfolding isNone
@@ -59,11 +59,11 @@ module _ (st : List ℕ) where
   -- all numbers of the client d are stored
   pub rest-idle : (a : Ask) (d : Client) (m′ : List ℕ) → stateOf (lowClient d) m′ ≡ stateOf d m′ → (d .request .kind ≡ 0 → d .request ≡ unasked a given)
       → lowRequest (d .request) .kind ≡ 0 → lowRequest (d .request) ≡ unasked a given
-  rest-idle a d m′ e k z = ap lowRequest (k (none-kind d m′ (ap (λ (s : State). s .request) (sym e) ∙ held-none (lowClient d) m′ z))) ∙ low-unasked a
+  rest-idle a d m′ e k z = ap lowRequest (k (none-kind d m′ (ap (λ (s : State). s .request) (sym e) ∙ hand-none (lowClient d) m′ z))) ∙ low-unasked a
 
   -- those that tell how far it is
   pub progress-idle : (d : Client) (m m′ : List ℕ) → asked (stateOf d m′ .request) ≡ asked (stateOf (clientOf (wordAt st)) m .request) → (d .request .kind ≡ 0 → d .request ≡ given)
       → given .kind ≡ 0 → progressed (clientOf (wordAt st)) (lowClient d) .request ≡ given
   progress-idle d m m′ e k z =
-      let n : d .request .kind ≡ 0 = none-kind d m′ (asked-none (stateOf d m′ .request) (e ∙ ap asked (held-none (clientOf (wordAt st)) m z))) in
+      let n : d .request .kind ≡ 0 = none-kind d m′ (asked-none (stateOf d m′ .request) (e ∙ ap asked (hand-none (clientOf (wordAt st)) m z))) in
       ap (λ (r : Request). atLevel (r .level % 65536) given) (k n) ∙ ap (λ x. atLevel x given) (low-word 20)

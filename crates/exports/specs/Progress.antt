@@ -12,7 +12,7 @@ use Rattle.rules.specs.Setters.{setRequest}
 use Rattle.rules.specs.Laws.Asked.{asked}
 use Rattle.client.specs.declared.Client.{Client}
 use Rattle.client.specs.declared.Request.{Request}
-use Rattle.client.specs.View.{stateOf, view, heldBy, requestOf}
+use Rattle.client.specs.View.{stateOf, view, handBy, requestOf}
 use Rattle.client.specs.Moves.{atLevel}
 use Rattle.codec.specs.Codec.{progressed}
 
@@ -21,16 +21,16 @@ module _ (c d : Request) (bs bs′ : List ℕ) where
   abbrev mixed : Request
   mixed = atLevel (d .level) c
 
-  same-hand : asked (some (heldBy d bs′)) ≡ asked (some (heldBy c bs)) → heldBy mixed bs′ ≡ heldBy d bs′
+  same-hand : asked (some (handBy d bs′)) ≡ asked (some (handBy c bs)) → handBy mixed bs′ ≡ handBy d bs′
   same-hand e =
-      let f = sym (ap (λ o. Option·getD o (heldBy d bs′)) e) in
+      let f = sym (ap (λ o. Option·getD o (handBy d bs′)) e) in
       λ k. record { kind = f k .kind; block = f k .block; bytes = if eqb (f k .kind) write then bs′ else []; next = f k .next; evict = f k .evict; level = d .level }
 
   same-request : asked (requestOf d bs′) ≡ asked (requestOf c bs) → requestOf mixed bs′ ≡ requestOf d bs′
   unfolding requestOf isNone
   same-request e = go (eqb (c .kind) 0) (eqb (d .kind) 0) e
     where
-      go : (x y : Bool) → asked (if y then none else some (heldBy d bs′)) ≡ asked (if x then none else some (heldBy c bs)) → (if x then none else some (heldBy mixed bs′)) ≡ (if y then none else some (heldBy d bs′))
+      go : (x y : Bool) → asked (if y then none else some (handBy d bs′)) ≡ asked (if x then none else some (handBy c bs)) → (if x then none else some (handBy mixed bs′)) ≡ (if y then none else some (handBy d bs′))
       go true true e = refl
       go true false e = absurd (true≢false (sym (ap isNone e)))
       go false true e = absurd (true≢false (ap isNone e))

@@ -30,7 +30,7 @@ use Rattle.memory.specs.Fits.{shapeOf, parts-le, fit}
 use Rattle.memory.specs.Tables.{tablesOf}
 use Rattle.client.specs.declared.Client.{Client}
 use Rattle.client.specs.declared.Request.{Request}
-use Rattle.client.specs.View.{stateOf, view, heldBy, requestOf, commandOf, rows}
+use Rattle.client.specs.View.{stateOf, view, handBy, requestOf, commandOf, rows}
 use Rattle.client.specs.Rows.{length-rows}
 use Rattle.memory.specs.declared.Shape as M
 use Rattle.codec.specs.Codec.{lowShape, lowRequest, lowClient}
@@ -93,8 +93,8 @@ request-low : (r : Request) (bs : List ℕ) (h : Shape) → within h ≡ true �
 unfolding requestOf
 request-low r bs h w f = go (eqb (r .kind) 0) refl f
   where
-    go : (t : Bool) → eqb (r .kind) 0 ≡ t → IfSome (RequestIn h) (if t then none else some (heldBy r bs))
-        → (if eqb (r .kind % 65536) 0 then none else some (heldBy (lowRequest r) bs)) ≡ (if t then none else some (heldBy r bs))
+    go : (t : Bool) → eqb (r .kind) 0 ≡ t → IfSome (RequestIn h) (if t then none else some (handBy r bs))
+        → (if eqb (r .kind % 65536) 0 then none else some (handBy (lowRequest r) bs)) ≡ (if t then none else some (handBy r bs))
     go true e f =
         let z : r .kind ≡ 0 = eqb-true (r .kind) 0 e in
         let k : r .kind % 65536 ≡ 0 = rw z in
@@ -106,7 +106,7 @@ request-low r bs h w f = go (eqb (r .kind) 0) refl f
         let l = levels-le h w in
         rw (low (r .kind) (omega arith), e, low (r .block) (omega (arith, f .block)), low (r .next) (omega (arith, f .next)), low (r .evict) (omega (arith, f .evict)), low (r .level) (omega (arith, f .level)))
       where
-        kind-le : RequestIn h (heldBy r bs) → r .kind ≤ 2
+        kind-le : RequestIn h (handBy r bs) → r .kind ≤ 2
         kind-le f = unfold isKind between in (leb-true (r .kind) 2 (and-r (leb 1 (r .kind)) (leb (r .kind) 2) (f .kind)))
 
 others-le : (h : Shape) → within h ≡ true → (h .B ≤ 512) × (h .E ≤ h .N) × (h .W ≤ 32)

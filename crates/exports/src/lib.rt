@@ -1,6 +1,6 @@
 // The five calls for a host program: numbers and byte slices. The state is 64 bytes, the tape pairs of bytes, low byte first; the answer is one
 // number (see codec::pack). Every value of every number is answered; nothing is required.
-use meets::Answer;
+use contract::Answer;
 use memory::Shape;
 ghost use mathlib.Core.Path.{_≡_};
 ghost use mathlib.Core.List.{[]};
@@ -42,7 +42,7 @@ fn refuse_state(state: &mut [u8], h: Shape) -> u64
     ensures { λ u. ⌜ (u ≡ (if within (shapeOf h) then 2 else 1)) × (now (state .exit) ≡ replicate (length (now (state .entry))) 0) ⌝ }
 {
     memory::blocks::zeros(state);
-    if meets::is_within(h) { 2 } else { 1 }
+    if contract::is_within(h) { 2 } else { 1 }
 }
 
 // A refused open hands back zeros.
@@ -94,7 +94,7 @@ pub extern "C" fn rinwolfedd_request(
         return 2;
     }
     let c = codec::decode(state);
-    let r = requests::request(c, memory, kind, block, contents, tape);
+    let r = requesting::request(c, memory, kind, block, contents, tape);
     hand_back(state, r)
 }
 

@@ -21,7 +21,7 @@ use Rattle.levels.specs.Slots.{unread-is, dummy-is, order-is}
 
 -- whether slot i is an unread dummy, by what the slots hold and by their marks
 abbrev pub freeAt : ℕ → (ℕ → ℕ) → (ℕ → ℕ) → ℕ → Bool
-freeAt bound held marks i = eqb (fit bound (held i)) 0 && eqb (fit 2 (marks i)) 1
+freeAt bound holds marks i = eqb (fit bound (holds i)) 0 && eqb (fit 2 (marks i)) 1
 
 -- the slot of item k of n
 abbrev pub itemAt : ℕ → (ℕ → ℕ) → ℕ → ℕ
@@ -29,24 +29,24 @@ itemAt n order k = fit n (order k)
 
 -- what the items from k up to n give
 unfoldable pub itemsFrom : ℕ → ℕ → (ℕ → ℕ) → (ℕ → ℕ) → (ℕ → ℕ) → ℕ → Option ℕ
-itemsFrom n bound order held marks k = first (freeAt bound held marks) (itemAt n order) [] n k
+itemsFrom n bound order holds marks k = first (freeAt bound holds marks) (itemAt n order) [] n k
 
-pub items-done : (n bound : ℕ) (order held marks : ℕ → ℕ) (k : ℕ) → n ≤ k → itemsFrom n bound order held marks k ≡ none
+pub items-done : (n bound : ℕ) (order holds marks : ℕ → ℕ) (k : ℕ) → n ≤ k → itemsFrom n bound order holds marks k ≡ none
 unfolding itemsFrom find
-items-done n bound order held marks k h = first-done (freeAt bound held marks) (itemAt n order) [] n k h
+items-done n bound order holds marks k h = first-done (freeAt bound holds marks) (itemAt n order) [] n k h
 
-module _ (n bound : ℕ) (order held marks : ℕ → ℕ) (k : ℕ) (l : k < n) where
-  pub items-hit : freeAt bound held marks (itemAt n order k) ≡ true → itemsFrom n bound order held marks k ≡ some (itemAt n order k)
+module _ (n bound : ℕ) (order holds marks : ℕ → ℕ) (k : ℕ) (l : k < n) where
+  pub items-hit : freeAt bound holds marks (itemAt n order k) ≡ true → itemsFrom n bound order holds marks k ≡ some (itemAt n order k)
   unfolding itemsFrom
-  items-hit e = first-hit (freeAt bound held marks) (itemAt n order) [] n k l e
+  items-hit e = first-hit (freeAt bound holds marks) (itemAt n order) [] n k l e
 
-  pub items-miss : freeAt bound held marks (itemAt n order k) ≡ false → itemsFrom n bound order held marks k ≡ itemsFrom n bound order held marks (k + 1)
+  pub items-miss : freeAt bound holds marks (itemAt n order k) ≡ false → itemsFrom n bound order holds marks k ≡ itemsFrom n bound order holds marks (k + 1)
   unfolding itemsFrom
-  items-miss e = first-miss (freeAt bound held marks) (itemAt n order) [] n k l e
+  items-miss e = first-miss (freeAt bound holds marks) (itemAt n order) [] n k l e
 
 -- By the numbers of a level's slots they give the rules' dummy
-module _ (c : Client) (m : List ℕ) (q ℓ n base : ℕ) (order held marks : List ℕ) (size : n ≡ slots ℓ) (start : base ≡ cell (shapeOf (c .shape)) q ℓ 0) (level : ℓ < c .shape .l)
-    (o : Numbers order n (λ i. tablesOf (shapeOf (c .shape)) m .order (base + i))) (h : Numbers held n (λ i. tablesOf (shapeOf (c .shape)) m .holds (base + i))) (x : Numbers marks n (λ i. tablesOf (shapeOf (c .shape)) m .mark (base + i))) where
+module _ (c : Client) (m : List ℕ) (q ℓ n base : ℕ) (order holds marks : List ℕ) (size : n ≡ slots ℓ) (start : base ≡ cell (shapeOf (c .shape)) q ℓ 0) (level : ℓ < c .shape .l)
+    (o : Numbers order n (λ i. tablesOf (shapeOf (c .shape)) m .order (base + i))) (h : Numbers holds n (λ i. tablesOf (shapeOf (c .shape)) m .holds (base + i))) (x : Numbers marks n (λ i. tablesOf (shapeOf (c .shape)) m .mark (base + i))) where
   abbrev s : State
   s = stateOf c m
 
@@ -59,16 +59,16 @@ module _ (c : Client) (m : List ℕ) (q ℓ n base : ℕ) (order held marks : Li
   slot-is : (k : ℕ) → k < n → slot k ≡ s .order (cell (s .shape) q ℓ k)
   slot-is k l = sym (order-is c m q ℓ base k (slot k) start n size level (omega (arith, size, l)) (ap (fit n) (o .number k l)))
 
-  test-is : (k : ℕ) → k < n → freeAt (c .shape .n + 1) (wordAt held) (wordAt marks) (slot k) ≡ isDummy (s .order (cell (s .shape) q ℓ k))
+  test-is : (k : ℕ) → k < n → freeAt (c .shape .n + 1) (wordAt holds) (wordAt marks) (slot k) ≡ isDummy (s .order (cell (s .shape) q ℓ k))
   test-is k l =
       let i = slot k in
       let inside : i < n = fit-lt n (wordAt order k) (omega arith) in
       let unread = unread-is c m q ℓ base i (fit 2 (wordAt marks i)) start (ap (fit 2) (x .number i inside)) in
-      let empty = dummy-is c m q ℓ base i (fit (c .shape .n + 1) (wordAt held i)) start (ap (fit (c .shape .n + 1)) (h .number i inside)) in
-      rw (← slot-is k l, unread, empty) (and-comm (eqb (fit (c .shape .n + 1) (wordAt held i)) 0) (eqb (fit 2 (wordAt marks i)) 1))
+      let empty = dummy-is c m q ℓ base i (fit (c .shape .n + 1) (wordAt holds i)) start (ap (fit (c .shape .n + 1)) (h .number i inside)) in
+      rw (← slot-is k l, unread, empty) (and-comm (eqb (fit (c .shape .n + 1) (wordAt holds i)) 0) (eqb (fit 2 (wordAt marks i)) 1))
 
-  pub items-dummy : itemsFrom n (c .shape .n + 1) (wordAt order) (wordAt held) (wordAt marks) 0 ≡ dummy s q ℓ
+  pub items-dummy : itemsFrom n (c .shape .n + 1) (wordAt order) (wordAt holds) (wordAt marks) 0 ≡ dummy s q ℓ
   unfolding itemsFrom dummy
   items-dummy =
-      first-same (freeAt (c .shape .n + 1) (wordAt held) (wordAt marks)) isDummy slot (λ k. s .order (cell (s .shape) q ℓ k)) n slot-is test-is
+      first-same (freeAt (c .shape .n + 1) (wordAt holds) (wordAt marks)) isDummy slot (λ k. s .order (cell (s .shape) q ℓ k)) n slot-is test-is
       ∙ rw size (first-all isDummy (λ k. s .order (cell (s .shape) q ℓ k)) [] (slots ℓ) ∙ ap (find isDummy) (append-nil _))

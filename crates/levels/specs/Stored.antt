@@ -17,8 +17,8 @@ use Rattle.client.specs.View.{stateOf}
 use Rattle.levels.specs.Walks.{tally, tally-step, tally-done, tally-all}
 use Rattle.levels.specs.Slots.{stride-le, holds-is}
 
-abbrev pub heldAt : State → ℕ → ℕ → ℕ
-heldAt s q j = s .holds (cell (s .shape) q 0 j)
+abbrev pub slotHolds : State → ℕ → ℕ → ℕ
+slotHolds s q j = s .holds (cell (s .shape) q 0 j)
 
 some-not-zero : (x : ℕ) → ltb 0 x ≡ not (eqb x 0)
 some-not-zero zero = refl
@@ -26,21 +26,21 @@ some-not-zero (suc x) = lt-ltb 0 (suc x) (omega arith) ∙ sym (ap not (ne-eqb (
 
 -- how many of the slots from j up to n hold a block
 unfoldable pub storedFrom : State → ℕ → ℕ → ℕ → ℕ
-storedFrom s q n j = tally (ltb 0) (heldAt s q) n j
+storedFrom s q n j = tally (ltb 0) (slotHolds s q) n j
 
 pub stored-all : (s : State) (q L n : ℕ) → n ≡ slots L - 2 → storedFrom s q n 0 ≡ blocksIn s q L
 unfolding storedFrom blocksIn entries
-stored-all s q L n e = rw e (tally-all (ltb 0) (heldAt s q) (slots L - 2))
+stored-all s q L n e = rw e (tally-all (ltb 0) (slotHolds s q) (slots L - 2))
 
 pub stored-done : (s : State) (q n j : ℕ) → n ≤ j → storedFrom s q n j ≡ 0
 unfolding storedFrom
-stored-done s q n j h = tally-done (ltb 0) (heldAt s q) n j h
+stored-done s q n j h = tally-done (ltb 0) (slotHolds s q) n j h
 
 -- slot j holds x
 pub stored-step : (c : Client) (m : List ℕ) (q n base j x : ℕ) → base ≡ cell (shapeOf (c .shape)) q 0 0 → j < n → x ≡ fit (c .shape .n + 1) (tablesOf (shapeOf (c .shape)) m .holds (base + j))
     → storedFrom (stateOf c m) q n j ≡ boolByte (not (eqb x 0)) + storedFrom (stateOf c m) q n (j + 1)
 unfolding storedFrom
-stored-step c m q n base j x e h held = tally-step (ltb 0) (heldAt (stateOf c m) q) n j h ∙ rw (holds-is c m q 0 base j x e held, some-not-zero)
+stored-step c m q n base j x e h holds = tally-step (ltb 0) (slotHolds (stateOf c m) q) n j h ∙ rw (holds-is c m q 0 base j x e holds, some-not-zero)
 
 pub byte-le : (t : Bool) → boolByte t ≤ 1
 byte-le true = omega arith

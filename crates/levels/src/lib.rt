@@ -48,25 +48,25 @@ pub fn next_filled(levels: usize, counter: usize, from: usize) -> usize
 }
 
 // Whether slot i is an unread dummy, by what the slots hold and by their marks. Most slots that are asked about hold a block, so that is asked first.
-fn is_dummy(held: &[u8], marks: &[u8], bound: usize, i: usize) -> bool
-    requires { ⌜ (i * 2 + 1 < length (now held)) × (i * 2 + 1 < length (now marks)) ⌝ }
-    ensures { λ r. ⌜ r ≡ freeAt bound (wordAt (now (held .entry))) (wordAt (now (marks .entry))) i ⌝ }
+fn is_dummy(holds: &[u8], marks: &[u8], bound: usize, i: usize) -> bool
+    requires { ⌜ (i * 2 + 1 < length (now holds)) × (i * 2 + 1 < length (now marks)) ⌝ }
+    ensures { λ r. ⌜ r ≡ freeAt bound (wordAt (now (holds .entry))) (wordAt (now (marks .entry))) i ⌝ }
 {
-    if memory::tables::fit(bound, memory::word(held, i)) != 0 {
+    if memory::tables::fit(bound, memory::word(holds, i)) != 0 {
         return false;
     }
     memory::tables::fit(2, memory::word(marks, i)) == 1
 }
 
 // The slot of the lowest of n items that is an unread dummy, by the order of the items and what there is of their slots.
-fn lowest_dummy(order: &[u8], held: &[u8], marks: &[u8], n: usize, bound: usize) -> Found
-    requires { ⌜ (n ≤ 65536) × (length (now order) ≡ n * 2) × (length (now held) ≡ n * 2) × (length (now marks) ≡ n * 2) ⌝ }
-    ensures { λ r. ⌜ foundOf r ≡ itemsFrom n bound (wordAt (now (order .entry))) (wordAt (now (held .entry))) (wordAt (now (marks .entry))) 0 ⌝ }
+fn lowest_dummy(order: &[u8], holds: &[u8], marks: &[u8], n: usize, bound: usize) -> Found
+    requires { ⌜ (n ≤ 65536) × (length (now order) ≡ n * 2) × (length (now holds) ≡ n * 2) × (length (now marks) ≡ n * 2) ⌝ }
+    ensures { λ r. ⌜ foundOf r ≡ itemsFrom n bound (wordAt (now (order .entry))) (wordAt (now (holds .entry))) (wordAt (now (marks .entry))) 0 ⌝ }
 {
     let mut k = 0;
     while k < n {
         let i = memory::tables::fit(n, memory::word(order, k));
-        if is_dummy(held, marks, bound, i) {
+        if is_dummy(holds, marks, bound, i) {
             return Found::At(i);
         }
         k += 1;
@@ -81,10 +81,10 @@ pub fn dummy(c: Client, m: &[u8], q: usize, l: usize) -> Found
 {
     let n = bits::pow2(l + 1);
     let base = cell(c.shape, q, l, 0);
-    let order = memory::tables::orders(c.shape, m, base, n);
-    let held = memory::tables::held(c.shape, m, base, n);
-    let marks = memory::tables::marks(c.shape, m, base, n);
-    lowest_dummy(order, held, marks, n, c.shape.n + 1)
+    let order = memory::tables::order_bytes(c.shape, m, base, n);
+    let holds = memory::tables::holds_bytes(c.shape, m, base, n);
+    let marks = memory::tables::mark_bytes(c.shape, m, base, n);
+    lowest_dummy(order, holds, marks, n, c.shape.n + 1)
 }
 
 // The next unread slot of the levels below `sources` of partition q, levels ascending, and slots ascending within a level. The levels below that

@@ -193,14 +193,14 @@ fn numbers(m: &[u8], k: usize, n: usize) -> &[u8]
 }
 
 // Of the n slots from cell c on: the bytes of their order, of what they hold, of their marks. A loop over these has one index to go by.
-pub fn orders(h: Shape, m: &[u8], c: usize, n: usize) -> &[u8]
+pub fn order_bytes(h: Shape, m: &[u8], c: usize, n: usize) -> &[u8]
     requires { ⌜ Fits (shapeOf h) (length (now m)) × (c + n ≤ h .p * slots (h .l)) ⌝ }
     ensures { λ r. ⌜ Numbers (now r) n (λ i. tablesOf (shapeOf h) (now (m .entry)) .order (c + i)) ⌝ }
 {
     numbers(m, 192 + 3 * h.n + c, n)
 }
 
-pub fn held(h: Shape, m: &[u8], c: usize, n: usize) -> &[u8]
+pub fn holds_bytes(h: Shape, m: &[u8], c: usize, n: usize) -> &[u8]
     requires { ⌜ Fits (shapeOf h) (length (now m)) × (c + n ≤ h .p * slots (h .l)) ⌝ }
     ensures { λ r. ⌜ Numbers (now r) n (λ i. tablesOf (shapeOf h) (now (m .entry)) .holds (c + i)) ⌝ }
 {
@@ -208,7 +208,7 @@ pub fn held(h: Shape, m: &[u8], c: usize, n: usize) -> &[u8]
     numbers(m, 192 + 3 * h.n + all + c, n)
 }
 
-pub fn marks(h: Shape, m: &[u8], c: usize, n: usize) -> &[u8]
+pub fn mark_bytes(h: Shape, m: &[u8], c: usize, n: usize) -> &[u8]
     requires { ⌜ Fits (shapeOf h) (length (now m)) × (c + n ≤ h .p * slots (h .l)) ⌝ }
     ensures { λ r. ⌜ Numbers (now r) n (λ i. tablesOf (shapeOf h) (now (m .entry)) .mark (c + i)) ⌝ }
 {

@@ -31,7 +31,7 @@ use Rattle.client.specs.View.{stateOf, view, rows, requestOf, bytesIn, placeOf,
 use Rattle.client.specs.Changes.{place-nowhere}
 use Rattle.client.specs.Moves.{noRequest}
 use Rattle.tape.specs.Tape.{wordsOf, draws-enough, draws-number, length-numbers}
-use Rattle.meets.specs.Meets.{callOf}
+use Rattle.contract.specs.Meets.{callOf}
 
 unfoldable pub openNumber : Shape → ℕ → ℕ → ℕ
 openNumber h len words = firstNo ((within h, 1) ∷ (leb (needed h) len, 2) ∷ (leb (h .N) words, 3) ∷ [])

@@ -1,7 +1,7 @@
 // Open draws a partition for each block, 0 upward.
 use client::Client;
 use client::Request;
-use meets::Answer;
+use contract::Answer;
 use memory::Shape;
 ghost use mathlib.Core.Path.{_≡_};
 ghost use mathlib.Core.Bool.{true};
@@ -14,18 +14,18 @@ ghost use Rattle.rules.specs.Memory.{needed};
 ghost use Rattle.rules.specs.Questions.{opening};
 ghost use Rattle.memory.specs.Fits.{shapeOf};
 ghost use Rattle.tape.specs.Tape.{wordsOf};
-ghost use Rattle.meets.specs.Answers.{clearedClient};
-ghost use Rattle.meets.specs.Meets.{Meets};
+ghost use Rattle.contract.specs.Answers.{clearedClient};
+ghost use Rattle.contract.specs.Meets.{Meets};
 ghost use Rattle.opening.specs.Opening.{openNumber, freshClient, Filled};
 
 // The number of an open, by the lengths lent.
 fn number(h: Shape, len: usize, words: usize) -> usize
     ensures { λ r. ⌜ r ≡ openNumber (shapeOf h) len words ⌝ }
 {
-    if !meets::is_within(h) {
+    if !contract::is_within(h) {
         return 1;
     }
-    if len < meets::needed(h) {
+    if len < contract::needed(h) {
         return 2;
     }
     if words < h.n {
@@ -39,7 +39,7 @@ fn clear(h: Shape, m: &mut [u8])
     requires { ⌜ (within (shapeOf h) ≡ true) × (needed (shapeOf h) ≤ length (now m)) ⌝ }
     ensures { λ _. ⌜ Filled h 0 (now (m .entry)) [] (now (m .exit)) ⌝ }
 {
-    let n = meets::needed(h);
+    let n = contract::needed(h);
     memory::blocks::clear(m, n);
 }
 
@@ -78,7 +78,7 @@ pub fn open(h: Shape, m: &mut [u8], tape: &[u8]) -> Answer
 {
     let n = number(h, m.len(), tape::words(tape));
     if n != 0 {
-        return meets::refused(n, meets::closed());
+        return contract::refused(n, contract::closed());
     }
     clear(h, m);
     draw_partitions(h, m, tape);

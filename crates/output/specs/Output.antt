@@ -20,7 +20,7 @@ total o = o .gone + o .at
 abbrev pub totalMost : ℕ
 totalMost = 18446744073709551615
 
--- There is room for a text; no byte is lost; and the buffer is as it was, or all that it held has left
+-- There is room for a text; no byte is lost; and the buffer is as it was, or all of it has left
 pub record Placed (o : Output) (out : List ℕ) (r : Output) (out′ : List ℕ) : Type 0 where
   pub room : r .at + textRoom ≤ outRoom
   pub all : total r ≡ total o
@@ -41,7 +41,7 @@ module _ (text out out′ : List ℕ) (o r : Output) (h : Holds text out o) (all
     rest = drop-of-length-le text {i = r .gone} (omega (arith, h .all)) ∙ ap (λ n. take n out′) (sym z);
   }
 
-  -- what was held is held where it was, or has left
+  -- what was in the buffer is where it was, or has left
   pub holds-placed : (0 < r .at → (r .at ≡ o .at) × (out′ ≡ out)) → Holds text out′ r
   holds-placed same = go (decLt 0 (r .at))
     where
@@ -52,7 +52,7 @@ module _ (text out out′ : List ℕ) (o r : Output) (h : Holds text out o) (all
           record { all = omega (arith, h .all); rest = ap (λ n. drop n text) g ∙ h .rest ∙ (λ i. take (sym a i) (sym (same l .1) i)) }
       go (no l) = holds-none (omega arith)
 
--- a text that is written behind what is held, is held too
+-- a text that is written behind what is in the buffer, is in it too
 pub holds-more : (text more out out′ : List ℕ) (o r : Output) → Holds text out o → r .gone ≡ o .gone → r .at ≡ o .at + length more → take (r .at) out′ ≡ take (o .at) out ++ more → Holds (text ++ more) out′ r
 holds-more text more out out′ o r h g a w = record {
   all = length-append text more ∙ omega (arith, h .all);

@@ -40,9 +40,9 @@ pub fn flush(out: &mut [u8; OUT], o: Output) -> Flushed
 {
     let all: &[u8] = out;
     let at = o.at;
-    let held = &all[..at];
-    let well = io::write_all(STDOUT, held);
-    let gone = o.gone + held.len() as u64;
+    let text = &all[..at];
+    let well = io::write_all(STDOUT, text);
+    let gone = o.gone + text.len() as u64;
     Flushed {
         output: Output { at: 0, gone },
         well,

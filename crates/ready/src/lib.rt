@@ -58,10 +58,10 @@ fn hand_fits(c: Client, m: &[u8]) -> bool
 pub fn shape_fits(h: Shape, len: usize) -> bool
     ensures { λ a. ⌜ a ≡ shapeFits (shapeOf h) len ⌝ }
 {
-    if !meets::is_within(h) {
+    if !contract::is_within(h) {
         return false;
     }
-    meets::needed(h) <= len
+    contract::needed(h) <= len
 }
 
 // With such a shape: each number of the state is in its range.

@@ -107,7 +107,7 @@ module _ (n b : ℕ) (xs o : List ℕ) (long : length o ≡ n) (u : NoDup o) (ro
   abbrev slot : ℕ
   slot = getD o (length xs) 0
 
-  -- another slot than that of the new block holds what it held
+  -- another slot than that of the new block holds what it did
   item-same : (x : ℕ) → ¬ (x ≡ slot) → Dec (Mem x o) → itemHolds xs (indexOf x o) ≡ itemHolds (xs ++ (b ∷ [])) (indexOf x o)
   unfolding itemHolds
   item-same x d (yes m) =

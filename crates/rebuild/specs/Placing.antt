@@ -46,8 +46,8 @@ module _ (c : Client) (m₀ m m′ m″ : List ℕ) (q t base n b x : ℕ) (xs :
     slot-in : x < slots t
     slot-in = rw (← size, read) (slot-lt h n (base + length xs) _ w)
 
-    held : NoDup o → put (base + x) (b + 1) (putAll base (newHolds (slots t) xs o) (stateOf c m₀ .holds)) ≡ putAll base (newHolds (slots t) (xs ++ (b ∷ [])) o) (stateOf c m₀ .holds)
-    held u =
+    slot-holds : NoDup o → put (base + x) (b + 1) (putAll base (newHolds (slots t) xs o) (stateOf c m₀ .holds)) ≡ putAll base (newHolds (slots t) (xs ++ (b ∷ [])) o) (stateOf c m₀ .holds)
+    slot-holds u =
         let one : b + 1 ≡ suc b = omega arith in
         let k : getD o (length xs) 0 < slots t = rw slot-is slot-in in
         rw (one, ← slot-is) (holds-more (slots t) b xs o (length-orderIn (stateOf c m₀) q t) u (omega arith) base (stateOf c m₀ .holds) k)
@@ -63,7 +63,7 @@ module _ (c : Client) (m₀ m m′ m″ : List ℕ) (q t base n b x : ℕ) (xs :
         let ln : n + x < slots (h .L) = rw size (spot-lt (h .L) t x level slot-in) in
         let first = moved c m₀ m m′ _ (λ s. setHolds (put (base + x) (b + 1) (s .holds)) s) now (puts-holds c m m′ (base + x) (b + 1) (omega arith) e) in
         let second = moved c m₀ m′ m″ _ (λ s. setPlace (put b (placeOf (h .L) (n + x)) (s .place)) s) first (puts-place c m′ m″ b (n + x) ln d) in
-        same-state c m₀ m″ _ _ second (λ k. setPlace (there new k) (setHolds (held u k) (stateOf c m₀)))
+        same-state c m₀ m″ _ _ second (λ k. setPlace (there new k) (setHolds (slot-holds u k) (stateOf c m₀)))
 
 -- a level that is emptied, and its blocks placed
 pub places-blocks : (c : Client) (m m′ m″ : List ℕ) (q t base n : ℕ) (xs : List ℕ) → n ≡ slots t → Stands c m m′ (emptied base n (stateOf c m))

@@ -2,7 +2,7 @@
 use client::Client;
 use client::Found;
 use client::Request;
-use meets::Answer;
+use contract::Answer;
 ghost use mathlib.Core.Path.{_≡_};
 ghost use Prim.Native.Nat.{_+_, _-_, _<_, _≤_, _^_};
 ghost use lib.ListN.{length, take};
@@ -20,9 +20,9 @@ ghost use Rattle.tape.specs.Tape.{wordsOf};
 ghost use Rattle.cache.specs.Longest.{LongestAt};
 ghost use Rattle.gather.specs.Gathered.{Gathers};
 ghost use Rattle.ready.specs.Usable.{Usable};
-ghost use Rattle.meets.specs.Meets.{Meets};
+ghost use Rattle.contract.specs.Meets.{Meets};
 ghost use Rattle.sending.specs.Chosen.{PlaceBelow, Chosen, extraAt, leftBy};
-ghost use Rattle.sending.specs.Turning.{Due, Reads, Writes, answerOf, passed};
+ghost use Rattle.sending.specs.Sent.{Due, Reads, Writes, answerOf, passed};
 
 // What a turn reports that sends this command.
 fn sent(
@@ -110,7 +110,7 @@ pub fn write_next(
     ensures { λ r. ⌜ Writes c (now (m .entry)) (now (buffer .entry)) r (now (m .exit)) (now (buffer .exit)) ⌝ }
 {
     if buffer.len() != c.shape.b {
-        return meets::refused(15, c);
+        return contract::refused(15, c);
     }
     let d = c.with_sent(i + 1);
     let e = commands::send(d, m, 2, q, t, i);
@@ -228,17 +228,17 @@ pub fn rebuild(
     ensures { λ r. ⌜ Meets c (stateOf c (now (m .entry))) turnOf (now (m .entry)) (now (tape .entry)) (now (buffer .entry)) r (now (m .exit)) (now (buffer .exit)) ⌝ }
 {
     if buffer.len() != c.shape.b {
-        return meets::refused(15, c);
+        return contract::refused(15, c);
     }
     if tape::words(tape) < bits::pow2(t + 1) - 1 {
-        return meets::refused(3, c);
+        return contract::refused(3, c);
     }
     let x = chosen(c, m, q);
     let limit = bits::pow2(t);
     let mut list = [0usize; 130];
     let k = plan(c, m, q, x, limit, &mut list);
     if limit < k {
-        return meets::refused(2, c);
+        return contract::refused(2, c);
     }
     send_rebuild(c, m, tape, buffer, q, t, x, &list, k)
 }

@@ -17,9 +17,9 @@ use Rattle.client.specs.declared.Client.{Client}
 use Rattle.client.specs.View.{stateOf}
 use Rattle.tape.specs.Tape.{wordsOf}
 use Rattle.lines.specs.Lines.{Line}
-use Rattle.meets.specs.declared.Answer.{Answer}
-use Rattle.meets.specs.Answers.{clearedClient}
-use Rattle.meets.specs.Meets.{commandOf, closed-is}
+use Rattle.contract.specs.declared.Answer.{Answer}
+use Rattle.contract.specs.Answers.{clearedClient}
+use Rattle.contract.specs.Meets.{commandOf, closed-is}
 use Rattle.printing.specs.Written.{Written}
 use Rattle.session.specs.Session as S
 use Rattle.session.specs.Session.{serves, gives, room, call, replied, brought, start, begun}

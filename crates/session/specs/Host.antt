@@ -26,7 +26,7 @@ use Rattle.lines.specs.Lines.{Line, opens, reads, writes, turns, collects, malf
 use Rattle.printing.specs.Text.{numberText}
 use Rattle.session.specs.Answers.{Slot}
 use Rattle.session.specs.Slots.{product-le, room-served, blocks-served, Spot, spot}
-use Rattle.session.specs.Opening.{bounds}
+use Rattle.session.specs.OpenLine.{bounds}
 
 -- "It serves N up to 64 and P × (2^(L+1) − 2) × B up to 16,384": the memory is long enough for each of these
 pub served-fits : (h : Shape) → within h ≡ true → serves h ≡ true → needed h ≤ room

@@ -21,8 +21,8 @@ use Rattle.memory.specs.Fits.{shapeOf}
 use Rattle.client.specs.declared.Client.{Client}
 use Rattle.client.specs.View.{stateOf, view}
 use Rattle.tape.specs.Tape.{wordsOf, length-words, word-is}
-use Rattle.meets.specs.declared.Answer.{Answer}
-use Rattle.meets.specs.Meets.{Meets, callOf}
+use Rattle.contract.specs.declared.Answer.{Answer}
+use Rattle.contract.specs.Meets.{Meets, callOf}
 use Rattle.printing.specs.Text.{numberText}
 use Rattle.printing.specs.Laws.{number-le as number-text-le}
 use Rattle.printing.specs.Written.{Written, same-text}

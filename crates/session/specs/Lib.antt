@@ -5,6 +5,6 @@ pub mod Checked
 pub mod Answers
 pub mod Laws
 pub mod Slots
-pub mod Opening
-pub mod Turning
+pub mod OpenLine
+pub mod TurnLine
 pub mod Host

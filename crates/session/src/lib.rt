@@ -1,7 +1,7 @@
 // The answer to one line of a session: the calls that it asks for, and the text that it prints.
 use client::Client;
+use contract::Answer;
 use lines::Line;
-use meets::Answer;
 use memory::Shape;
 ghost use mathlib.Core.Path.{_≡_};
 ghost use Prim.Native.Nat.{_+_, _*_, _-_, _≤_, _<_};
@@ -33,7 +33,7 @@ pub fn start() -> Session
     ensures { λ r. ⌜ r ≡ fresh ⌝ }
 {
     Session {
-        client: meets::closed(),
+        client: contract::closed(),
         taken: 0,
     }
 }
@@ -80,7 +80,7 @@ fn open_line(
     requires { ⌜ Served s (now tape) × (length (now memory) ≡ room) × (length (now tape) ≤ 16384) × (at + 1027 ≤ length (now out)) ⌝ }
     ensures { λ r. ⌜ AnswersApart s (opens (shapeOf h)) (now (memory .entry)) (now (tape .entry)) (now (out .entry)) at r (now (memory .exit)) (now (out .exit)) ⌝ }
 {
-    if !meets::is_within(h) {
+    if !contract::is_within(h) {
         return refuse(s, 1, out, at);
     }
     if !serves(h) {
@@ -113,7 +113,7 @@ fn ask_line(
     ensures { λ r. ⌜ Asks s kind block (now (contents .entry)) (now (memory .entry)) (now (tape .entry)) (now (out .entry)) at r (now (memory .exit)) (now (out .exit)) ⌝ }
 {
     let from = s.taken * 2;
-    let r = requests::request(s.client, memory, kind, block, contents, &tape[from..]);
+    let r = requesting::request(s.client, memory, kind, block, contents, &tape[from..]);
     if r.number != 0 {
         return refuse(s, r.number, out, at);
     }

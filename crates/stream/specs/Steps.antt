@@ -88,7 +88,7 @@ abbrev pub until : Bool → (List (List ℕ) → List ℕ) → List (List ℕ) �
 until true g ls = []
 until false g ls = g ls
 
--- A line prints a text, and the output's buffer holds it behind what it held: lines print f before it, and g after it
+-- A line prints a text, and the output's buffer has it behind what was there: lines print f before it, and g after it
 pub record Does (f : List (List ℕ) → List ℕ) (l : List ℕ) (o : Output) (out : List ℕ) (g : List (List ℕ) → List ℕ) (r : Output) (out′ : List ℕ) : Type 0 where
   pub text : List ℕ
   pub prints : (ls : List (List ℕ)) → f (l ∷ ls) ≡ text ++ g ls

@@ -205,6 +205,6 @@ history-start s chunk line b going first len at gone = record {
 pub history-due : (host past : List ℕ) (s : State) (chunk line : List ℕ) (b : Buffers) → History host past s chunk line b → s .output .at ≤ outRoom → total (s .output) ≤ totalMost → Due (b .out) (s .output)
 history-due host past s chunk line b h room count = record { room = room; count = count; host = host; input = past; holds = h .text }
 
--- what left and what is held is all that was printed
+-- what left and what is in the buffer is all that was printed
 pub history-end : (host past : List ℕ) (s : State) (chunk line : List ℕ) (b : Buffers) → History host past s chunk line b → (n : ℕ) → n ≡ total (s .output) → Prints host n
 history-end host past s chunk line b h n e = record { input = past; all = e ∙ sym (h .text .all) }

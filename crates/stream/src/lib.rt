@@ -122,7 +122,7 @@ fn respond(
 }
 
 // The first line is the tape, or it is answered as any other and the tape is empty. The session starts here, so that nothing is to be known of what
-// the tape's buffer held before.
+// was in the tape's buffer before.
 fn begin(
     s: State,
     line: &[u8],
@@ -146,7 +146,7 @@ fn begin(
     respond(t, line, tape, memory, host, out)
 }
 
-// Writes out what is answered, and then reads: nothing is held back while the read waits. Where nothing comes, at the input's end or by an error,
+// Writes out what is answered, and then reads: nothing stays behind while the read waits. Where nothing comes, at the input's end or by an error,
 // the session ends: the line that has begun has no newline. No contract can say which bytes the system reads: the input is what each read leaves in the
 // first bytes of the chunk, as many as it tells.
 fn refill(s: State, fd: i32, chunk: &mut [u8; CHUNK], out: &mut [u8; OUT]) -> State

@@ -7,7 +7,7 @@ use Rattle.rules.specs.Questions.{collect, number, bounds}
 use Rattle.rules.specs.Draws.{draws}
 use Rattle.rules.specs.Run.{refuse, act, sentCommand, handed, takenOf}
 use Rattle.client.specs.View.{stateOf, view}
-use Rattle.meets.specs.Meets.{meets-no, meets-yes}
+use Rattle.contract.specs.Meets.{meets-no, meets-yes}
 use Rattle.collecting.specs.Collecting.{Passed, collect-passed, collected-is, answer-is}
 use Rattle.collecting.proofs.collect.Statement.{statement}
 use Rattle.collecting.proofs.collect.Tie as tie

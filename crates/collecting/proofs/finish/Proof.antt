@@ -8,7 +8,7 @@ use Rattle.memory.specs.Fits.{shapeOf, fit-lt}
 use Rattle.client.specs.declared.Client.{Client}
 use Rattle.client.specs.View.{stateOf}
 use Rattle.client.specs.Moves.{Stands}
-use Rattle.client.specs.Readings.{heldOf, partition-is}
+use Rattle.client.specs.Readings.{handOf, partition-is}
 use Rattle.collecting.specs.Collecting.{Hand, hand-kept, newBytes, emptySlot, moved, renewed, queued, finish-is, after}
 use Rattle.collecting.proofs.finish.Statement.{statement}
 use Rattle.collecting.proofs.finish.Tie as tie
@@ -38,7 +38,7 @@ length-3 c = omega arith
 
 -- the states, one after the other
 state-2 : (c : tie.After-empty-slot) → let d = c .before .before .before .before in let a = d .before .before .before .before .before .before .args in
-    Stands (a .c) (a .m .now) (c .empty-slot .last .1 .0) (emptySlot (a .c .request .block) (d .before .before .partition .result) (newBytes (heldOf (a .c) (a .m .now)) (a .buffer .now) (stateOf (a .c) (a .m .now))))
+    Stands (a .c) (a .m .now) (c .empty-slot .last .1 .0) (emptySlot (a .c .request .block) (d .before .before .partition .result) (newBytes (handOf (a .c) (a .m .now)) (a .buffer .now) (stateOf (a .c) (a .m .now))))
 state-2 c =
     let d = c .before .before .before .before in
     let a = d .before .before .before .before .before .before .args in
@@ -46,7 +46,7 @@ state-2 c =
 
 state-3 : (c : tie.After-settle) → let d = c .before .before .before .before .before .before .before .before in let a = d .before .before .before .before .before .before .args in
     Stands (c .settle .result) (a .m .now) (c .settle .last .1 .0)
-    (renewed (a .c .request .block) (moved (a .c .request .block) (a .c .request .next) (emptySlot (a .c .request .block) (d .before .before .partition .result) (newBytes (heldOf (a .c) (a .m .now)) (a .buffer .now) (stateOf (a .c) (a .m .now))))))
+    (renewed (a .c .request .block) (moved (a .c .request .block) (a .c .request .next) (emptySlot (a .c .request .block) (d .before .before .partition .result) (newBytes (handOf (a .c) (a .m .now)) (a .buffer .now) (stateOf (a .c) (a .m .now))))))
 state-3 c =
     let e = c .before .before .before .before in
     let a = e .before .before .before .before .before .before .before .before .before .before .args in
@@ -95,7 +95,7 @@ returns c =
       g .queue .ensures .request,
       record {
         state = all .state
-            ∙ finish-is (heldOf (a .c) (a .m .now)) (stateOf (a .c) (a .m .now)) (k .partition .result) (a .buffer .now) (partition-is (a .c) (a .m .now) (a .c .request .block) (k .partition .result) (k .partition .ensures)) (s .pre .2);
+            ∙ finish-is (handOf (a .c) (a .m .now)) (stateOf (a .c) (a .m .now)) (k .partition .result) (a .buffer .now) (partition-is (a .c) (a .m .now) (a .c .request .block) (k .partition .result) (k .partition .ensures)) (s .pre .2);
         tail = all .tail;
       },
     )

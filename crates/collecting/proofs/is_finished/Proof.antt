@@ -5,7 +5,7 @@ use Rattle.lists.specs.Search.{member}
 use Rattle.memory.specs.Tables.{tablesOf}
 use Rattle.memory.specs.Fits.{shapeOf, fit-lt}
 use Rattle.client.specs.View.{stateOf, view}
-use Rattle.client.specs.Readings.{heldOf, partition-is, counter-is}
+use Rattle.client.specs.Readings.{handOf, partition-is, counter-is}
 use Rattle.collecting.specs.Collecting.{unfinished-held, unfinished-reads, finished-sent}
 use Rattle.collecting.proofs.is_finished.Statement.{statement}
 use Rattle.collecting.proofs.is_finished.Tie as tie
@@ -24,7 +24,7 @@ returns : tie.Need-returns
 returns c =
     let d = c .before .before in
     let a = d .before .before .args in
-    sym (unfinished-held (stateOf (a .c) (a .m .now)) (heldOf (a .c) (a .m .now)) (d .partition .result) (of d) (sym (c .before .is-queued .ensures) ∙ c .if1 .taken))
+    sym (unfinished-held (stateOf (a .c) (a .m .now)) (handOf (a .c) (a .m .now)) (d .partition .result) (of d) (sym (c .before .is-queued .ensures) ∙ c .if1 .taken))
 
 -- no job for it is queued
 unheld : (c : tie.Else1) → let a = c .before .before .before .before .args in member (c .before .before .partition .result) (stateOf (a .c) (a .m .now) .queue) ≡ false
@@ -50,7 +50,7 @@ returns-2 c =
     let k = n .before in
     let d = k .before .before .before in
     let a = d .before .before .args in
-    sym (unfinished-reads (stateOf (a .c) (a .m .now)) (heldOf (a .c) (a .m .now)) (d .partition .result) (of d) (unheld (k .before)) (k .counter .result) (grown k) _ _ (n .next-filled .ensures .some (c .if2 .taken)))
+    sym (unfinished-reads (stateOf (a .c) (a .m .now)) (handOf (a .c) (a .m .now)) (d .partition .result) (of d) (unheld (k .before)) (k .counter .result) (grown k) _ _ (n .next-filled .ensures .some (c .if2 .taken)))
 
 is-busy-requires : tie.Need-is-busy-requires
 is-busy-requires c κs = let p = c .before .before .before .before .before .before .before .pre in (p .room, p .out)
@@ -64,7 +64,7 @@ returns-3 c =
     let a = d .before .before .args in
     let e : n .next-filled .result ≡ a .c .shape .l = omega (arith, n .next-filled .ensures .end) in
     ap not (c .is-busy .ensures)
-    ∙ sym (finished-sent (stateOf (a .c) (a .m .now)) (heldOf (a .c) (a .m .now)) (d .partition .result) (of d) (unheld (k .before)) (k .counter .result) (grown k) (n .next-filled .ensures .none e))
+    ∙ sym (finished-sent (stateOf (a .c) (a .m .now)) (handOf (a .c) (a .m .now)) (d .partition .result) (of d) (unheld (k .before)) (k .counter .result) (grown k) (n .next-filled .ensures .none e))
 
 pub is-finished-spec : {M : Type 1} → statement M
 is-finished-spec =

@@ -7,7 +7,7 @@ use Rattle.rules.specs.Collect.{finished}
 use Rattle.rules.specs.Questions.{ready, questions, firstNo, number}
 use Rattle.client.specs.View.{stateOf}
 use Rattle.ready.specs.Usable.{usable}
-use Rattle.client.specs.Readings.{heldOf}
+use Rattle.client.specs.Readings.{handOf}
 use Rattle.collecting.specs.Collecting.{asked-none, asked-some, asked-finished, hand, size-is}
 use Rattle.collecting.proofs.number.Statement.{statement}
 use Rattle.collecting.proofs.number.Tie as tie
@@ -19,7 +19,7 @@ is-ready-requires c κs = omega arith
 begun : (c : tie.Else1) → let a = c .before .before .before .args in ready (stateOf (a .c) (a .m .now)) (length (a .m .now)) ≡ true
 begun c = sym (c .before .is-ready .ensures) ∙ not-false _ (c .if1 .left)
 
-done : (c : tie.Else3) → let a = c .before .before .before .before .before .before .before .args in finished (stateOf (a .c) (a .m .now)) (heldOf (a .c) (a .m .now)) ≡ true
+done : (c : tie.Else3) → let a = c .before .before .before .before .before .before .before .args in finished (stateOf (a .c) (a .m .now)) (handOf (a .c) (a .m .now)) ≡ true
 done c = sym (c .before .is-finished .ensures) ∙ not-false _ (c .if3 .left)
 
 returns : tie.Need-returns

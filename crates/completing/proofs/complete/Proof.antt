@@ -10,8 +10,8 @@ use Rattle.completing.proofs.complete.Tie as tie
 complete-requires : tie.Need-complete-requires
 complete-requires c κs = let p = c .before .before .before .pre in (p .room, p .out, p .place)
 
-gather-requires : tie.Need-gather-requires
-gather-requires c κs =
+store-read-requires : tie.Need-store-read-requires
+store-read-requires c κs =
     let k = c .before .before .before .before .complete in
     let s = c .before .before .before .before .before .before .before .before in
     let p = s .pre in
@@ -26,7 +26,7 @@ returns c =
     let k = c .before .before .before .before .before .before .before .complete in
     let s = c .before .before .before .before .before .before .before .before .before .before .before in
     let a = s .args in
-    (ap (λ (x : Client). x .request) (k .ensures .0), read-done (a .c) (k .result) (a .m .now) _ _ (a .bytes .now) (a .j) (s .pre) (k .ensures .1) _ (c .before .before .before .before .if1 .taken) (c .before .before .gather .ensures))
+    (ap (λ (x : Client). x .request) (k .ensures .0), read-done (a .c) (k .result) (a .m .now) _ _ (a .bytes .now) (a .j) (s .pre) (k .ensures .1) _ (c .before .before .before .before .if1 .taken) (c .before .before .store-read .ensures))
 
 finish-job-requires : tie.Need-finish-job-requires
 finish-job-requires c κs =
@@ -50,7 +50,7 @@ complete-spec =
     tie.close
     (tie.spec
     complete-requires
-    gather-requires
+    store-read-requires
     same-length
     returns
     finish-job-requires

@@ -10,9 +10,9 @@ use Rattle.levels.proofs.dummy.Tie as tie
 use Rattle.bits.proofs.pow2.Reads as pow2-reads
 use Rattle.levels.proofs.cell.Reads as cell-reads
 use Rattle.levels.proofs.lowest_dummy.Reads as lowest-dummy-reads
-use Rattle.memory.proofs.tables.held.Reads as held-reads
-use Rattle.memory.proofs.tables.marks.Reads as marks-reads
-use Rattle.memory.proofs.tables.orders.Reads as orders-reads
+use Rattle.memory.proofs.tables.holds_bytes.Reads as holds-bytes-reads
+use Rattle.memory.proofs.tables.mark_bytes.Reads as mark-bytes-reads
+use Rattle.memory.proofs.tables.order_bytes.Reads as order-bytes-reads
 
 -- the level's slots are within the tables
 level-end : (c : tie.After-cell) → let a = c .before .before .before .args in c .cell .result + c .before .pow2 .result ≤ a .c .shape .p * slots (a .c .shape .l)
@@ -29,14 +29,14 @@ pow2-requires c κs = omega arith
 cell-requires : tie.Need-cell-requires
 cell-requires c κs = omega arith
 
-orders-requires : tie.Need-orders-requires
-orders-requires c κs = (c .before .before .before .pre .0, level-end c)
+order-bytes-requires : tie.Need-order-bytes-requires
+order-bytes-requires c κs = (c .before .before .before .pre .0, level-end c)
 
-held-requires : tie.Need-held-requires
-held-requires c κs = (c .before .before .before .before .pre .0, level-end (c .before))
+holds-bytes-requires : tie.Need-holds-bytes-requires
+holds-bytes-requires c κs = (c .before .before .before .before .pre .0, level-end (c .before))
 
-marks-requires : tie.Need-marks-requires
-marks-requires c κs = (c .before .before .before .before .before .pre .0, level-end (c .before .before))
+mark-bytes-requires : tie.Need-mark-bytes-requires
+mark-bytes-requires c κs = (c .before .before .before .before .before .pre .0, level-end (c .before .before))
 
 add-lowest-dummy : tie.Need-add-lowest-dummy
 add-lowest-dummy c = omega arith
@@ -52,7 +52,7 @@ returns c =
     let k = o .before in
     let a = k .before .before .before in
     c .lowest-dummy .ensures
-    ∙ items-dummy (a .args .c) (a .args .m .now) (a .args .q) (a .args .l) (k .before .pow2 .result) (k .cell .result) _ _ _ (k .before .pow2 .ensures .0) (k .cell .ensures .0) (a .pre .2) (o .orders .ensures) (h .held .ensures) (x .marks .ensures)
+    ∙ items-dummy (a .args .c) (a .args .m .now) (a .args .q) (a .args .l) (k .before .pow2 .result) (k .cell .result) _ _ _ (k .before .pow2 .ensures .0) (k .cell .ensures .0) (a .pre .2) (o .order-bytes .ensures) (h .holds-bytes .ensures) (x .mark-bytes .ensures)
 
 pub dummy-spec : {M : Type 1} → statement M
 dummy-spec =
@@ -61,9 +61,9 @@ dummy-spec =
     add-pow2
     pow2-requires
     cell-requires
-    orders-requires
-    held-requires
-    marks-requires
+    order-bytes-requires
+    holds-bytes-requires
+    mark-bytes-requires
     add-lowest-dummy
     lowest-dummy-requires
     returns)

@@ -9,10 +9,10 @@ use Rattle.levels.proofs.lowest_dummy.Statement.{statement}
 use Rattle.levels.proofs.lowest_dummy.Tie as tie
 
 abbrev Inv-loop : tie.InvT-loop
-Inv-loop order held marks n bound k₀ k = itemsFrom n bound (wordAt order) (wordAt held) (wordAt marks) k ≡ itemsFrom n bound (wordAt order) (wordAt held) (wordAt marks) 0
+Inv-loop order holds marks n bound k₀ k = itemsFrom n bound (wordAt order) (wordAt holds) (wordAt marks) k ≡ itemsFrom n bound (wordAt order) (wordAt holds) (wordAt marks) 0
 
 abbrev μ-loop : tie.MeasureT-loop
-μ-loop order held marks n bound k₀ k = n - k
+μ-loop order holds marks n bound k₀ k = n - k
 
 -- what was read in a turn of the loop
 item : (c : tie.After-fit Inv-loop μ-loop) → let a = c .before .before .before .before .before .before .before .args in c .fit .result ≡ itemAt (a .n) (wordAt (a .order .now)) (c .before .before .before .loop .k)
@@ -22,8 +22,8 @@ inside : (c : tie.After-fit Inv-loop μ-loop) → c .fit .result < c .before .be
 inside c = rw (c .fit .ensures) (fit-lt _ _ (omega arith))
 
 tested : (c : tie.After-is-dummy Inv-loop μ-loop) → let a = c .before .before .before .before .before .before .before .before .args in
-    c .is-dummy .result ≡ freeAt (a .bound) (wordAt (a .held .now)) (wordAt (a .marks .now)) (itemAt (a .n) (wordAt (a .order .now)) (c .before .before .before .before .loop .k))
-tested c = let a = c .before .before .before .before .before .before .before .before .args in c .is-dummy .ensures ∙ ap (freeAt (a .bound) (wordAt (a .held .now)) (wordAt (a .marks .now))) (item (c .before))
+    c .is-dummy .result ≡ freeAt (a .bound) (wordAt (a .holds .now)) (wordAt (a .marks .now)) (itemAt (a .n) (wordAt (a .order .now)) (c .before .before .before .before .loop .k))
+tested c = let a = c .before .before .before .before .before .before .before .before .args in c .is-dummy .ensures ∙ ap (freeAt (a .bound) (wordAt (a .holds .now)) (wordAt (a .marks .now))) (item (c .before))
 
 loop-holds : tie.Need-loop-holds Inv-loop μ-loop
 loop-holds c = refl

@@ -7,7 +7,7 @@ use Rattle.memory.specs.Parts.{replaced, empty, cleared-tables}
 use Rattle.memory.specs.Fits.{shapeOf}
 use Rattle.opening.proofs.clear.Statement.{statement}
 use Rattle.opening.proofs.clear.Tie as tie
-use Rattle.meets.proofs.needed.Reads as needed-reads
+use Rattle.contract.proofs.needed.Reads as needed-reads
 use Rattle.memory.proofs.blocks.clear.Reads as clear-reads
 
 needed-requires : tie.Need-needed-requires

@@ -10,8 +10,8 @@ use Rattle.memory.specs.Fits.{shapeOf}
 use Rattle.opening.specs.Opening.{openNumber}
 use Rattle.opening.proofs.number.Statement.{statement}
 use Rattle.opening.proofs.number.Tie as tie
-use Rattle.meets.proofs.is_within.Reads as is-within-reads
-use Rattle.meets.proofs.needed.Reads as needed-reads
+use Rattle.contract.proofs.is_within.Reads as is-within-reads
+use Rattle.contract.proofs.needed.Reads as needed-reads
 
 is-within-requires : tie.Need-is-within-requires
 is-within-requires c κs = omega arith

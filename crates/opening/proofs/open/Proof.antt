@@ -12,13 +12,13 @@ use Rattle.rules.specs.Run.{refuse, act, sentCommand, handed}
 use Rattle.memory.specs.Fits.{shapeOf}
 use Rattle.client.specs.View.{stateOf, view}
 use Rattle.tape.specs.Tape.{wordsOf, taken-all}
-use Rattle.meets.specs.Answers.{clearedClient}
-use Rattle.meets.specs.Meets.{callOf, meets-no, meets-yes, closed-is}
+use Rattle.contract.specs.Answers.{clearedClient}
+use Rattle.contract.specs.Meets.{callOf, meets-no, meets-yes, closed-is}
 use Rattle.opening.specs.Opening.{openNumber, open-number, open-passed, Filled, fresh-is, filled-tail, filled-from, cleared-tail}
 use Rattle.opening.proofs.open.Statement.{statement}
 use Rattle.opening.proofs.open.Tie as tie
-use Rattle.meets.proofs.closed.Reads as closed-reads
-use Rattle.meets.proofs.refused.Reads as refused-reads
+use Rattle.contract.proofs.closed.Reads as closed-reads
+use Rattle.contract.proofs.refused.Reads as refused-reads
 use Rattle.opening.proofs.clear.Reads as clear-reads
 use Rattle.opening.proofs.draw_partitions.Reads as draw-partitions-reads
 use Rattle.opening.proofs.fresh.Reads as fresh-reads

@@ -6,8 +6,8 @@ use native.Mathlib.Omega.{arith}
 use Rattle.output.proofs.flush.Statement.{statement}
 use Rattle.output.proofs.flush.Tie as tie
 
-slice-aggregate-held : tie.Need-slice-aggregate-held
-slice-aggregate-held c = sym (length-take-le _ _ (search needs))
+slice-aggregate-text : tie.Need-slice-aggregate-text
+slice-aggregate-text c = sym (length-take-le _ _ (search needs))
 
 write-all-requires : tie.Need-write-all-requires
 write-all-requires c κs = search needs
@@ -23,4 +23,4 @@ returns : tie.Need-returns
 returns c = omega (arith, handed c)
 
 pub flush-spec : {M : Type 1} → statement M
-flush-spec = tie.close (tie.spec slice-aggregate-held write-all-requires add-gone returns)
+flush-spec = tie.close (tie.spec slice-aggregate-text write-all-requires add-gone returns)

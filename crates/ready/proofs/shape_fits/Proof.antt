@@ -6,8 +6,8 @@ use Rattle.rules.specs.Shape.{within}
 use Rattle.ready.specs.Usable.{shapeFits}
 use Rattle.ready.proofs.shape_fits.Statement.{statement}
 use Rattle.ready.proofs.shape_fits.Tie as tie
-use Rattle.meets.proofs.is_within.Reads as is-within-reads
-use Rattle.meets.proofs.needed.Reads as needed-reads
+use Rattle.contract.proofs.is_within.Reads as is-within-reads
+use Rattle.contract.proofs.needed.Reads as needed-reads
 
 is-within-requires : tie.Need-is-within-requires
 is-within-requires c κs = omega arith

@@ -2,7 +2,7 @@ use Rattle.memory.specs.Fits.{fit-lt}
 use Prim.Native.Nat.{ℕ, _+_, _<_}
 use mathlib.Core.Path.{ap, sym, _∙_}
 use lib.ListN.{replicate}
-use Rattle.sending.specs.Turning.{slot-dummy, slot-block}
+use Rattle.sending.specs.Sent.{slot-dummy, slot-block}
 use native.Mathlib.Omega.{arith}
 use Rattle.sending.proofs.put_bytes.Statement.{statement}
 use Rattle.sending.proofs.put_bytes.Tie as tie

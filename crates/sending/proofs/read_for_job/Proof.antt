@@ -4,7 +4,7 @@ use Prim.Native.Nat.{suc, _+_, _-_, _≤_}
 use Rattle.rules.specs.Shape.{slots, offset}
 use Rattle.rules.specs.Turn.{readForJob, command, stepBounds}
 use Rattle.rules.specs.Questions.{sends, possible}
-use Rattle.sending.specs.Turning.{read-meets, job-sent}
+use Rattle.sending.specs.Sent.{read-meets, job-sent}
 use native.Mathlib.Omega.{arith}
 use Rattle.sending.proofs.read_for_job.Statement.{statement}
 use Rattle.sending.proofs.read_for_job.Tie as tie

@@ -1,7 +1,7 @@
 use mathlib.Core.Path.{refl}
 use Rattle.rules.specs.Turn.{readForRequest, command, stepBounds}
 use Rattle.rules.specs.Questions.{sends, possible}
-use Rattle.sending.specs.Turning.{read-meets, request-sent}
+use Rattle.sending.specs.Sent.{read-meets, request-sent}
 use native.Mathlib.Omega.{arith}
 use Rattle.sending.proofs.read_for_request.Statement.{statement}
 use Rattle.sending.proofs.read_for_request.Tie as tie

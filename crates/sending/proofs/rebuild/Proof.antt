@@ -11,13 +11,13 @@ use Rattle.rules.specs.Laws.Orders.{length-bounds}
 use Rattle.client.specs.View.{stateOf}
 use Rattle.tape.specs.Tape.{wordsOf}
 use Rattle.sending.specs.Chosen.{room-no, room-all}
-use Rattle.sending.specs.Turning.{refuses, other-buffer, few-words, no-room}
+use Rattle.sending.specs.Sent.{refuses, other-buffer, few-words, no-room}
 use Rattle.sending.proofs.rebuild.Statement.{statement}
 use Rattle.sending.proofs.rebuild.Tie as tie
 use Rattle.sending.proofs.rebuild.Reads as reads
 use Rattle.sending.proofs.rebuild.Lts as lts
 use Rattle.bits.proofs.pow2.Reads as pow2-reads
-use Rattle.meets.proofs.refused.Reads as refused-reads
+use Rattle.contract.proofs.refused.Reads as refused-reads
 use Rattle.sending.proofs.chosen.Reads as chosen-reads
 use Rattle.sending.proofs.plan.Reads as plan-reads
 use Rattle.sending.proofs.send_rebuild.Reads as send-rebuild-reads

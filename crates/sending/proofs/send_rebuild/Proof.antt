@@ -9,7 +9,7 @@ use Rattle.rules.specs.Questions.{sends}
 use Rattle.rules.specs.Laws.Orders.{length-bounds}
 use Rattle.client.specs.View.{stateOf}
 use Rattle.sending.specs.Chosen.{room-yes}
-use Rattle.sending.specs.Turning.{write-meets, rebuild-sent}
+use Rattle.sending.specs.Sent.{write-meets, rebuild-sent}
 use native.Mathlib.Omega.{arith}
 use Rattle.sending.proofs.send_rebuild.Statement.{statement}
 use Rattle.sending.proofs.send_rebuild.Tie as tie

@@ -7,7 +7,7 @@ use Rattle.rules.specs.Shape.{slots}
 use Rattle.client.specs.View.{stateOf, view}
 use Rattle.client.specs.Readings.{sources-is}
 use Rattle.sending.specs.Chosen.{gathered-once, gathered-below, place-below}
-use Rattle.sending.specs.Turning.{rebuilt-stands}
+use Rattle.sending.specs.Sent.{rebuilt-stands}
 use native.Mathlib.Omega.{arith}
 use Rattle.sending.proofs.write_level.Statement.{statement}
 use Rattle.sending.proofs.write_level.Tie as tie

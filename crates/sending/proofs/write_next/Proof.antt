@@ -6,7 +6,7 @@ use mathlib.Core.Path.{_≡_, refl, ap, _∙_}
 use mathlib.Core.List.{[]}
 use Rattle.rules.specs.Turn.{writeNext, command, stepBounds}
 use Rattle.rules.specs.Questions.{sends, possible}
-use Rattle.sending.specs.Turning.{refuses, other-buffer, write-meets, write-sent}
+use Rattle.sending.specs.Sent.{refuses, other-buffer, write-meets, write-sent}
 use native.Mathlib.Omega.{arith}
 use Rattle.sending.proofs.write_next.Statement.{statement}
 use Rattle.sending.proofs.write_next.Tie as tie
@@ -14,7 +14,7 @@ use Rattle.sending.proofs.write_next.Reads as reads
 use Rattle.sending.proofs.write_next.Lts as lts
 use Rattle.client.proofs.Client.with_sent.Reads as with-sent-reads
 use Rattle.commands.proofs.send.Reads as send-reads
-use Rattle.meets.proofs.refused.Reads as refused-reads
+use Rattle.contract.proofs.refused.Reads as refused-reads
 use Rattle.sending.proofs.put_bytes.Reads as put-bytes-reads
 use Rattle.sending.proofs.sent.Reads as sent-reads
 

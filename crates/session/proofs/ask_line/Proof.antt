@@ -7,7 +7,7 @@ use Rattle.session.proofs.ask_line.Tie as tie
 use Rattle.session.proofs.ask_line.Reads as reads
 use Rattle.session.proofs.ask_line.Lts as lts
 use Rattle.printing.proofs.number.Reads as number-reads
-use Rattle.requests.proofs.request.Reads as request-reads
+use Rattle.requesting.proofs.request.Reads as request-reads
 use Rattle.session.proofs.later.Reads as later-reads
 use Rattle.session.proofs.refuse.Reads as refuse-reads
 

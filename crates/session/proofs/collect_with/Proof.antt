@@ -1,7 +1,7 @@
 use native.Mathlib.Omega.{arith}
 use Rattle.tape.specs.Tape.{length-words}
 use Rattle.session.specs.Laws.{meets-small}
-use Rattle.session.specs.Turning.{collect-taken, collects-no, collects-yes}
+use Rattle.session.specs.TurnLine.{collect-taken, collects-no, collects-yes}
 use Rattle.session.proofs.collect_with.Statement.{statement}
 use Rattle.session.proofs.collect_with.Tie as tie
 use Rattle.session.proofs.collect_with.Reads as reads

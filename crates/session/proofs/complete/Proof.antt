@@ -4,7 +4,7 @@ use lib.ListN.{length, take, drop}
 use native.Mathlib.Omega.{arith}
 use Rattle.memory.specs.Parts.{part-put}
 use Rattle.session.specs.Session.{fetched}
-use Rattle.session.specs.Turning.{completes-write, completes-read}
+use Rattle.session.specs.TurnLine.{completes-write, completes-read}
 use Rattle.session.proofs.complete.Statement.{statement}
 use Rattle.session.proofs.complete.Tie as tie
 use Rattle.session.proofs.complete.Reads as reads

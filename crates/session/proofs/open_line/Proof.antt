@@ -8,12 +8,12 @@ use Rattle.memory.specs.Fits.{shapeOf}
 use Rattle.tape.specs.Tape.{length-words}
 use Rattle.session.specs.Session.{serves}
 use Rattle.session.specs.Laws.{left-le, left-whole, meets-small}
-use Rattle.session.specs.Opening.{bounds, opens-out, opens-large, opens-no, opens-yes, opens-taken}
+use Rattle.session.specs.OpenLine.{bounds, opens-out, opens-large, opens-no, opens-yes, opens-taken}
 use Rattle.session.proofs.open_line.Statement.{statement}
 use Rattle.session.proofs.open_line.Tie as tie
 use Rattle.session.proofs.open_line.Reads as reads
 use Rattle.session.proofs.open_line.Lts as lts
-use Rattle.meets.proofs.is_within.Reads as is-within-reads
+use Rattle.contract.proofs.is_within.Reads as is-within-reads
 use Rattle.opening.proofs.open.Reads as open-reads
 use Rattle.printing.proofs.number.Reads as number-reads
 use Rattle.session.proofs.later.Reads as later-reads

@@ -1,7 +1,7 @@
 use native.Mathlib.Omega.{arith}
 use Rattle.session.proofs.start.Statement.{statement}
 use Rattle.session.proofs.start.Tie as tie
-use Rattle.meets.proofs.closed.Reads as closed-reads
+use Rattle.contract.proofs.closed.Reads as closed-reads
 
 closed-requires : tie.Need-closed-requires
 closed-requires c κs = omega arith

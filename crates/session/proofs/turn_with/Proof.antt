@@ -7,7 +7,7 @@ use Rattle.tape.specs.Tape.{length-words}
 use Rattle.session.specs.Answers.{Slot}
 use Rattle.session.specs.Laws.{left-le, left-whole, meets-small}
 use Rattle.session.specs.Slots.{slots-most}
-use Rattle.session.specs.Turning.{turn-shape, turn-taken, turn-sent, turn-slot, turns-no, turns-yes}
+use Rattle.session.specs.TurnLine.{turn-shape, turn-taken, turn-sent, turn-slot, turns-no, turns-yes}
 use Rattle.session.proofs.turn_with.Statement.{statement}
 use Rattle.session.proofs.turn_with.Tie as tie
 use Rattle.session.proofs.turn_with.Reads as reads

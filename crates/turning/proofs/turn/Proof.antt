@@ -8,7 +8,7 @@ use Rattle.rules.specs.Questions.{ready}
 use Rattle.client.specs.View.{stateOf}
 use Rattle.ready.specs.Usable.{usable, unready-part}
 use Rattle.deciding.specs.Steps.{stepOf}
-use Rattle.sending.specs.Turning.{Due, due, refuses, idle-number, lacks-number, not-ready, window-full}
+use Rattle.sending.specs.Sent.{Due, due, refuses, idle-number, lacks-number, not-ready, window-full}
 use Rattle.turning.proofs.turn.Statement.{statement}
 use Rattle.turning.proofs.turn.Tie as tie
 

@@ -1,0 +1,20 @@
+-- Answers as records.
+use Prim.Native.Nat.{ℕ}
+use Rattle.client.specs.declared.Client.{Client}
+use Rattle.client.specs.Moves.{noRequest}
+use Rattle.contract.specs.declared.Answer.{Answer}
+
+abbrev pub refusedWith : ℕ → Client → Answer
+refusedWith n c = record { number = n; taken = 0; kind = 0; partition = 0; level = 0; slot = 0; client = c }
+
+-- the closed state, all zeros
+abbrev pub clearedClient : Client
+clearedClient = record {
+  shape = record { n = 0; p = 0; l = 0; b = 0; e = 0; w = 0 };
+  request = noRequest;
+  jobs = 0;
+  cursor = 0;
+  sent = 0;
+  waiting = 0;
+  out = 0;
+}

@@ -1,0 +1,100 @@
+// What a call answers, and the questions about a shape.
+use client::Client;
+use client::Request;
+use memory::Shape;
+ghost use mathlib.Core.Path.{_≡_};
+ghost use Prim.Native.Nat.{_+_, _-_, _*_};
+ghost use mathlib.Core.Bool.{true};
+ghost use mathlib.Core.List.{[], _∷_};
+ghost use Rattle.lists.specs.Search.{member};
+ghost use Rattle.rules.specs.Shape.{within};
+ghost use Rattle.rules.specs.Memory.{needed as neededOf};
+ghost use Rattle.memory.specs.Fits.{shapeOf};
+ghost use Rattle.contract.specs.Answers.{refusedWith, clearedClient};
+
+// The number, the words taken, the command sent (zeros for none), and the next state.
+pub struct Answer {
+    pub number: usize,
+    pub taken: usize,
+    pub kind: usize,
+    pub partition: usize,
+    pub level: usize,
+    pub slot: usize,
+    pub client: Client,
+}
+
+// A refusal reports 0 words and a command of zeros.
+pub fn refused(number: usize, client: Client) -> Answer
+    ensures { λ r. ⌜ r ≡ refusedWith number client ⌝ }
+{
+    Answer {
+        number,
+        taken: 0,
+        kind: 0,
+        partition: 0,
+        level: 0,
+        slot: 0,
+        client,
+    }
+}
+
+// The closed state, all zeros.
+pub fn closed() -> Client
+    ensures { λ r. ⌜ r ≡ clearedClient ⌝ }
+{
+    Client {
+        shape: Shape {
+            n: 0,
+            p: 0,
+            l: 0,
+            b: 0,
+            e: 0,
+            w: 0,
+        },
+        request: Request::none(),
+        jobs: 0,
+        cursor: 0,
+        sent: 0,
+        waiting: 0,
+        out: 0,
+    }
+}
+
+// Whether P is 1, 2, 4, .. 64: up to 64, and its one bit is gone from the number before it.
+fn is_power(p: usize) -> bool
+    ensures { λ r. ⌜ r ≡ member p (1 ∷ 2 ∷ 4 ∷ 8 ∷ 16 ∷ 32 ∷ 64 ∷ []) ⌝ }
+{
+    if p == 0 {
+        return false;
+    }
+    (p <= 64) & (p & (p - 1) == 0)
+}
+
+// Whether the shape is within bounds.
+pub fn is_within(h: Shape) -> bool
+    ensures { λ r. ⌜ r ≡ within (shapeOf h) ⌝ }
+{
+    let small = (1 <= h.n)
+        & (h.n <= 4096)
+        & is_power(h.p)
+        & (1 <= h.l)
+        & (h.l <= 8)
+        & (1 <= h.b)
+        & (h.b <= 512)
+        & (1 <= h.e)
+        & (h.e <= h.n)
+        & (1 <= h.w)
+        & (h.w <= 32);
+    if !small {
+        return false;
+    }
+    h.n <= h.p * bits::pow2(h.l - 1)
+}
+
+// The bytes of memory that a shape within bounds needs.
+pub fn needed(h: Shape) -> usize
+    requires { ⌜ within (shapeOf h) ≡ true ⌝ }
+    ensures { λ r. ⌜ r ≡ neededOf (shapeOf h) ⌝ }
+{
+    384 + 6 * h.n + 6 * memory::tables::cells(h) + (h.n + 1) * h.b
+}

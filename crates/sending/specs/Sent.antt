@@ -1,0 +1,290 @@
+-- A turn by the step that it decides: its number, and what it leaves.
+use mathlib.Core.Path.{_≡_, refl, ap, sym, _∙_}
+use mathlib.Core.Bool.{Bool, true, false, not, _||_}
+use mathlib.Core.List.{List, [], _∷_}
+use mathlib.Core.Option.{none, some}
+use Prim.Native.Nat.{ℕ, zero, suc, _+_, _-_, _≤_, _<_}
+use native.Mathlib.Omega.{arith}
+use lib.ListN.{length, replicate}
+use lib.Dec.{eqb, leb, ltb}
+use borrow.Author.Tests.{lt-ltb, le-ltb, le-leb, lt-leb, eq-eqb, ne-eqb}
+use Rattle.lists.specs.Tests.{if_then_else_}
+use Rattle.rules.specs.Shape.{slots, cell, offset}
+use Rattle.rules.specs.State.{State, Command, cmd, read, write}
+use Rattle.rules.specs.Setters.{setRequest, setCursor, setSent, setWaiting}
+use Rattle.rules.specs.Draws.{draws, newOrder}
+use Rattle.rules.specs.Levels.{sources}
+use Rattle.rules.specs.Request.{passLevel}
+use Rattle.rules.specs.Blocks.{holder, slotBytes, named, zeros}
+use Rattle.rules.specs.Rebuild.{gathered, doRebuild}
+use Rattle.rules.specs.Turn.{Step, idle, noDummy, readForRequest, readForJob, rebuild, writeNext, decide, command, stepBounds, markRead, send, doStep}
+use Rattle.rules.specs.Questions.{turn, ready, sends, possible, questions, firstNo, number, bounds}
+use Rattle.rules.specs.Run.{act, sentCommand, handed, written, numbersOf, refuse}
+use Rattle.rules.specs.Laws.Asked.{reads-asked}
+use Rattle.rules.specs.Laws.Decided.{StepIn, decide-in}
+use Rattle.memory.specs.Fits.{shapeOf, fit, fit-lt}
+use Rattle.memory.specs.Tables.{tablesOf}
+use Rattle.client.specs.declared.Client.{Client}
+use Rattle.client.specs.View.{stateOf, view, handBy, requestOf, bytesIn}
+use Rattle.client.specs.Rows.{length-rows}
+use Rattle.client.specs.Readings.{hand-none}
+use Rattle.client.specs.Moves.{atLevel, withRequest, withCursor, withSent, withOut, Stands, then as next}
+use Rattle.tape.specs.Tape.{wordsOf, draws-enough, taken-all}
+use Rattle.ready.specs.Usable.{Usable}
+use Rattle.contract.specs.declared.Answer.{Answer}
+use Rattle.contract.specs.Answers.{refusedWith}
+use Rattle.contract.specs.Meets.{callOf, handedTo, commandOf, Meets, meets-no, meets-yes}
+use Rattle.rebuild.specs.Target.{rebuilt, rebuild-is}
+use Rattle.client.specs.declared.Found.{Found}
+use Rattle.sending.specs.Chosen.{Chosen, leftBy}
+
+-- a turn that may be made, and the step that it decides
+pub record Due (c : Client) (m : List ℕ) (x : Step) : Type 0 where
+  pub ready : ready (stateOf c m) (length m) ≡ true
+  pub usable : Usable c m
+  pub free : c .out < c .shape .w
+  pub step : decide (stateOf c m) ≡ x
+  pub inside : StepIn (shapeOf (c .shape)) x
+
+pub due : (c : Client) (m : List ℕ) (x : Step) → ready (stateOf c m) (length m) ≡ true → Usable c m → c .out < c .shape .w → decide (stateOf c m) ≡ x → Due c m x
+due c m x r u f e = record { ready = r; usable = u; free = f; step = e; inside = rw (sym e) (unfold stateOf view in (decide-in (stateOf c m) (u .range))) }
+
+-- a turn that sends a read, whatever the tape and the buffer; one that sends a write without a draw, whatever the tape
+abbrev pub Reads : Client → List ℕ → Answer → List ℕ → Type 0
+Reads c m r m′ = (tape b : List ℕ) → Meets c (stateOf c m) turn m tape b r m′ b
+
+abbrev pub Writes : Client → List ℕ → List ℕ → Answer → List ℕ → List ℕ → Type 0
+Writes c m b r m′ b′ = (tape : List ℕ) → Meets c (stateOf c m) turn m tape b r m′ b′
+
+abbrev pub answerOf : Client → ℕ → ℕ → ℕ → ℕ → ℕ → Answer
+answerOf c n k q l i = record { number = 0; taken = n; kind = k; partition = q; level = l; slot = i; client = c }
+
+-- A turn of the client c leaves e, which stands for s; while no request is in hand, its numbers stay
+pub record Left (c e : Client) (m m′ : List ℕ) (s : State) : Type 0 where
+  pub stands : Stands e m m′ s
+  pub idle : e .request .kind ≡ 0 → e .request ≡ c .request
+
+-- ---- The number
+
+module _ (c : Client) (m : List ℕ) where
+  out-is : length (stateOf c m .outstanding) ≡ c .out
+  unfolding stateOf view
+  out-is = length-rows _ (c .out)
+
+  bytes-is : stateOf c m .shape .B ≡ c .shape .b
+  unfolding stateOf view
+  bytes-is = refl
+
+  window-is : stateOf c m .shape .W ≡ c .shape .w
+  unfolding stateOf view
+  window-is = refl
+
+module _ (c : Client) (m tape b : List ℕ) (x : Step) (d : Due c m x) where
+  abbrev s : State
+  s = stateOf c m
+
+  -- what is left to ask
+  abbrev asked : List (Bool × ℕ)
+  asked =
+      (sends x, 10)
+      ∷ (not (eqb (command x .kind) write) || eqb (length b) (c .shape .b), 15)
+      ∷ (leb (length (stepBounds x)) (length (wordsOf tape)), 3)
+      ∷ (possible s x, 2) ∷ []
+
+  pub turn-number : number s (callOf turn m tape b) ≡ firstNo asked
+  unfolding number questions bounds firstNo
+  turn-number = rw (d .ready, d .step, out-is c m, window-is c m, lt-ltb (c .out) (c .shape .w) (d .free), bytes-is c m, draws-enough (stepBounds x) (wordsOf tape))
+
+  -- a turn that is refused
+  pub refuses : (n : ℕ) → firstNo asked ≡ n → (n ≡ 0 → ⊥) → Meets c s turn m tape b (refusedWith n c) m b
+  unfolding refuse
+  refuses n e z = meets-no c s turn m tape b n (sym e ∙ sym turn-number) z refl
+
+  -- a turn that is accepted
+  abbrev drawn : List ℕ
+  drawn = numbersOf (draws (stepBounds x) (wordsOf tape))
+
+  pub accepts : (r : Answer) (m′ b′ : List ℕ) → firstNo asked ≡ 0 → length (stepBounds x) ≤ length (wordsOf tape)
+      → r .number ≡ 0 → r .taken ≡ length (stepBounds x) → commandOf r ≡ command x
+      → Left c (r .client) m m′ (doStep x drawn s) → b′ ≡ handedTo b (written (doStep x drawn s) (command x)) → Meets c s turn m tape b r m′ b′
+  unfolding bounds act sentCommand handed stateOf view
+  accepts r m′ b′ e l n t k f h = meets-yes c s turn m tape b r m′ b′ (record {
+    yes = turn-number ∙ e;
+    number = n;
+    taken = rw (d .step) (t ∙ sym (taken-all (stepBounds x) (wordsOf tape) l));
+    command = rw (d .step) k;
+    state = rw (d .step) (f .stands .state);
+    idle = f .idle;
+    buffer = rw (d .step) h;
+    tail = f .stands .tail;
+  })
+
+-- ---- What a turn hands out
+
+-- the bytes of a slot that holds nothing
+pub slot-dummy : (c : Client) (m : List ℕ) (q l i x : ℕ) → x ≡ cell (shapeOf (c .shape)) q l i → fit (c .shape .n + 1) (tablesOf (shapeOf (c .shape)) m .holds x) ≡ 0
+    → slotBytes (stateOf c m) (holder (stateOf c m) q l i) ≡ replicate (c .shape .b) 0
+unfolding stateOf view holder named slotBytes zeros
+slot-dummy c m q l i x e z = ap (λ y. slotBytes (stateOf c m) (named (fit (c .shape .n + 1) (tablesOf (shapeOf (c .shape)) m .holds y)))) (sym e) ∙ ap (λ v. slotBytes (stateOf c m) (named v)) z
+
+-- and of one that holds a block
+pub slot-block : (c : Client) (m : List ℕ) (q l i x v : ℕ) → x ≡ cell (shapeOf (c .shape)) q l i → v ≡ fit (c .shape .n + 1) (tablesOf (shapeOf (c .shape)) m .holds x) → (v ≡ 0 → ⊥)
+    → slotBytes (stateOf c m) (holder (stateOf c m) q l i) ≡ tablesOf (shapeOf (c .shape)) m .blocks (v - 1)
+unfolding stateOf view holder named slotBytes
+slot-block c m q l i x v e z n =
+    ap (λ y. slotBytes (stateOf c m) (named (fit (c .shape .n + 1) (tablesOf (shapeOf (c .shape)) m .holds y)))) (sym e)
+    ∙ ap (λ v. slotBytes (stateOf c m) (named v)) (sym z)
+    ∙ go v n (rw z (fit-lt (c .shape .n + 1) (tablesOf (shapeOf (c .shape)) m .holds x) (omega arith)))
+  where
+    go : (v : ℕ) → (v ≡ 0 → ⊥) → v < c .shape .n + 1 → slotBytes (stateOf c m) (named v) ≡ tablesOf (shapeOf (c .shape)) m .blocks (v - 1)
+    go zero n l = absurd (n refl)
+    go (suc b) n l = unfold bytesIn in (rw (lt-ltb b (c .shape .n) (omega arith)) (ap (tablesOf (shapeOf (c .shape)) m .blocks) (omega arith)))
+
+handed-some : (b ys : List ℕ) → 1 ≤ length ys → handedTo b ys ≡ ys
+handed-some b [] l = absurd (omega arith)
+handed-some b (y ∷ ys) l = refl
+
+pub handed-read : (b : List ℕ) (s : State) (q l i : ℕ) → b ≡ handedTo b (written s (cmd read q l i))
+unfolding written
+handed-read b s q l i = refl
+
+pub handed-write : (b b′ : List ℕ) (s : State) (q l i : ℕ) → 1 ≤ length b′ → b′ ≡ slotBytes s (holder s q l i) → b′ ≡ handedTo b (written s (cmd write q l i))
+unfolding written
+handed-write b b′ s q l i n e = e ∙ sym (handed-some b (slotBytes s (holder s q l i)) (rw (sym e) n))
+
+-- ---- What it changes
+
+restated : {c : Client} {m m′ : List ℕ} {s s′ : State} → Stands c m m′ s → s ≡ s′ → Stands c m m′ s′
+restated k e = record { state = k .state ∙ e; tail = k .tail }
+
+left : {c e : Client} {m m′ : List ℕ} {s : State} → (e .request .kind ≡ 0 → e .request ≡ c .request) → Stands e m m′ s → Left c e m m′ s
+left i k = record { stands = k; idle = i }
+
+-- the request goes on from the level above l
+abbrev pub passed : ℕ → Client → Client
+passed l c = withRequest (atLevel (l + 1) (c .request)) c
+
+passed-is : (l : ℕ) (c : Client) (m : List ℕ) → stateOf (passed l c) m ≡ setRequest (passLevel l (stateOf c m .request)) (stateOf c m)
+unfolding stateOf view requestOf passLevel
+passed-is l c m = ap (λ o. setRequest o (stateOf c m)) (go (eqb (c .request .kind) 0))
+  where
+    bs : List ℕ
+    bs = tablesOf (shapeOf (c .shape)) m .blocks (c .shape .n)
+
+    go : (t : Bool) → (if t then none else some (handBy (atLevel (l + 1) (c .request)) bs)) ≡ passLevel l (if t then none else some (handBy (c .request) bs))
+    go true = refl
+    go false = ap (λ n. some (handBy (atLevel n (c .request)) bs)) (omega arith)
+
+module _ (c d e : Client) (m m₁ m₂ : List ℕ) where
+  abbrev S : State
+  S = stateOf c m
+
+  pub request-sent : (q l i : ℕ) → decide S ≡ readForRequest q l i → Stands c m m₁ (markRead q l i S) → d ≡ passed l c → e ≡ withOut (d .out + 1) d → Stands e m₁ m₂ (send (cmd 1 q l i) (stateOf d m₁))
+      → (js : List ℕ) → Left c e m m₂ (doStep (readForRequest q l i) js S)
+  unfolding doStep markRead
+  request-sent q l i k a x y b js =
+      let shape : e .shape ≡ c .shape = ap (λ (z : Client). z .shape) y ∙ ap (λ (z : Client). z .shape) x in
+      let kind : e .request .kind ≡ c .request .kind = ap (λ (z : Client). z .request .kind) y ∙ ap (λ (z : Client). z .request .kind) x in
+      left (λ z. absurd (reads-asked S q l i k (hand-none c m (sym kind ∙ z)))) (restated (next c e m m₁ m₂ _ _ shape a b) (ap (send (cmd 1 q l i)) (ap (λ z. stateOf z m₁) x ∙ passed-is l c m₁ ∙ ap (λ (z : State). setRequest (passLevel l (z .request)) z) (a .state))))
+
+  pub job-sent : (q l i n : ℕ) → Stands c m m₁ (markRead q l i S) → n ≡ suc (offset l i) → d ≡ withCursor n c → e ≡ withOut (d .out + 1) d → Stands e m₁ m₂ (send (cmd 1 q l i) (stateOf d m₁))
+      → (js : List ℕ) → Left c e m m₂ (doStep (readForJob q l i) js S)
+  unfolding doStep
+  job-sent q l i n a z x y b js =
+      let shape : e .shape ≡ c .shape = ap (λ (w : Client). w .shape) y ∙ ap (λ (w : Client). w .shape) x in
+      left (λ _. ap (λ (w : Client). w .request) y ∙ ap (λ (w : Client). w .request) x)
+      (restated (next c e m m₁ m₂ _ _ shape a b) (ap (send (cmd 1 q l i)) (ap (λ w. stateOf w m₁) x ∙ cursor-is ∙ ap (setCursor n) (a .state) ∙ ap (λ k. setCursor k (markRead q l i S)) z)))
+    where
+      cursor-is : stateOf (withCursor n c) m₁ ≡ setCursor n (stateOf c m₁)
+      cursor-is = unfold stateOf view in refl
+
+  pub write-sent : (q t i : ℕ) → d ≡ withSent (i + 1) c → e ≡ withOut (d .out + 1) d → Stands e m m₁ (send (cmd 2 q t i) (stateOf d m))
+      → (js : List ℕ) → Left c e m m₁ (doStep (writeNext q t i) js S)
+  unfolding doStep
+  write-sent q t i x y b js =
+      let k : i + 1 ≡ suc i = omega arith in
+      left (λ _. ap (λ (w : Client). w .request) y ∙ ap (λ (w : Client). w .request) x)
+      (restated b (ap (send (cmd 2 q t i)) (ap (λ w. stateOf w m) x ∙ sent-is ∙ ap (λ n. setSent n S) k)))
+    where
+      sent-is : stateOf (withSent (i + 1) c) m ≡ setSent (i + 1) S
+      sent-is = unfold stateOf view in refl
+
+  pub rebuild-sent : (q t : ℕ) (js : List ℕ) → d .shape ≡ c .shape → d .request ≡ c .request → Stands d m m₁ (doRebuild q t (newOrder (slots t) js) S) → e ≡ withOut (d .out + 1) d → Stands e m₁ m₂ (send (cmd 2 q t 0) (stateOf d m₁))
+      → Left c e m m₂ (doStep (rebuild q t) js S)
+  unfolding doStep
+  rebuild-sent q t js h k a y b = left (λ _. ap (λ (z : Client). z .request) y ∙ k) (restated (next d e m m₁ m₂ _ _ (ap (λ (z : Client). z .shape) y) a b) (ap (send (cmd 2 q t 0)) (a .state)))
+
+-- ---- Whole turns
+
+module _ (c : Client) (m tape b : List ℕ) (x : Step) (d : Due c m x) where
+  pub idle-number : x ≡ idle → firstNo (asked c m tape b x d) ≡ 10
+  unfolding firstNo
+  idle-number e = rw e (unfold sends in refl)
+
+  pub lacks-number : x ≡ noDummy → firstNo (asked c m tape b x d) ≡ 2
+  unfolding firstNo
+  lacks-number e = rw e (unfold sends command stepBounds possible in (rw (le-leb 0 (length (wordsOf tape)) (omega arith))))
+
+  -- a read
+  pub read-meets : (e : Client) (m′ : List ℕ) (q l i : ℕ) → command x ≡ cmd 1 q l i → sends x ≡ true → possible (stateOf c m) x ≡ true → length (stepBounds x) ≡ 0
+      → Left c e m m′ (doStep x (drawn c m tape b x d) (stateOf c m)) → Meets c (stateOf c m) turn m tape b (answerOf e 0 1 q l i) m′ b
+  unfolding firstNo
+  read-meets e m′ q l i k g p n f = accepts c m tape b x d (answerOf e 0 1 q l i) m′ b
+      (rw (g, k, p, n, le-leb 0 (length (wordsOf tape)) (omega arith)))
+      (omega arith) refl (sym n) (sym k) f (rw k (handed-read b (doStep x (drawn c m tape b x d) (stateOf c m)) q l i))
+
+  -- a write
+  module _ (q l i : ℕ) (k : command x ≡ cmd 2 q l i) (g : sends x ≡ true) where
+    pub other-buffer : (length b ≡ c .shape .b → ⊥) → firstNo (asked c m tape b x d) ≡ 15
+    unfolding firstNo
+    other-buffer n = rw (g, k, ne-eqb (length b) (c .shape .b) n)
+
+    pub few-words : length b ≡ c .shape .b → length (wordsOf tape) < length (stepBounds x) → firstNo (asked c m tape b x d) ≡ 3
+    unfolding firstNo
+    few-words e n = rw (g, k, eq-eqb (length b) (c .shape .b) e, lt-leb (length (stepBounds x)) (length (wordsOf tape)) n)
+
+    pub no-room : length b ≡ c .shape .b → length (stepBounds x) ≤ length (wordsOf tape) → possible (stateOf c m) x ≡ false → firstNo (asked c m tape b x d) ≡ 2
+    unfolding firstNo
+    no-room e n p = rw (g, k, eq-eqb (length b) (c .shape .b) e, le-leb (length (stepBounds x)) (length (wordsOf tape)) n, p)
+
+    pub write-meets : (e : Client) (m′ b′ : List ℕ) (n : ℕ) → possible (stateOf c m) x ≡ true → length b ≡ c .shape .b → n ≡ length (stepBounds x) → n ≤ length (wordsOf tape)
+        → Left c e m m′ (doStep x (drawn c m tape b x d) (stateOf c m)) → 1 ≤ length b′ → b′ ≡ slotBytes (stateOf e m′) (holder (stateOf e m′) q l i)
+        → Meets c (stateOf c m) turn m tape b (answerOf e n 2 q l i) m′ b′
+    unfolding firstNo
+    write-meets e m′ b′ n p h t w f o z = accepts c m tape b x d (answerOf e n 2 q l i) m′ b′
+        (rw (g, k, eq-eqb (length b) (c .shape .b) h, le-leb (length (stepBounds x)) (length (wordsOf tape)) (omega arith), p))
+        (omega arith) refl t (sym k) f (rw k (handed-write b b′ (doStep x (drawn c m tape b x d) (stateOf c m)) q l i o (z ∙ ap (λ s. slotBytes s (holder s q l i)) (f .stands .state))))
+
+-- ---- The rebuild
+pub rebuilt-stands : (c d : Client) (m m₁ m₂ : List ℕ) (q t n : ℕ) (bs o : List ℕ) (x : Found) → d .shape ≡ c .shape
+    → Stands c m m₁ (rebuilt (shapeOf (c .shape)) q t n bs o (stateOf c m)) → Stands d m₁ m₂ (setWaiting (leftBy x (stateOf c m₁ .waiting)) (stateOf c m₁))
+    → Chosen (stateOf c m) q x → bs ≡ gathered (stateOf c m) q → n ≡ sources (shapeOf (c .shape)) (stateOf c m .counter q)
+    → Stands (withSent 1 d) m m₂ (doRebuild q t o (stateOf c m))
+rebuilt-stands c d m m₁ m₂ q t n bs o x h a b k e f =
+    restated (next c (withSent 1 d) m m₁ m₂ _ (setSent 1 (setWaiting (leftBy x (stateOf c m₁ .waiting)) (stateOf c m₁))) h a (record { state = sent-is ∙ ap (setSent 1) (b .state); tail = b .tail }))
+    (ap (λ (z : State). setSent 1 (setWaiting (leftBy x (z .waiting)) z)) (a .state) ∙ same)
+  where
+    s : State
+    s = stateOf c m
+
+    sent-is : stateOf (withSent 1 d) m₂ ≡ setSent 1 (stateOf d m₂)
+    sent-is = unfold stateOf view in refl
+
+    shape-is : s .shape ≡ shapeOf (c .shape)
+    shape-is = unfold stateOf view in refl
+
+    same : setSent 1 (setWaiting (leftBy x (s .waiting)) (rebuilt (shapeOf (c .shape)) q t n bs o s)) ≡ doRebuild q t o s
+    same = rw (e, f, k .gone, sym shape-is) (sym (rebuild-is q t o s))
+
+-- ---- Turns that are refused before a step is decided
+module _ (c : Client) (m tape b : List ℕ) where
+  pub not-ready : ready (stateOf c m) (length m) ≡ false → Meets c (stateOf c m) turn m tape b (refusedWith 2 c) m b
+  unfolding refuse
+  not-ready e = meets-no c (stateOf c m) turn m tape b 2 (sym (unfold number questions firstNo in (rw e))) (λ z. omega arith) refl
+
+  pub window-full : ready (stateOf c m) (length m) ≡ true → c .shape .w ≤ c .out → Meets c (stateOf c m) turn m tape b (refusedWith 9 c) m b
+  unfolding refuse
+  window-full e l = meets-no c (stateOf c m) turn m tape b 9 (sym (unfold number questions firstNo in (rw (e, full)))) (λ z. omega arith) refl
+    where
+      full : ltb (length (stateOf c m .outstanding)) (stateOf c m .shape .W) ≡ false
+      full = le-ltb (length (stateOf c m .outstanding)) (stateOf c m .shape .W) (omega (arith, out-is c m, window-is c m))

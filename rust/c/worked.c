@@ -1,0 +1,76 @@
+/* Document 01's worked session from C: one block of one byte, written, its jobs
+ * done, and read again. From the repository's top:
+ *
+ *     cc -std=c99 rust/c/worked.c target/staticlib/libexports.a -o worked
+ */
+#include "rinwolfedd.h"
+#include <stdio.h>
+
+static uint8_t state[RINWOLFEDD_STATE];
+static uint8_t memory[416]; /* rinwolfedd_needed(1, 1, 1, 1) */
+static uint8_t host[2];     /* the two slots of level 0 */
+
+/* A real tape is random; these are the session's words 0 0 0 1 0 0 0. */
+static const uint8_t words[] = {0, 0, 0, 0, 0, 0, 1, 0, 0, 0, 0, 0, 0, 0};
+static const uint8_t *tape = words;
+
+static size_t left(void) { return (size_t)(words + sizeof words - tape); }
+
+/* The tape moves on by the words taken. */
+static unsigned moved(uint64_t answer)
+{
+    tape += 2 * rinwolfedd_taken(answer);
+    return rinwolfedd_number(answer);
+}
+
+static void request(size_t kind, const uint8_t *contents, size_t length)
+{
+    printf("%u\n", moved(rinwolfedd_request(state, sizeof state, memory, sizeof memory,
+                                            kind, 0, contents, length, tape, left())));
+}
+
+static void collect(void)
+{
+    uint8_t byte = 0;
+    unsigned number = rinwolfedd_number(
+        rinwolfedd_collect(state, sizeof state, memory, sizeof memory, &byte, 1));
+    if (number != 0)
+        printf("%u\n", number);
+    else
+        printf("0 %02x\n", byte);
+}
+
+/* A turn, and the completion of its command by the host. */
+static void turn(void)
+{
+    uint8_t byte = 0;
+    uint64_t sent = rinwolfedd_turn(state, sizeof state, memory, sizeof memory,
+                                    tape, left(), &byte, 1);
+    unsigned kind = rinwolfedd_kind(sent), slot = rinwolfedd_slot(sent);
+    if (moved(sent) != 0) {
+        printf("%u\n", rinwolfedd_number(sent));
+        return;
+    }
+    if (kind == RINWOLFEDD_WRITE)
+        host[slot] = byte;
+    rinwolfedd_completion(state, sizeof state, memory, sizeof memory, kind,
+                          rinwolfedd_partition(sent), rinwolfedd_level(sent), slot,
+                          &host[slot], kind == RINWOLFEDD_READ ? 1 : 0);
+    printf("0 %c %u %u %u\n", kind == RINWOLFEDD_READ ? 'r' : 'w',
+           rinwolfedd_partition(sent), rinwolfedd_level(sent), slot);
+}
+
+int main(void)
+{
+    static const uint8_t seven = 7;
+    printf("%u\n", moved(rinwolfedd_open(state, sizeof state, memory, sizeof memory,
+                                         1, 1, 1, 1, 1, 1, tape, left())));
+    request(RINWOLFEDD_WRITE, &seven, 1);
+    collect();
+    for (int i = 0; i < 6; i++)
+        turn();
+    request(RINWOLFEDD_READ, &seven, 0);
+    turn();
+    collect();
+    return 0;
+}
