@@ -10,7 +10,7 @@ use borrow.Author.Tests.{ne-eqb}
 use Rattle.lines.specs.Lines.{lineOf, tapeOf}
 use Rattle.session.specs.Session.{ends, gives, prints, session, begun}
 use Rattle.session.specs.Answers.{kept, fresh, fresh-kept}
-use Rattle.session.specs.Turning.{no-words}
+use Rattle.session.specs.TurnLine.{no-words}
 use Rattle.session.specs.declared.Session.{Session}
 use Rattle.stream.specs.declared.State.{State}
 use Rattle.output.specs.declared.Output.{Output}
