@@ -17,6 +17,7 @@ use Rattle.rules.specs.Shape.{Shape, slots, cell}
 use Rattle.rules.specs.State.{Place, nowhere, stored}
 use Rattle.rules.specs.Setters.{setPartition, setPlace, setBytes, setCounter, setOrder, setMark, setHolds, setRequest}
 use Rattle.rules.specs.Laws.Levels.{two-slots}
+use Rattle.rules.specs.Laws.Layout.{offset-lt}
 use Rattle.memory.specs.Tables.{Tables, withPartition, withPlace, withCounter, withOrder, withMark, withHolds, withBlocks}
 use Rattle.memory.specs.Fits.{shapeOf, fit, fit-in, fit-lt}
 use Rattle.client.specs.declared.Client.{Client}
@@ -56,10 +57,6 @@ pub place-nowhere : (n : ℕ) → placeOf n 0 ≡ nowhere
 unfolding placeOf
 place-nowhere n = refl
 
--- a slot's number is below slots(L)
-pub spot-lt : (n ℓ i : ℕ) → ℓ < n → i < slots ℓ → slots ℓ + i < slots n
-spot-lt n ℓ i h k = omega (arith, pow-mono {i = suc (ℓ + 1)} {j = n + 1} (omega arith))
-
 mod-of : (x q m : ℕ) → x < m → (x + q * m) % m ≡ x
 mod-of x q m h = add-mul-mod-self-right x q m ∙ mod-eq-of-lt h
 
@@ -68,7 +65,7 @@ pub cell-level : (h : Shape) (q ℓ i : ℕ) → ℓ < h .L → i < slots ℓ �
 unfolding levelAt cell
 cell-level h q ℓ i hℓ hi =
     let e : q * slots (h .L) + slots ℓ + i ≡ slots ℓ + i + q * slots (h .L) = omega arith in
-    let m : (q * slots (h .L) + slots ℓ + i) % slots (h .L) ≡ slots ℓ + i = rw e (mod-of (slots ℓ + i) q (slots (h .L)) (spot-lt (h .L) ℓ i hℓ hi)) in
+    let m : (q * slots (h .L) + slots ℓ + i) % slots (h .L) ≡ slots ℓ + i = rw e (mod-of (slots ℓ + i) q (slots (h .L)) (offset-lt (h .L) ℓ i hℓ hi)) in
     ap (levelOf (h .L)) m ∙ level-is (h .L) ℓ i hℓ hi
 
 -- ---- Tables

@@ -51,6 +51,10 @@ pub stands : (c : Client) (m₀ m : List ℕ) (t : Tables) (s : State) → table
 unfolding stateOf tablesOf
 stands c m₀ m t s e l v = record { state = ap (view c) e ∙ v; tail = ap (λ (x : Tables). x .tail) e ∙ l }
 
+-- the same state in other words
+pub restated : {c : Client} {m₀ m : List ℕ} {s s′ : State} → Stands c m₀ m s → s ≡ s′ → Stands c m₀ m s′
+restated a e = record { state = a .state ∙ e; tail = a .tail }
+
 -- one move after the other
 pub then : (c c′ : Client) (m₀ m m′ : List ℕ) (s s′ : State) → c′ .shape ≡ c .shape → Stands c m₀ m s → Stands c′ m m′ s′ → Stands c′ m₀ m′ s′
 then c c′ m₀ m m′ s s′ e a b = record { state = b .state; tail = b .tail ∙ rw e (a .tail) }

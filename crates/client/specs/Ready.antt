@@ -25,7 +25,7 @@ use Rattle.memory.specs.Tables.{Tables}
 use Rattle.memory.specs.Fits.{shapeOf, fit, fit-lt}
 use Rattle.client.specs.declared.Client.{Client}
 use Rattle.client.specs.declared.Request.{Request}
-use Rattle.client.specs.View.{levelOf, placeOf, spotOf, commandOf, handBy, requestOf, rows, view}
+use Rattle.client.specs.View.{levelOf, placeOf, spotOf, commandOf, handBy, requestOf, rows, view, writeFrom}
 use Rattle.client.specs.Rows.{length-rows}
 use Rattle.client.specs.Readings.{jobs-are, waiting-are}
 use Rattle.client.specs.Changes.{cell-level}
@@ -94,8 +94,8 @@ spot-range n x p = go (decLt (fit (slots n) x) 2)
 pub command-range : (h : Shape) (a x : ℕ) → 0 < h .L → 0 < h .P → CommandIn h (commandOf h a x)
 unfolding commandOf isKind
 command-range h a x l p = record {
-  kind = go (ltb a 64);
-  partition = fit-lt (h .P) (a % 64) p;
+  kind = go (ltb a writeFrom);
+  partition = fit-lt (h .P) (a % writeFrom) p;
   level = level-lt (h .L) (spotOf (h .L) x) l;
   slot = let s = spot-range (h .L) x l in slot-lt (h .L) (spotOf (h .L) x) (s .0) (s .1) .1;
 }

@@ -26,14 +26,18 @@ levelOf (suc n) x = elim (leb (slots n) x) [ true ↦ n | false ↦ levelOf n x 
 unfoldable pub placeOf : ℕ → ℕ → Place
 placeOf levels x = if ltb x 2 then nowhere else stored (levelOf levels x) (x - slots (levelOf levels x))
 
--- an outstanding command: its partition, with 64 more for a write; its slot, level 0 slot 0 for numbers that say none
+-- the first number of an outstanding command is its partition, which is below this, and so much more for a write
+abbrev pub writeFrom : ℕ
+writeFrom = 64
+
+-- an outstanding command, by this number and that of its slot, level 0 slot 0 for numbers that say none
 unfoldable pub spotOf : ℕ → ℕ → ℕ
 spotOf levels x = if ltb (fit (slots levels) x) 2 then 2 else fit (slots levels) x
 
 unfoldable pub commandOf : Shape → ℕ → ℕ → Command
 commandOf h a x =
     let y = spotOf (h .L) x in
-    cmd (if ltb a 64 then read else write) (fit (h .P) (a % 64)) (levelOf (h .L) y) (y - slots (levelOf (h .L) y))
+    cmd (if ltb a writeFrom then read else write) (fit (h .P) (a % writeFrom)) (levelOf (h .L) y) (y - slots (levelOf (h .L) y))
 
 -- the level of a cell
 unfoldable pub levelAt : Shape → ℕ → ℕ

@@ -1,9 +1,15 @@
 // The client's state: small numbers by value, beside the tables in the lent memory.
 use memory::Shape;
 ghost use mathlib.Core.Path.{_≡_};
+ghost use Rattle.rules.specs.Ranges.{isKind};
 ghost use Rattle.client.specs.Moves.{noRequest, withRequest, withJobs, withCursor, withSent, withWaiting, withOut};
 
-// A request in hand, of kind 1 read or 2 write; or none, of kind 0. The contents of a write are block N of the memory.
+// The kinds of requests and of commands.
+pub const READ: usize = 1;
+
+pub const WRITE: usize = 2;
+
+// A request in hand, of one of these kinds; or none, of kind 0. The contents of a write are block N of the memory.
 pub struct Request {
     pub kind: usize,
     pub block: usize,
@@ -21,6 +27,13 @@ pub struct Client {
     pub sent: usize,
     pub waiting: usize,
     pub out: usize,
+}
+
+// Whether a number is one of the kinds.
+pub fn is_kind(kind: usize) -> bool
+    ensures { λ r. ⌜ r ≡ isKind kind ⌝ }
+{
+    (READ <= kind) & (kind <= WRITE)
 }
 
 // What a search finds: a place, or nothing.

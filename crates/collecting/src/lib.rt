@@ -1,6 +1,7 @@
 // Collect hands out the contents before the request, for reads and writes.
 use client::Client;
 use client::Request;
+use client::WRITE;
 use contract::Answer;
 ghost use mathlib.Core.Path.{_≡_};
 ghost use mathlib.Core.Bool.{not, _&&_};
@@ -83,7 +84,7 @@ fn set_contents(c: Client, m: &mut [u8], buffer: &[u8])
     ensures { λ _. ⌜ Stands c (now (m .entry)) (now (m .exit)) (newBytes (handOf c (now (m .entry))) (now (buffer .entry)) (stateOf c (now (m .entry)))) ⌝ }
 {
     let b = c.request.block;
-    if c.request.kind == 2 {
+    if c.request.kind == WRITE {
         memory::blocks::move_block(c.shape, m, c.shape.n, b);
         return;
     }
@@ -99,7 +100,7 @@ fn empty_slot(c: Client, m: &mut [u8], p: usize)
     if x < 2 {
         return;
     }
-    let cell = p * bits::pow2(c.shape.l + 1) + x;
+    let cell = levels::cell_of(c.shape, p, x);
     memory::tables::set_holds(c.shape, m, cell, 0);
 }
 
@@ -145,13 +146,6 @@ pub fn collect(c: Client, m: &mut [u8], buffer: &mut [u8]) -> Answer
         return contract::refused(n, c);
     }
     hand_out(c, m, buffer);
-    Answer {
-        number: 0,
-        taken: 0,
-        kind: 0,
-        partition: 0,
-        level: 0,
-        slot: 0,
-        client: finish(c, m, buffer),
-    }
+    let d = finish(c, m, buffer);
+    contract::accepted(d, 0)
 }

@@ -22,9 +22,10 @@ use Rattle.memory.specs.Words.{wordAt-lt}
 use Rattle.memory.specs.Tables.{Tables, tablesOf, withKinds, withSpots, get-kinds, get-spots}
 use Rattle.memory.specs.Fits.{shapeOf, fit, fit-in}
 use Rattle.client.specs.declared.Client.{Client}
-use Rattle.client.specs.View.{levelOf, spotOf, commandOf, rows, view, stateOf}
+use Rattle.client.specs.View.{levelOf, spotOf, commandOf, rows, view, stateOf, writeFrom}
 use Rattle.client.specs.Rows.{dropAt, rows-push, any-miss, Shifted, shifted-none, shifted-more, shifted-all}
-use Rattle.client.specs.Changes.{level-is, spot-lt, level-le}
+use Rattle.rules.specs.Laws.Layout.{offset-lt}
+use Rattle.client.specs.Changes.{level-is, level-le}
 use Rattle.client.specs.Ready.{command-range}
 use Rattle.client.specs.Moves.{withOut, Room, Stands, stands}
 
@@ -37,14 +38,14 @@ outstanding-is c m = refl
 
 -- its kind, by the first of its numbers
 abbrev pub kindOf : ℕ → ℕ
-kindOf a = if ltb a 64 then read else write
+kindOf a = if ltb a writeFrom then read else write
 
 module _ (h : Shape) (m : List ℕ) (i a : ℕ) where
   pub kind-is : a ≡ tablesOf (shapeOf h) m .kinds i → commandIn h m i .kind ≡ kindOf a
   unfolding commandOf
   kind-is e = rw e
 
-  pub partition-is : (q : ℕ) → a ≡ tablesOf (shapeOf h) m .kinds i → q ≡ fit (h .p) (a % 64) → commandIn h m i .partition ≡ q
+  pub partition-is : (q : ℕ) → a ≡ tablesOf (shapeOf h) m .kinds i → q ≡ fit (h .p) (a % writeFrom) → commandIn h m i .partition ≡ q
   unfolding commandOf
   partition-is q e f = sym (rw e at f)
 
@@ -95,10 +96,10 @@ module _ (n x z : ℕ) (e : z ≡ fit (slots n) x) where
   spot-some l = rw (le-ltb (fit (slots n) x) 2 (rw e at l)) e
 
 -- a command is compared by its kind, its partition and the number of its slot
-pub is-command : (h : R.Shape) (k q y a x : ℕ) → 2 ≤ y → isCommand (spotCommand (h .L) k q y) (commandOf h a x) ≡ (eqb k (kindOf a) && eqb q (fit (h .P) (a % 64)) && eqb y (spotOf (h .L) x))
+pub is-command : (h : R.Shape) (k q y a x : ℕ) → 2 ≤ y → isCommand (spotCommand (h .L) k q y) (commandOf h a x) ≡ (eqb k (kindOf a) && eqb q (fit (h .P) (a % writeFrom)) && eqb y (spotOf (h .L) x))
 unfolding isCommand commandOf
 is-command h k q y a x l =
-    and-assoc (eqb k (kindOf a) && eqb q (fit (h .P) (a % 64))) _ _ ∙ ap (λ t. eqb k (kindOf a) && eqb q (fit (h .P) (a % 64)) && t) (same-spot (h .L) y (spotOf (h .L) x) l (spot-two (h .L) x))
+    and-assoc (eqb k (kindOf a) && eqb q (fit (h .P) (a % writeFrom))) _ _ ∙ ap (λ t. eqb k (kindOf a) && eqb q (fit (h .P) (a % writeFrom)) && t) (same-spot (h .L) y (spotOf (h .L) x) l (spot-two (h .L) x))
 
 -- no command out of range is outstanding
 pub none-such : (c : Client) (m : List ℕ) (k q ℓ i : ℕ) → Room c m → (ℓ < c .shape .l → slots ℓ ≤ i) → any (isCommand (cmd k q ℓ i)) (stateOf c m .outstanding) ≡ false
@@ -118,19 +119,19 @@ none-such c m k q ℓ i r f = rw outstanding-is (any-miss (isCommand (cmd k q �
 -- ---- Changes
 
 -- the numbers that are stored say the command
-pub command-is : (h : R.Shape) (k q ℓ i : ℕ) → 1 ≤ k → k ≤ 2 → h .P ≤ 64 → q < h .P → ℓ < h .L → i < slots ℓ → commandOf h (q + 64 * (k - 1)) (slots ℓ + i) ≡ cmd k q ℓ i
+pub command-is : (h : R.Shape) (k q ℓ i : ℕ) → 1 ≤ k → k ≤ 2 → h .P ≤ 64 → q < h .P → ℓ < h .L → i < slots ℓ → commandOf h (q + writeFrom * (k - 1)) (slots ℓ + i) ≡ cmd k q ℓ i
 unfolding commandOf spotOf
 command-is h k q ℓ i a b c d l u = (λ z. spotCommand (h .L) (kind-is (decLt k 2) z) (partition-is z) (spot-is z)) ∙ spot-command (h .L) k q ℓ i l u
   where
-    kind-is : Dec (k < 2) → kindOf (q + 64 * (k - 1)) ≡ k
-    kind-is (yes e) = rw (lt-ltb (q + 64 * (k - 1)) 64 (omega arith)) (omega arith)
-    kind-is (no e) = rw (le-ltb (q + 64 * (k - 1)) 64 (omega arith)) (omega arith)
+    kind-is : Dec (k < 2) → kindOf (q + writeFrom * (k - 1)) ≡ k
+    kind-is (yes e) = rw (lt-ltb (q + writeFrom * (k - 1)) writeFrom (omega arith)) (omega arith)
+    kind-is (no e) = rw (le-ltb (q + writeFrom * (k - 1)) writeFrom (omega arith)) (omega arith)
 
-    partition-is : fit (h .P) ((q + 64 * (k - 1)) % 64) ≡ q
-    partition-is = let e : (q + 64 * (k - 1)) % 64 ≡ q = omega arith in rw e (fit-in (h .P) q d)
+    partition-is : fit (h .P) ((q + writeFrom * (k - 1)) % writeFrom) ≡ q
+    partition-is = let e : (q + writeFrom * (k - 1)) % writeFrom ≡ q = omega arith in rw e (fit-in (h .P) q d)
 
     spot-is : (if ltb (fit (slots (h .L)) (slots ℓ + i)) 2 then 2 else fit (slots (h .L)) (slots ℓ + i)) ≡ slots ℓ + i
-    spot-is = rw (fit-in (slots (h .L)) (slots ℓ + i) (spot-lt (h .L) ℓ i l u), le-ltb (slots ℓ + i) 2 (omega (arith, pow-mono {i = 1} {j = ℓ + 1} (omega arith))))
+    spot-is = rw (fit-in (slots (h .L)) (slots ℓ + i) (offset-lt (h .L) ℓ i l u), le-ltb (slots ℓ + i) 2 (omega (arith, pow-mono {i = 1} {j = ℓ + 1} (omega arith))))
 
 -- only the two tables are changed
 pub out-stands : (c : Client) (m₀ m : List ℕ) (f g : ℕ → ℕ) (n : ℕ) (ds : List Command) → tablesOf (shapeOf (c .shape)) m ≡ withSpots g (withKinds f (tablesOf (shapeOf (c .shape)) m₀)) → rows (λ i. commandOf (shapeOf (c .shape)) (f i) (g i)) n ≡ ds
@@ -148,7 +149,7 @@ put-both h i a x f g = fun-ext (λ j. go j (ℕ-discrete j i))
 
 -- a command is stored behind the others
 pub sent : (c : Client) (m₀ m m′ : List ℕ) (k q ℓ i : ℕ) → 1 ≤ k → k ≤ 2 → c .shape .p ≤ 64 → q < c .shape .p → ℓ < c .shape .l → i < slots ℓ
-    → tablesOf (shapeOf (c .shape)) m ≡ withKinds (put (c .out) (q + 64 * (k - 1)) (tablesOf (shapeOf (c .shape)) m₀ .kinds)) (tablesOf (shapeOf (c .shape)) m₀)
+    → tablesOf (shapeOf (c .shape)) m ≡ withKinds (put (c .out) (q + writeFrom * (k - 1)) (tablesOf (shapeOf (c .shape)) m₀ .kinds)) (tablesOf (shapeOf (c .shape)) m₀)
     → tablesOf (shapeOf (c .shape)) m′ ≡ withSpots (put (c .out) (slots ℓ + i) (tablesOf (shapeOf (c .shape)) m .spots)) (tablesOf (shapeOf (c .shape)) m)
     → Stands (withOut (c .out + 1) c) m₀ m′ (send (cmd k q ℓ i) (stateOf c m₀))
 unfolding send
@@ -156,7 +157,7 @@ sent c m₀ m m′ k q ℓ i a b p d l u t t′ =
     let h = shapeOf (c .shape) in
     let o = tablesOf h m₀ in
     out-stands c m₀ m′ _ _ (c .out + 1) _ (t′ ∙ ap (λ x. withSpots (put (c .out) (slots ℓ + i) (x .spots)) x) t)
-    (ap (λ g. rows g (c .out + 1)) (put-both h (c .out) (q + 64 * (k - 1)) (slots ℓ + i) (o .kinds) (o .spots))
+    (ap (λ g. rows g (c .out + 1)) (put-both h (c .out) (q + writeFrom * (k - 1)) (slots ℓ + i) (o .kinds) (o .spots))
     ∙ rows-push (commandIn (c .shape) m₀) (c .out) _
     ∙ (λ z. sym (outstanding-is c m₀) z ++ (command-is h k q ℓ i a b p d l u z ∷ [])))
 

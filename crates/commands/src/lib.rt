@@ -1,6 +1,8 @@
 // The outstanding commands, in the lent memory.
 use client::Client;
 use client::Found;
+use client::READ;
+use client::WRITE;
 ghost use mathlib.Core.Path.{_≡_};
 ghost use Prim.Native.Nat.{_+_, _-_, _<_, _≤_};
 ghost use Rattle.lists.specs.Search.{any};
@@ -17,6 +19,9 @@ ghost use Rattle.client.specs.Moves.{withOut, Room, Stands};
 ghost use Rattle.commands.specs.Outstanding.{ofPartition, ofKind, Outstanding};
 ghost use Rattle.commands.specs.Commands.{commandIn, kindOf, spotCommand};
 
+// The first number of an outstanding command is its partition, which is below this, and so much more for a write.
+const WRITE_FROM: usize = 64;
+
 // Whether a command of partition q is outstanding.
 pub fn is_busy(c: Client, m: &[u8], q: usize) -> bool
     requires { ⌜ Room c (now m) × (c .out ≤ 32) ⌝ }
@@ -26,7 +31,7 @@ pub fn is_busy(c: Client, m: &[u8], q: usize) -> bool
     let p = c.shape.p;
     let mut i = 0;
     while i < n {
-        if memory::tables::fit(p, memory::tables::command_kind(c.shape, m, i) % 64) == q {
+        if memory::tables::fit(p, memory::tables::command_kind(c.shape, m, i) % WRITE_FROM) == q {
             return true;
         }
         i += 1;
@@ -42,7 +47,7 @@ pub fn is_writing(c: Client, m: &[u8]) -> bool
     let n = c.out;
     let mut i = 0;
     while i < n {
-        if 64 <= memory::tables::command_kind(c.shape, m, i) {
+        if WRITE_FROM <= memory::tables::command_kind(c.shape, m, i) {
             return true;
         }
         i += 1;
@@ -88,7 +93,7 @@ fn is_at(c: Client, m: &[u8], j: usize, kind: usize, q: usize, spot: usize) -> b
     ensures { λ r. ⌜ r ≡ isCommand (spotCommand (c .shape .l) kind q spot) (commandIn (c .shape) (now (m .entry)) j) ⌝ }
 {
     let a = memory::tables::command_kind(c.shape, m, j);
-    let p = memory::tables::fit(c.shape.p, a % 64);
+    let p = memory::tables::fit(c.shape.p, a % WRITE_FROM);
     (kind == kind_of(a)) & (q == p) & (spot == spot_at(c, m, j))
 }
 
@@ -96,7 +101,7 @@ fn is_at(c: Client, m: &[u8], j: usize, kind: usize, q: usize, spot: usize) -> b
 fn kind_of(a: usize) -> usize
     ensures { λ r. ⌜ r ≡ kindOf a ⌝ }
 {
-    if a < 64 { 1 } else { 2 }
+    if a < WRITE_FROM { READ } else { WRITE }
 }
 
 // The slot of the outstanding command at place j, as a number.
@@ -116,7 +121,7 @@ pub fn send(c: Client, m: &mut [u8], kind: usize, q: usize, l: usize, i: usize) 
 {
     let n = c.out;
     let spot = bits::pow2(l + 1) + i;
-    memory::tables::set_command_kind(c.shape, m, n, q + 64 * (kind - 1));
+    memory::tables::set_command_kind(c.shape, m, n, q + WRITE_FROM * (kind - 1));
     memory::tables::set_command_spot(c.shape, m, n, spot);
     c.with_out(n + 1)
 }

@@ -1,6 +1,7 @@
 // Completion names a kind and a slot (partition, level, slot), with B bytes for a read.
 use client::Client;
 use client::Found;
+use client::READ;
 use contract::Answer;
 use memory::Shape;
 ghost use mathlib.Core.Path.{_≡_};
@@ -11,7 +12,6 @@ ghost use lib.Dec.{eqb};
 ghost use Rattle.lists.specs.Tests.{if_then_else_};
 ghost use Rattle.rules.specs.Shape.{slots};
 ghost use Rattle.rules.specs.State.{cmd, read};
-ghost use Rattle.rules.specs.Ranges.{isKind};
 ghost use Rattle.rules.specs.Levels.{grown as grownOf};
 ghost use Rattle.rules.specs.Blocks.{holder};
 ghost use Rattle.rules.specs.Completion.{gatherBytes, jobDone, endJob, finishJob, complete as completeOf};
@@ -23,18 +23,11 @@ ghost use Rattle.client.specs.Moves.{Room, Stands};
 ghost use Rattle.contract.specs.Meets.{Meets};
 ghost use Rattle.completing.specs.Completing.{Completes};
 
-// 1 for a read, 2 for a write.
-fn is_kind(kind: usize) -> bool
-    ensures { λ r. ⌜ r ≡ isKind kind ⌝ }
-{
-    (1 <= kind) & (kind <= 2)
-}
-
 // The length that is asked for: that of a block for a read, 0 for a write.
 fn expected(kind: usize, block: usize) -> usize
     ensures { λ r. ⌜ r ≡ (if eqb kind read then block else 0) ⌝ }
 {
-    if kind == 1 { block } else { 0 }
+    if kind == READ { block } else { 0 }
 }
 
 // A read's bytes are those of the block in its slot.
@@ -112,7 +105,7 @@ fn complete(
     ensures { λ r. ⌜ (r .request ≡ c .request) × Stands r (now (m .entry)) (now (m .exit)) (completeOf (cmd kind q l i) (now (bytes .entry)) (stateOf c (now (m .entry)))) ⌝ }
 {
     let d = commands::complete(c, m, j);
-    if kind == 1 {
+    if kind == READ {
         store_read(d, m, q, l, i, bytes);
         return d;
     }
@@ -133,7 +126,7 @@ pub fn completion(
     if !ready::shape_fits(c.shape, m.len()) {
         return contract::refused(2, c);
     }
-    if !(ready::numbers_fit(c, m) & is_kind(kind)) {
+    if !(ready::numbers_fit(c, m) & client::is_kind(kind)) {
         return contract::refused(2, c);
     }
     let found = commands::find(c, m, kind, partition, level, slot);
@@ -143,13 +136,6 @@ pub fn completion(
     if bytes.len() != expected(kind, c.shape.b) {
         return contract::refused(12, c);
     }
-    Answer {
-        number: 0,
-        taken: 0,
-        kind: 0,
-        partition: 0,
-        level: 0,
-        slot: 0,
-        client: complete(c, m, j, kind, partition, level, slot, bytes),
-    }
+    let d = complete(c, m, j, kind, partition, level, slot, bytes);
+    contract::accepted(d, 0)
 }

@@ -10,7 +10,7 @@ ghost use Rattle.lists.specs.Search.{member};
 ghost use Rattle.rules.specs.Shape.{within};
 ghost use Rattle.rules.specs.Memory.{needed as neededOf};
 ghost use Rattle.memory.specs.Fits.{shapeOf};
-ghost use Rattle.contract.specs.Answers.{refusedWith, clearedClient};
+ghost use Rattle.contract.specs.Answers.{refusedWith, answerOf, clearedClient};
 
 // The number, the words taken, the command sent (zeros for none), and the next state.
 pub struct Answer {
@@ -36,6 +36,35 @@ pub fn refused(number: usize, client: Client) -> Answer
         slot: 0,
         client,
     }
+}
+
+// What an accepted call answers that sends this command.
+pub fn sent(
+    client: Client,
+    taken: usize,
+    kind: usize,
+    partition: usize,
+    level: usize,
+    slot: usize,
+) -> Answer
+    ensures { λ r. ⌜ r ≡ answerOf client taken kind partition level slot ⌝ }
+{
+    Answer {
+        number: 0,
+        taken,
+        kind,
+        partition,
+        level,
+        slot,
+        client,
+    }
+}
+
+// What one answers that sends none.
+pub fn accepted(client: Client, taken: usize) -> Answer
+    ensures { λ r. ⌜ r ≡ answerOf client taken 0 0 0 0 ⌝ }
+{
+    sent(client, taken, 0, 0, 0, 0)
 }
 
 // The closed state, all zeros.

@@ -23,7 +23,7 @@ use Rattle.memory.specs.Tables.{tablesOf}
 use Rattle.client.specs.declared.Client.{Client}
 use Rattle.client.specs.View.{levelOf, placeOf, rows, view, stateOf}
 use Rattle.client.specs.Readings.{handOf, hand-none, hand-some}
-use Rattle.client.specs.Changes.{place-is}
+use Rattle.client.specs.Changes.{place-is, level-le}
 use Rattle.ready.specs.Usable.{Usable}
 use Rattle.commands.specs.Outstanding.{ofPartition}
 use Rattle.levels.specs.Next.{NextFilled}
@@ -56,16 +56,6 @@ Placed c m x = x ≡ fit (slots (c .shape .l)) (tablesOf (shapeOf (c .shape)) m 
 
 -- ---- The block's own slot
 
--- a number of at least 2 is not below the first of its level
-level-start : (n x : ℕ) → 2 ≤ x → slots (levelOf n x) ≤ x
-unfolding levelOf
-level-start zero x h = omega arith
-level-start (suc n) x h = go (leb (slots n) x) refl (level-start n x h)
-  where
-    go : (t : Bool) → leb (slots n) x ≡ t → slots (levelOf n x) ≤ x → slots (levelOf (suc n) x) ≤ x
-    go true e ih = rw (e, levelOf) (leb-true (slots n) x e)
-    go false e ih = rw (e, levelOf) ih
-
 -- whether the number x is one of level ℓ
 abbrev pub isOwn : ℕ → ℕ → Bool
 isOwn ℓ x = leb (slots ℓ) x && ltb x (2 * slots ℓ)
@@ -85,7 +75,7 @@ module _ (n ℓ x : ℕ) where
     where
       own : levelOf n x ≡ ℓ → 2 ≤ x → x - slots (levelOf n x) < slots (levelOf n x) → isOwn ℓ x ≡ true
       own l g s =
-          let a = rw l at (level-start n x g) in
+          let a = rw l at (level-le n x g) in
           let b = rw l at s in
           and-true (le-leb (slots ℓ) x a) (lt-ltb x (2 * slots ℓ) (omega arith))
 

@@ -2,11 +2,11 @@
 use mathlib.Core.Path.{_≡_, refl, ap, _∙_}
 use mathlib.Core.List.{List, []}
 use Prim.Native.Nat.{ℕ, _+_, _-_, _*_, _≤_, _<_}
-use native.Mathlib.Nat.{mul-le-mul}
 use native.Mathlib.Omega.{arith}
 use lib.Pow.{pow-mono}
 use Rattle.rules.specs.Shape.{slots, cell}
 use Rattle.rules.specs.Levels.{sources}
+use Rattle.rules.specs.Laws.Layout.{stride-le}
 use Rattle.memory.specs.Tables.{tablesOf}
 use Rattle.memory.specs.Fits.{shapeOf, fit, fit-lt}
 use Rattle.client.specs.declared.Client.{Client}
@@ -14,19 +14,8 @@ use Rattle.client.specs.View.{view, stateOf}
 use Rattle.gather.specs.Gathered.{added, Extra}
 use Rattle.gather.specs.Kept.{entryOf, sofar, topOf, sofar-start, sofar-step}
 
--- the cells of a partition
-pub cells-in : (p q n : ℕ) → q < p → q * n + n ≤ p * n
-cells-in p q n h =
-    let a : q + 1 ≤ p = omega arith in
-    let b : n ≤ n = omega arith in
-    let e : (q + 1) * n ≤ p * n = mul-le-mul a b in
-    omega arith
-
-pub slots-two : (ℓ : ℕ) → 2 ≤ slots ℓ
-slots-two ℓ = pow-mono {i = 1} {j = ℓ + 1} (omega arith)
-
 pub slot-in : (p q l t j : ℕ) → q < p → t ≤ l → j < slots t - 2 → q * slots l + 2 + j < p * slots l
-slot-in p q l t j hq ht h = omega (arith, cells-in p q (slots l) hq, pow-mono {i = t + 1} {j = l + 1} (omega arith))
+slot-in p q l t j hq ht h = omega (arith, stride-le p q (slots l) hq, pow-mono {i = t + 1} {j = l + 1} (omega arith))
 
 module _ (c : Client) (m : List ℕ) (q : ℕ) where
   pub top-is : (t : ℕ) → t ≡ sources (shapeOf (c .shape)) (stateOf c m .counter q) → slots t - 2 ≡ topOf (stateOf c m) q

@@ -76,7 +76,7 @@ pub fn gather(
     ensures { λ r. ⌜ Gathers (stateOf c (now (m .entry))) q limit r (now (list .exit)) ⌝ }
 {
     let top = bits::pow2(sources + 1) - 2;
-    let base = q * bits::pow2(c.shape.l + 1) + 2;
+    let base = levels::cell_of(c.shape, q, 2);
     let mut k = add(list, 0, extra);
     let mut j = 0;
     while j < top {

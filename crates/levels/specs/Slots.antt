@@ -2,7 +2,6 @@
 use mathlib.Core.Path.{_≡_, refl, sym, ap, _∙_}
 use mathlib.Core.List.{List}
 use Prim.Native.Nat.{ℕ, zero, suc, _+_, _*_, _≤_, _<_}
-use native.Mathlib.Nat.{suc-mul, mul-le-mul-right}
 use native.Mathlib.Omega.{arith}
 use lib.Dec.{eqb}
 use borrow.Author.Tests.{ne-eqb}
@@ -11,29 +10,21 @@ use Rattle.lists.specs.Tables.{put}
 use Rattle.rules.specs.Shape.{Shape, slots, cell}
 use Rattle.rules.specs.Blocks.{named, holder, isUnread}
 use Rattle.rules.specs.Turn.{markRead}
+use Rattle.rules.specs.Laws.Layout.{stride-le, cell-from, offset-lt}
 use Rattle.memory.specs.Tables.{tablesOf, withMark}
 use Rattle.memory.specs.Fits.{shapeOf, fit}
 use Rattle.client.specs.declared.Client.{Client}
 use Rattle.client.specs.View.{view, stateOf}
-use Rattle.client.specs.Changes.{spot-lt, cell-level, view-mark}
+use Rattle.client.specs.Changes.{cell-level, view-mark}
 use Rattle.client.specs.Moves.{Stands, stands}
 
--- partition q ends within P partitions
-pub stride-le : (P q n : ℕ) → q < P → q * n + n ≤ P * n
-stride-le P q n h = rw (← suc-mul) (mul-le-mul-right n h)
-
 pub cell-room : (P L q ℓ i : ℕ) → q < P → ℓ < L → i < slots ℓ → q * slots L + slots ℓ + i < P * slots L
-cell-room P L q ℓ i hq hℓ hi = omega (arith, stride-le P q (slots L) hq, spot-lt L ℓ i hℓ hi)
+cell-room P L q ℓ i hq hℓ hi = omega (arith, stride-le P q (slots L) hq, offset-lt L ℓ i hℓ hi)
 
 -- the cells of a level are within the tables
 pub cell-lt : (h : Shape) (q ℓ base i : ℕ) → base ≡ cell h q ℓ 0 → q < h .P → ℓ < h .L → i < slots ℓ → base + i < h .P * slots (h .L)
 unfolding cell
 cell-lt h q ℓ base i e hq hℓ hi = omega (arith, cell-room (h .P) (h .L) q ℓ i hq hℓ hi)
-
--- and lie together
-cell-from : (h : Shape) (q ℓ i : ℕ) → cell h q ℓ 0 + i ≡ cell h q ℓ i
-unfolding cell
-cell-from h q ℓ i = omega arith
 
 none-zero : (x : ℕ) → isNone (named x) ≡ eqb x 0
 unfolding isNone named

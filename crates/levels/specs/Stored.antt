@@ -15,7 +15,8 @@ use Rattle.memory.specs.Fits.{shapeOf, fit}
 use Rattle.client.specs.declared.Client.{Client}
 use Rattle.client.specs.View.{stateOf}
 use Rattle.levels.specs.Walks.{tally, tally-step, tally-done, tally-all}
-use Rattle.levels.specs.Slots.{stride-le, holds-is}
+use Rattle.rules.specs.Laws.Layout.{stride-le}
+use Rattle.levels.specs.Slots.{holds-is}
 
 abbrev pub slotHolds : State → ℕ → ℕ → ℕ
 slotHolds s q j = s .holds (cell (s .shape) q 0 j)

@@ -24,12 +24,20 @@ pub enum Spot {
     Nothing,
 }
 
+// The cell of the slot of partition q that has the number x, which is 2^(level + 1) + slot.
+pub fn cell_of(h: Shape, q: usize, x: usize) -> usize
+    requires { ⌜ (h .l ≤ 8) × (h .p ≤ 64) × (h .p * slots (h .l) ≤ 32768) × (q < h .p) × (x < slots (h .l)) ⌝ }
+    ensures { λ r. ⌜ (r ≡ q * slots (h .l) + x) × (r < h .p * slots (h .l)) ⌝ }
+{
+    q * bits::pow2(h.l + 1) + x
+}
+
 // The cell of slot i of level l of partition q.
 pub fn cell(h: Shape, q: usize, l: usize, i: usize) -> usize
     requires { ⌜ (h .l ≤ 8) × (h .p ≤ 64) × (h .p * slots (h .l) ≤ 32768) × (q < h .p) × (l < h .l) × (i < slots l) ⌝ }
     ensures { λ r. ⌜ (r ≡ cellOf (shapeOf h) q l i) × (r < h .p * slots (h .l)) ⌝ }
 {
-    q * bits::pow2(h.l + 1) + bits::pow2(l + 1) + i
+    cell_of(h, q, bits::pow2(l + 1) + i)
 }
 
 // The first filled level from `from` on, or `levels` where there is none.

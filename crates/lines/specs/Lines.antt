@@ -99,9 +99,13 @@ pairs [] = some []
 pairs (x ∷ []) = none
 pairs (x ∷ y ∷ ys) = also (pair (hexDigit x) (hexDigit y)) (pairs ys)
 
+-- "1 to 1,024 pairs"
+abbrev pub contentsRoom : ℕ
+contentsRoom = 1024
+
 unfoldable pub contents : List ℕ → Option (List ℕ)
 contents [] = none
-contents (x ∷ xs) = upTo 1024 (pairs (x ∷ xs))
+contents (x ∷ xs) = upTo contentsRoom (pairs (x ∷ xs))
 
 -- ---- "A session line is told by its first letter"
 
@@ -146,8 +150,13 @@ byLetter x fs =
 unfoldable pub lineOf : List ℕ → Line
 lineOf l = byLetter (letter (fields l)) (others (fields l))
 
--- ---- "T (words of the tape)", "T has at most 8,192 of them". The letter T is byte 84
+-- ---- "T (words of the tape)", "T has at most 8,192 of them", of two bytes each. The letter T is byte 84
+abbrev pub mostWords : ℕ
+mostWords = 8192
+
+abbrev pub tapeRoom : ℕ
+tapeRoom = 16384
 
 -- the tape that a first line says, if it says one
 unfoldable pub tapeOf : List ℕ → Option (List ℕ)
-tapeOf l = if eqb (letter (fields l)) 84 then upTo 8192 (numbers (others (fields l))) else none
+tapeOf l = if eqb (letter (fields l)) 84 then upTo mostWords (numbers (others (fields l))) else none

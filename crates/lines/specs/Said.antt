@@ -25,7 +25,7 @@ said Malformed bytes = malformed
 abbrev pub Small : Line → Type 0
 Small (Open h) = (h .n < 65536) × (h .p < 65536) × (h .l < 65536) × (h .b < 65536) × (h .e < 65536) × (h .w < 65536)
 Small (Read b) = b < 65536
-Small (Write b k) = (b < 65536) × (0 < k) × (k ≤ 1024)
+Small (Write b k) = (b < 65536) × (0 < k) × (k ≤ Lines.contentsRoom)
 Small Turn = Unit {0}
 Small Collect = Unit {0}
 Small Malformed = Unit {0}

@@ -11,7 +11,7 @@ use lib.Seq.{drop-cons, take-suc, take-suc-set, getD-take, ext-getD, length-take
 use borrow.Author.Tests.{le-leb, lt-leb, ne-eqb}
 use Rattle.memory.specs.Words.{wordAt, setWord, length-setWord, word-same, word-other}
 use Rattle.tape.specs.Tape.{wordsOf, length-words, word-is}
-use Rattle.lines.specs.Lines.{atMost, number, also, numbers, upTo, hexDigit, pair, pairs, contents}
+use Rattle.lines.specs.Lines.{atMost, number, also, numbers, upTo, hexDigit, pair, pairs, contents, contentsRoom}
 use Rattle.lines.specs.Said.{words, bytes}
 use Rattle.lines.specs.Fields.{after, Cut, after-blank, after-end}
 use Rattle.lines.specs.Numbers.{behind, behind-none, behind-all, behind-more, behind-not, behind-over, up-in, up-out, up-none, told, untold}
@@ -126,7 +126,7 @@ halved (x ∷ y ∷ ys) = go (pair (hexDigit x) (hexDigit y)) (pairs ys) (halved
 contents-none : (s : List ℕ) → pairs s ≡ none → contents s ≡ none
 unfolding contents
 contents-none [] e = refl
-contents-none (x ∷ xs) e = rw e (up-none 1024)
+contents-none (x ∷ xs) e = rw e (up-none contentsRoom)
 
 -- 0 stands for none
 pub bytes-none : (t : List ℕ) → bytes 0 t ≡ none
@@ -139,26 +139,26 @@ unfolding bytes
 bytes-some k t h = rw (ne-eqb k 0 (λ e. omega arith))
 
 -- digits that are no pairs, or too many
-pub contents-not : (s t : List ℕ) → ((n : ℕ) → length s ≡ n * 2 → n ≤ 1024 → ⊥) → bytes 0 t ≡ contents s
+pub contents-not : (s t : List ℕ) → ((n : ℕ) → length s ≡ n * 2 → n ≤ contentsRoom → ⊥) → bytes 0 t ≡ contents s
 unfolding contents
 contents-not [] t h = bytes-none t
 contents-not (x ∷ xs) t h = bytes-none t ∙ sym (go (pairs (x ∷ xs)) (halved (x ∷ xs)))
   where
-    go : (o : Option (List ℕ)) → Halved (length (x ∷ xs)) o → upTo 1024 o ≡ none
-    go none q = up-none 1024
-    go (some bs) q = elim (decLt 1024 (length bs)) [ yes l ↦ up-out 1024 bs l | no l ↦ absurd (h (length bs) q (omega arith)) ]
+    go : (o : Option (List ℕ)) → Halved (length (x ∷ xs)) o → upTo contentsRoom o ≡ none
+    go none q = up-none contentsRoom
+    go (some bs) q = elim (decLt contentsRoom (length bs)) [ yes l ↦ up-out contentsRoom bs l | no l ↦ absurd (h (length bs) q (omega arith)) ]
 
 -- at first none is stored
 pub paired-none : (s t : List ℕ) → Paired s t t 0
 paired-none s t = record { kept = refl; said = sym (behind-none (pairs s)) }
 
 -- all pairs are passed
-pub paired-all : (s t₀ t : List ℕ) (k : ℕ) → Paired s t₀ t k → length s ≡ k * 2 → k ≤ 1024 → k ≤ length t → bytes k t ≡ contents s
+pub paired-all : (s t₀ t : List ℕ) (k : ℕ) → Paired s t₀ t k → length s ≡ k * 2 → k ≤ contentsRoom → k ≤ length t → bytes k t ≡ contents s
 unfolding contents pairs
 paired-all [] t₀ t k p e u f = let z : k ≡ 0 = omega arith in rw z (bytes-none t)
 paired-all (x ∷ xs) t₀ t k p e u f =
     bytes-some k t (omega arith)
-    ∙ sym (ap (upTo 1024) (p .said ∙ ap (λ r. behind (take k t) (pairs r)) (drop-of-length-le (x ∷ xs) {i = k * 2} (omega arith)) ∙ behind-all (take k t)) ∙ up-in 1024 (take k t) (omega (arith, length-take-le k t f)))
+    ∙ sym (ap (upTo contentsRoom) (p .said ∙ ap (λ r. behind (take k t) (pairs r)) (drop-of-length-le (x ∷ xs) {i = k * 2} (omega arith)) ∙ behind-all (take k t)) ∙ up-in contentsRoom (take k t) (omega (arith, length-take-le k t f)))
 
 module _ (s t₀ t : List ℕ) (k : ℕ) (p : Paired s t₀ t k) where
   module _ (v : ℕ) (h : k * 2 + 1 < length s) (r : atMost 255 (some v) ≡ pair (hexDigit (getD s (k * 2) 0)) (hexDigit (getD s (k * 2 + 1) 0))) where

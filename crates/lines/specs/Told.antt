@@ -9,7 +9,7 @@ use lib.ListN.{length, take, drop}
 use borrow.Author.Tests.{eq-eqb, ne-eqb}
 use Rattle.memory.specs.Words.{wordAt}
 use Rattle.tape.specs.Tape.{wordsOf}
-use Rattle.lines.specs.Lines.{opens, reads, writes, malformed, atMost, number, numbers, upTo, contents, opened, read, stored, written, byLetter, lineOf, tapeOf}
+use Rattle.lines.specs.Lines.{opens, reads, writes, malformed, atMost, number, numbers, upTo, contents, opened, read, stored, written, byLetter, lineOf, tapeOf, mostWords}
 use Rattle.lines.specs.Said.{words, bytes}
 use Rattle.lines.specs.Fields.{after, Cut, Led, after-blank, after-end, some-field}
 use Rattle.lines.specs.Numbers.{up-in, up-out, up-none, told, untold}
@@ -137,7 +137,7 @@ module _ (l : List ℕ) (x : ℕ) (led : Led l x) where
   line-none a b c d e = rw (led .is, ne-eqb x 79 a, ne-eqb x 82 b, ne-eqb x 87 c, ne-eqb x 116 d, ne-eqb x 67 e)
 
   -- the letter T
-  pub tape-by : x ≡ 84 → tapeOf l ≡ upTo 8192 (numbers (after (drop 1 l)))
+  pub tape-by : x ≡ 84 → tapeOf l ≡ upTo mostWords (numbers (after (drop 1 l)))
   unfolding tapeOf
   tape-by e = rw (led .is, eq-eqb x 84 e, led .rest (λ q. omega arith))
 

@@ -5,9 +5,16 @@ ghost use mathlib.Core.List.{List};
 ghost use mathlib.Core.Option.{some};
 ghost use Prim.Native.Nat.{ℕ, _/_, _≤_};
 ghost use lib.ListN.{length, drop};
-ghost use Rattle.lines.specs.Lines.{lineOf, tapeOf, atMost, number as numberOf, digit as digitOf, digits as digitsOf, hexDigit, begins as beginsOf, contents as contentsOf, numbers as numbersOf, upTo, pair as pairOf, opened, read, written, bare};
+ghost use Rattle.lines.specs.Lines.{lineOf, tapeOf, atMost, number as numberOf, digit as digitOf, digits as digitsOf, hexDigit, begins as beginsOf, contents as contentsOf, numbers as numbersOf, upTo, pair as pairOf, opened, read, written, bare, contentsRoom, tapeRoom};
 ghost use Rattle.lines.specs.Said.{said, Small, words, bytes};
 ghost use Rattle.lines.specs.Fields.{after, Cut, Led};
+
+// A line's contents are at most so many bytes, and a tape has at most so many words, of two bytes each.
+pub const CONTENTS: usize = 1024;
+
+pub const WORDS: usize = 8192;
+
+pub const TAPE: usize = 16384;
 
 // What a line asks for. Of a write: its block, and how many bytes its contents are.
 pub enum Line {
@@ -148,14 +155,14 @@ fn numbers(line: &[u8], at: usize, room: &mut [u8]) -> usize
 
 // Stores the bytes that pairs of hexadecimal digits say, and tells how many; 0 if these are no contents.
 fn contents(s: &[u8], room: &mut [u8]) -> usize
-    requires { ⌜ length (now room) ≡ 1024 ⌝ }
-    ensures { λ r. ⌜ (bytes r (now (room .exit)) ≡ contentsOf (now (s .entry))) × (r ≤ 1024) ⌝ }
+    requires { ⌜ length (now room) ≡ contentsRoom ⌝ }
+    ensures { λ r. ⌜ (bytes r (now (room .exit)) ≡ contentsOf (now (s .entry))) × (r ≤ contentsRoom) ⌝ }
 {
     let n = s.len() / 2;
     if s.len() != n * 2 {
         return 0;
     }
-    if 1024 < n {
+    if CONTENTS < n {
         return 0;
     }
     let mut k = 0;
@@ -204,7 +211,7 @@ fn block_line(line: &[u8]) -> Line
 
 // W: a block and contents.
 fn write_line(line: &[u8], room: &mut [u8]) -> Line
-    requires { ⌜ length (now room) ≡ 1024 ⌝ }
+    requires { ⌜ length (now room) ≡ contentsRoom ⌝ }
     ensures { λ r. ⌜ (said r (now (room .exit)) ≡ written (after (drop 1 (now (line .entry))))) × Small r ⌝ }
 {
     let n = line.len();
@@ -244,7 +251,7 @@ fn bare_line(line: &[u8], r: Line) -> Line
 
 // What a line says. The contents of a write are the first bytes of `room`.
 pub fn read_line(line: &[u8], room: &mut [u8]) -> Line
-    requires { ⌜ length (now room) ≡ 1024 ⌝ }
+    requires { ⌜ length (now room) ≡ contentsRoom ⌝ }
     ensures { λ r. ⌜ (said r (now (room .exit)) ≡ lineOf (now (line .entry))) × Small r ⌝ }
 {
     let x = letter(line);
@@ -260,7 +267,7 @@ pub fn read_line(line: &[u8], room: &mut [u8]) -> Line
 
 // Stores the words of the tape that a first line says, low byte first, and tells how many; 8,193 if it is no T, or malformed.
 pub fn read_tape(line: &[u8], tape: &mut [u8]) -> usize
-    requires { ⌜ length (now tape) ≡ 16384 ⌝ }
+    requires { ⌜ length (now tape) ≡ tapeRoom ⌝ }
     ensures { λ r. ⌜ words r (now (tape .exit)) ≡ tapeOf (now (line .entry)) ⌝ }
 {
     let x = letter(line);

@@ -30,7 +30,8 @@ use Rattle.client.specs.declared.Client.{Client}
 use Rattle.client.specs.View.{stateOf, view, rows, requestOf, bytesIn, placeOf, levelAt}
 use Rattle.client.specs.Changes.{place-nowhere}
 use Rattle.client.specs.Moves.{noRequest}
-use Rattle.tape.specs.Tape.{wordsOf, draws-enough, draws-number, length-numbers}
+use Rattle.rules.specs.Laws.Drawn.{draws-enough, draws-number, length-numbers}
+use Rattle.tape.specs.Tape.{wordsOf}
 use Rattle.contract.specs.Meets.{callOf}
 
 unfoldable pub openNumber : Shape → ℕ → ℕ → ℕ

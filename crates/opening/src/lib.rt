@@ -82,13 +82,5 @@ pub fn open(h: Shape, m: &mut [u8], tape: &[u8]) -> Answer
     }
     clear(h, m);
     draw_partitions(h, m, tape);
-    Answer {
-        number: 0,
-        taken: h.n,
-        kind: 0,
-        partition: 0,
-        level: 0,
-        slot: 0,
-        client: fresh(h),
-    }
+    contract::accepted(fresh(h), h.n)
 }

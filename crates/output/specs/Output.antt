@@ -6,7 +6,7 @@ use native.Mathlib.Omega.{arith}
 use native.Mathlib.Decide.{decLt}
 use lib.ListN.{length, take, drop, length-append, drop-of-length-le}
 use lib.Seq.{drop-append-le}
-use Rattle.session.specs.Answers.{textRoom}
+use Rattle.printing.specs.Laws.{textRoom}
 use Rattle.output.specs.declared.Output.{Output}
 
 abbrev pub outRoom : ℕ

@@ -1,4 +1,5 @@
 // The output's buffer: how much it holds, and how much left it. The field `gone` is private to this crate, so that nothing but `flush` can raise it.
+use printing::TEXT;
 ghost use mathlib.Core.Path.{_≡_};
 ghost use Rattle.output.specs.Output.{total, Placed};
 ghost use Rattle.output.specs.Printed.{Due};
@@ -7,9 +8,6 @@ const STDOUT: i32 = 1;
 
 // The bytes of the output's buffer.
 pub const OUT: usize = 65536;
-
-// The text of a line's answer is no longer.
-const TEXT: usize = 1027;
 
 pub struct Output {
     // how many bytes of the buffer are filled

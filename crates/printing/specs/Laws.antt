@@ -86,11 +86,15 @@ command-le c =
     simp (decimal-0, length-append)
     (omega (arith, decimal-le (c .partition), decimal-le (c .level), decimal-le (c .slot)))
 
+-- the longest text of a line: a number, a blank, 512 pairs and the newline
+abbrev pub textRoom : ℕ
+textRoom = 1027
+
 pub contents-length : (xs : List ℕ) → length (contentsText xs) ≡ 3 + 2 * length xs
 unfolding contentsText further
 contents-length xs = simp (decimal-0, length-append) (omega (arith, hexadecimal-length xs))
 
-pub contents-le : (xs : List ℕ) → length xs ≤ 512 → length (contentsText xs) ≤ 1027
+pub contents-le : (xs : List ℕ) → length xs ≤ 512 → length (contentsText xs) ≤ textRoom
 contents-le xs h = omega (arith, contents-length xs)
 
 -- ---- The digits of a number, read one by one, say it, and the first is no needless zero

@@ -25,6 +25,9 @@ fn digit(d: usize) -> u8
     }
 }
 
+// No text of a line is longer.
+pub const TEXT: usize = 1027;
+
 // The digits before the last are those of a tenth of the number: five calls at most.
 fn digits(out: &mut [u8], at: usize, n: usize) -> usize
     requires { ⌜ (n < 65536) × (at + 5 ≤ length (now out)) ⌝ }

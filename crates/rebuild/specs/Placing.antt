@@ -14,11 +14,12 @@ use Rattle.memory.specs.Fits.{shapeOf, fit}
 use Rattle.memory.specs.Tables.{tablesOf, withPlace, withHolds}
 use Rattle.client.specs.declared.Client.{Client}
 use Rattle.client.specs.View.{placeOf, view, stateOf}
-use Rattle.client.specs.Changes.{place-is, spot-lt}
-use Rattle.client.specs.Moves.{Stands}
+use Rattle.rules.specs.Laws.Layout.{offset-lt}
+use Rattle.client.specs.Changes.{place-is}
+use Rattle.client.specs.Moves.{Stands, restated}
 use Rattle.rebuild.specs.Fill.{putAll-at, putAll-over}
 use Rattle.rebuild.specs.Target.{orderIn, Empty, placed, rebuilt, Within, length-orderIn, order-at, order-put}
-use Rattle.rebuild.specs.Steps.{stays, moved, same-state, puts-place, puts-holds, reads-order, slot-lt, marked, emptied, ordered}
+use Rattle.rebuild.specs.Steps.{stays, moved, puts-place, puts-holds, reads-order, slot-lt, marked, emptied, ordered}
 use Rattle.rebuild.specs.Items.{place-none, place-more, length-holds, holds-none, holds-more}
 
 shape-is : (c : Client) (m : List ℕ) → shapeOf (c .shape) ≡ stateOf c m .shape
@@ -26,7 +27,7 @@ unfolding stateOf view
 shape-is c m = refl
 
 pub items-start : (c : Client) (m : List ℕ) (base t : ℕ) (o : List ℕ) → Empty base (slots t) (stateOf c m) → Stands c m m (placed base t [] o (stateOf c m))
-items-start c m base t o e = same-state c m m _ _ (stays c m)
+items-start c m base t o e = restated (stays c m)
     (λ k. setPlace (sym (place-none t o (stateOf c m .place)) k) (setHolds (holds-none base (slots t) o (stateOf c m .holds) e k) (stateOf c m)))
 
 -- block b becomes the next item, at the slot x that the order gives it
@@ -60,16 +61,16 @@ module _ (c : Client) (m₀ m m′ m″ : List ℕ) (q t base n b x : ℕ) (xs :
         → tablesOf h m″ ≡ withPlace (put b (n + x) (tablesOf h m′ .place)) (tablesOf h m′)
         → Stands c m₀ m″ (placed base t (xs ++ (b ∷ [])) o (stateOf c m₀))
     items-more lb new u e d =
-        let ln : n + x < slots (h .L) = rw size (spot-lt (h .L) t x level slot-in) in
+        let ln : n + x < slots (h .L) = rw size (offset-lt (h .L) t x level slot-in) in
         let first = moved c m₀ m m′ _ (λ s. setHolds (put (base + x) (b + 1) (s .holds)) s) now (puts-holds c m m′ (base + x) (b + 1) (omega arith) e) in
         let second = moved c m₀ m′ m″ _ (λ s. setPlace (put b (placeOf (h .L) (n + x)) (s .place)) s) first (puts-place c m′ m″ b (n + x) ln d) in
-        same-state c m₀ m″ _ _ second (λ k. setPlace (there new k) (setHolds (slot-holds u k) (stateOf c m₀)))
+        restated second (λ k. setPlace (there new k) (setHolds (slot-holds u k) (stateOf c m₀)))
 
 -- a level that is emptied, and its blocks placed
 pub places-blocks : (c : Client) (m m′ m″ : List ℕ) (q t base n : ℕ) (xs : List ℕ) → n ≡ slots t → Stands c m m′ (emptied base n (stateOf c m))
     → Stands c m′ m″ (placed base t xs (orderIn (stateOf c m′) q t) (stateOf c m′)) → Stands c m m″ (placed base t xs (orderIn (stateOf c m) q t) (stateOf c m))
 unfolding orderIn cleared
-places-blocks c m m′ m″ q t base n xs e a b = same-state c m m″ _ _ (moved c m m′ m″ _ (λ s. placed base t xs (orderIn s q t) s) a b)
+places-blocks c m m′ m″ q t base n xs e a b = restated (moved c m m′ m″ _ (λ s. placed base t xs (orderIn s q t) s) a b)
     (ap (λ f. setPlace (newPlace t xs (orderIn (stateOf c m) q t) (stateOf c m .place)) (setHolds f (stateOf c m)))
     (putAll-over base (newHolds (slots t) xs (orderIn (stateOf c m) q t)) (stateOf c m .holds) _ (length-replicate {A = ℕ} n 0 ∙ e ∙ sym (length-holds (slots t) xs (orderIn (stateOf c m) q t)))))
 
@@ -103,4 +104,4 @@ module _ (c : Client) (m₀ m₁ m₂ m₃ : List ℕ) (q t n : ℕ) (o : List �
   order-drawn = ap (λ s. orderIn s q t) (so-far .state) ∙ drawn-order
 
   pub rebuilds : (m₄ bs : List ℕ) → Stands c m₃ m₄ (placed base t bs (orderIn (stateOf c m₃) q t) (stateOf c m₃)) → Stands c m₀ m₄ (rebuilt (shapeOf (c .shape)) q t n bs o (stateOf c m₀))
-  rebuilds m₄ bs e = same-state c m₀ m₄ _ _ (moved c m₀ m₃ m₄ _ (λ s. placed base t bs (orderIn s q t) s) so-far e) (ap (λ p. placed base t bs p drawn) drawn-order)
+  rebuilds m₄ bs e = restated (moved c m₀ m₃ m₄ _ (λ s. placed base t bs (orderIn s q t) s) so-far e) (ap (λ p. placed base t bs p drawn) drawn-order)

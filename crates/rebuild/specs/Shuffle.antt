@@ -16,12 +16,12 @@ use Rattle.rules.specs.State.{State}
 use Rattle.rules.specs.Setters.{setOrder}
 use Rattle.client.specs.declared.Client.{Client}
 use Rattle.client.specs.View.{stateOf}
-use Rattle.client.specs.Moves.{Stands}
+use Rattle.client.specs.Moves.{Stands, restated}
 use Rattle.rules.specs.Laws.Orders.{orderBounds-pos, nodup-order, length-bounds}
 use Rattle.rules.specs.Laws.Kept.{drew-of}
-use Rattle.tape.specs.Tape.{draws-enough, draws-number, length-numbers}
+use Rattle.rules.specs.Laws.Drawn.{draws-enough, draws-number, length-numbers}
 use Rattle.rebuild.specs.Fill.{putAll-at, put-in, putAll-over}
-use Rattle.rebuild.specs.Steps.{stays, moved, same-state, ordered}
+use Rattle.rebuild.specs.Steps.{stays, moved, ordered}
 
 bound-at : (n k : ℕ) → k < n - 1 → getD (orderBounds n) k 0 ≡ n - k
 unfolding orderBounds
@@ -90,7 +90,7 @@ module _ (c : Client) (m m₀ : List ℕ) (base n : ℕ) (js : List ℕ) (start 
       record {
         order = below n;
         long = length-below n;
-        here = same-state c m₀ m₀ _ _ (stays c m₀) (start .state ∙ sym (again (below n) (length-below n)));
+        here = restated (stays c m₀) (start .state ∙ sym (again (below n) (length-below n)));
         rest = rw z;
       }
 

@@ -16,7 +16,7 @@ use Rattle.memory.specs.Tables.{tablesOf, withPlace, withOrder, withMark, withH
 use Rattle.client.specs.declared.Client.{Client}
 use Rattle.client.specs.View.{placeOf, levelAt, view, stateOf}
 use Rattle.client.specs.Changes.{view-place, view-slot, view-mark, view-holds}
-use Rattle.client.specs.Moves.{Stands, stands}
+use Rattle.client.specs.Moves.{Stands, stands, restated}
 use Rattle.rebuild.specs.Target.{Within}
 use Rattle.rebuild.specs.Fill.{putAll-none, fill-same, fill-below}
 
@@ -27,10 +27,6 @@ stays c m = record { state = refl; tail = refl }
 -- a move from where another ended
 pub moved : (c : Client) (m₀ m m′ : List ℕ) (s : State) (F : State → State) → Stands c m₀ m s → Stands c m m′ (F (stateOf c m)) → Stands c m₀ m′ (F s)
 moved c m₀ m m′ s F a b = record { state = b .state ∙ ap F (a .state); tail = b .tail ∙ a .tail }
-
--- the same state in other words
-pub same-state : (c : Client) (m₀ m : List ℕ) (s s′ : State) → Stands c m₀ m s → s ≡ s′ → Stands c m₀ m s′
-same-state c m₀ m s s′ a e = record { state = a .state ∙ e; tail = a .tail }
 
 module _ (c : Client) (m m′ : List ℕ) where
   abbrev H : Shape
@@ -88,15 +84,15 @@ ordered base o s = setOrder (putAll base o (s .order)) s
 
 module _ (c : Client) (m : List ℕ) (base : ℕ) where
   pub marks-start : Stands c m m (marked base 0 (stateOf c m))
-  marks-start = same-state c m m _ _ (stays c m) (ap (λ f. setMark f (stateOf c m)) (putAll-none base (stateOf c m .mark)))
+  marks-start = restated (stays c m) (ap (λ f. setMark f (stateOf c m)) (putAll-none base (stateOf c m .mark)))
 
   pub empties-start : Stands c m m (emptied base 0 (stateOf c m))
   unfolding cleared
-  empties-start = same-state c m m _ _ (stays c m) (ap (λ f. setHolds f (stateOf c m)) (putAll-none base (stateOf c m .holds)))
+  empties-start = restated (stays c m) (ap (λ f. setHolds f (stateOf c m)) (putAll-none base (stateOf c m .holds)))
 
   pub orders-start : Stands c m m (ordered base (below 0) (stateOf c m))
   unfolding below count
-  orders-start = same-state c m m _ _ (stays c m) (ap (λ f. setOrder f (stateOf c m)) (putAll-none base (stateOf c m .order)))
+  orders-start = restated (stays c m) (ap (λ f. setOrder f (stateOf c m)) (putAll-none base (stateOf c m .order)))
 
 module _ (c : Client) (m₀ m m′ : List ℕ) (base j : ℕ) where
   abbrev h : Shape

@@ -16,6 +16,7 @@ use Rattle.rules.specs.State.{State}
 use Rattle.rules.specs.Setters.{_▷_, setPlace, setWaiting, setOrder, setMark, setHolds, setSent}
 use Rattle.rules.specs.Levels.{sources}
 use Rattle.rules.specs.Rebuild.{cleared, newPlace, newHolds, chosen, gathered, leave, doRebuild}
+use Rattle.rules.specs.Laws.Layout.{cell-from}
 use Rattle.client.specs.View.{levelAt}
 use Rattle.client.specs.Changes.{cell-level}
 use Rattle.rebuild.specs.Fill.{putAll-at}
@@ -66,12 +67,9 @@ module _ (h : Shape) (q : ℕ) (hq : q < h .P) where
       let x : base + i < h .P * slots (h .L) = omega (arith, level-in t l) in
       record {
         inside = x;
-        level = d ∙ ap slots (sym (ap (levelAt h) (ap (λ b. b + i) e ∙ cell-next h q t i) ∙ cell-level h q t i l (omega arith)));
+        level = d ∙ ap slots (sym (ap (levelAt h) (ap (λ b. b + i) e ∙ cell-from h q t i) ∙ cell-level h q t i l (omega arith)));
         small = omega arith;
       }
-    where
-      cell-next : (h : Shape) (q t i : ℕ) → cell h q t 0 + i ≡ cell h q t i
-      cell-next h q t i = unfold cell in omega arith
 
 -- ---- The order in the tables
 pub length-orderIn : (s : State) (q t : ℕ) → length (orderIn s q t) ≡ slots t

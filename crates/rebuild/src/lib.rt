@@ -20,10 +20,10 @@ ghost use Rattle.rebuild.specs.Target.{orderIn, Within, Empty, placed, r
 
 // The cell of slot 0 of level t of partition q.
 fn level_start(c: Client, q: usize, t: usize) -> usize
-    requires { ⌜ (c .shape .l ≤ 8) × (c .shape .p ≤ 64) × (q < c .shape .p) × (t < c .shape .l) ⌝ }
+    requires { ⌜ (c .shape .l ≤ 8) × (c .shape .p ≤ 64) × (c .shape .p * slots (c .shape .l) ≤ 32768) × (q < c .shape .p) × (t < c .shape .l) ⌝ }
     ensures { λ r. ⌜ r ≡ cellOf (shapeOf (c .shape)) q t 0 ⌝ }
 {
-    q * bits::pow2(c.shape.l + 1) + bits::pow2(t + 1)
+    levels::cell(c.shape, q, t, 0)
 }
 
 // The n cells from cell `base` on hold nothing more.

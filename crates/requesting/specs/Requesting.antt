@@ -11,7 +11,7 @@ use lib.Dec.{eqb, leb, ltb}
 use borrow.Author.Tests.{eqb-true, ne-eqb, leb-true}
 use Rattle.lists.specs.Tests.{if_then_else_, and-l, and-r, between}
 use Rattle.lists.specs.Search.{isNone, member}
-use Rattle.lists.specs.Tables.{put, put-same, put-other}
+use Rattle.lists.specs.Tables.{put, put-own}
 use Rattle.rules.specs.State as R
 use Rattle.rules.specs.State.{State, write}
 use Rattle.rules.specs.Setters.{setRequest}
@@ -30,7 +30,8 @@ use Rattle.client.specs.View.{stateOf, view, requestOf}
 use Rattle.client.specs.Readings.{jobs-count, waiting-count, hand-none}
 use Rattle.client.specs.Changes.{view-asked}
 use Rattle.client.specs.Moves.{withRequest, Stands, stands}
-use Rattle.tape.specs.Tape.{wordsOf, draws-enough, draws-number}
+use Rattle.rules.specs.Laws.Drawn.{draws-enough, draws-number}
+use Rattle.tape.specs.Tape.{wordsOf}
 use Rattle.contract.specs.Meets.{callOf}
 use Rattle.ready.specs.Usable.{Usable, usable}
 
@@ -99,15 +100,8 @@ module _ (c : Client) (m : List ℕ) where
 
 -- ---- The state
 
-put-back : {A : Type 0} (i : ℕ) (f : ℕ → A) → put i (f i) f ≡ f
-put-back i f = fun-ext (λ x. go x (ℕ-discrete x i))
-  where
-    go : (x : ℕ) → Dec (x ≡ i) → put i (f i) f x ≡ f x
-    go x (yes e) = rw e (put-same i (f i) f)
-    go x (no e) = put-other i (f i) f x e
-
 pub kept-read : (h : Numbers) (k : ℕ) (bs m : List ℕ) → (k ≡ 2 → ⊥) → Kept h k bs m m
-kept-read h k bs m n = rw (ne-eqb k 2 n) (ap (λ f. withBlocks f (tablesOf (shapeOf h) m)) (sym (put-back (h .n) (tablesOf (shapeOf h) m .blocks))))
+kept-read h k bs m n = rw (ne-eqb k 2 n) (ap (λ f. withBlocks f (tablesOf (shapeOf h) m)) (sym (put-own (h .n) (tablesOf (shapeOf h) m .blocks))))
 
 nothing : (bs : List ℕ) → length bs ≡ 0 → [] ≡ bs
 nothing [] e = refl

@@ -1,6 +1,7 @@
 // Request (read or write, block, contents) takes two draws below P: the block's next partition, then an eviction partition.
 use client::Client;
 use client::Request;
+use client::WRITE;
 use contract::Answer;
 use memory::Shape;
 ghost use mathlib.Core.Path.{_≡_};
@@ -23,15 +24,14 @@ ghost use Rattle.requesting.specs.Requesting.{requestNumber, Kept, Taken
 fn begins(c: Client, m: &[u8], kind: usize) -> bool
     ensures { λ r. ⌜ r ≡ (ready (stateOf c (now (m .entry))) (length (now (m .entry))) && isKind kind) ⌝ }
 {
-    let known = (1 <= kind) & (kind <= 2);
-    ready::is_ready(c, m) & known
+    ready::is_ready(c, m) & client::is_kind(kind)
 }
 
 // How long the contents are: of B bytes for a write, 0 for a read.
 fn size(h: Shape, kind: usize) -> usize
     ensures { λ r. ⌜ r ≡ bytesOf (shapeOf h) kind ⌝ }
 {
-    if kind == 2 { h.b } else { 0 }
+    if kind == WRITE { h.b } else { 0 }
 }
 
 // Fewer than E blocks wait, or this one is among them.
@@ -78,7 +78,7 @@ fn keep(h: Shape, m: &mut [u8], kind: usize, contents: &[u8])
     requires { ⌜ Fits (shapeOf h) (length (now m)) × (length (now contents) ≡ bytesOf (shapeOf h) kind) ⌝ }
     ensures { λ _. ⌜ Kept h kind (now (contents .entry)) (now (m .entry)) (now (m .exit)) ⌝ }
 {
-    if kind != 2 {
+    if kind != WRITE {
         return;
     }
     memory::blocks::store(h, m, h.n, contents);
@@ -116,13 +116,6 @@ pub fn request(
     if n != 0 {
         return contract::refused(n, c);
     }
-    Answer {
-        number: 0,
-        taken: 2,
-        kind: 0,
-        partition: 0,
-        level: 0,
-        slot: 0,
-        client: take(c, m, kind, block, contents, tape),
-    }
+    let d = take(c, m, kind, block, contents, tape);
+    contract::accepted(d, 2)
 }

@@ -1,6 +1,7 @@
 pub mod Answers
 pub mod Layout
 pub mod Levels
+pub mod Drawn
 pub mod Orders
 pub mod Waiting
 pub mod Range

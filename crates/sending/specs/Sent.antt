@@ -20,6 +20,7 @@ use Rattle.rules.specs.Rebuild.{gathered, doRebuild}
 use Rattle.rules.specs.Turn.{Step, idle, noDummy, readForRequest, readForJob, rebuild, writeNext, decide, command, stepBounds, markRead, send, doStep}
 use Rattle.rules.specs.Questions.{turn, ready, sends, possible, questions, firstNo, number, bounds}
 use Rattle.rules.specs.Run.{act, sentCommand, handed, written, numbersOf, refuse}
+use Rattle.rules.specs.Laws.Drawn.{draws-enough, taken-all}
 use Rattle.rules.specs.Laws.Asked.{reads-asked}
 use Rattle.rules.specs.Laws.Decided.{StepIn, decide-in}
 use Rattle.memory.specs.Fits.{shapeOf, fit, fit-lt}
@@ -28,11 +29,11 @@ use Rattle.client.specs.declared.Client.{Client}
 use Rattle.client.specs.View.{stateOf, view, handBy, requestOf, bytesIn}
 use Rattle.client.specs.Rows.{length-rows}
 use Rattle.client.specs.Readings.{hand-none}
-use Rattle.client.specs.Moves.{atLevel, withRequest, withCursor, withSent, withOut, Stands, then as next}
-use Rattle.tape.specs.Tape.{wordsOf, draws-enough, taken-all}
+use Rattle.client.specs.Moves.{atLevel, withRequest, withCursor, withSent, withOut, Stands, restated, then as next}
+use Rattle.tape.specs.Tape.{wordsOf}
 use Rattle.ready.specs.Usable.{Usable}
 use Rattle.contract.specs.declared.Answer.{Answer}
-use Rattle.contract.specs.Answers.{refusedWith}
+use Rattle.contract.specs.Answers.{refusedWith, answerOf}
 use Rattle.contract.specs.Meets.{callOf, handedTo, commandOf, Meets, meets-no, meets-yes}
 use Rattle.rebuild.specs.Target.{rebuilt, rebuild-is}
 use Rattle.client.specs.declared.Found.{Found}
@@ -55,9 +56,6 @@ Reads c m r m′ = (tape b : List ℕ) → Meets c (stateOf c m) turn m tape b r
 
 abbrev pub Writes : Client → List ℕ → List ℕ → Answer → List ℕ → List ℕ → Type 0
 Writes c m b r m′ b′ = (tape : List ℕ) → Meets c (stateOf c m) turn m tape b r m′ b′
-
-abbrev pub answerOf : Client → ℕ → ℕ → ℕ → ℕ → ℕ → Answer
-answerOf c n k q l i = record { number = 0; taken = n; kind = k; partition = q; level = l; slot = i; client = c }
 
 -- A turn of the client c leaves e, which stands for s; while no request is in hand, its numbers stay
 pub record Left (c e : Client) (m m′ : List ℕ) (s : State) : Type 0 where
@@ -153,9 +151,6 @@ unfolding written
 handed-write b b′ s q l i n e = e ∙ sym (handed-some b (slotBytes s (holder s q l i)) (rw (sym e) n))
 
 -- ---- What it changes
-
-restated : {c : Client} {m m′ : List ℕ} {s s′ : State} → Stands c m m′ s → s ≡ s′ → Stands c m m′ s′
-restated k e = record { state = k .state ∙ e; tail = k .tail }
 
 left : {c e : Client} {m m′ : List ℕ} {s : State} → (e .request .kind ≡ 0 → e .request ≡ c .request) → Stands e m m′ s → Left c e m m′ s
 left i k = record { stands = k; idle = i }

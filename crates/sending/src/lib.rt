@@ -1,7 +1,9 @@
 // The steps of a turn: each sends one command, if enough is lent for it.
 use client::Client;
 use client::Found;
+use client::READ;
 use client::Request;
+use client::WRITE;
 use contract::Answer;
 ghost use mathlib.Core.Path.{_≡_};
 ghost use Prim.Native.Nat.{_+_, _-_, _<_, _≤_, _^_};
@@ -22,29 +24,7 @@ ghost use Rattle.gather.specs.Gathered.{Gathers};
 ghost use Rattle.ready.specs.Usable.{Usable};
 ghost use Rattle.contract.specs.Meets.{Meets};
 ghost use Rattle.sending.specs.Chosen.{PlaceBelow, Chosen, extraAt, leftBy};
-ghost use Rattle.sending.specs.Sent.{Due, Reads, Writes, answerOf, passed};
-
-// What a turn reports that sends this command.
-fn sent(
-    client: Client,
-    taken: usize,
-    kind: usize,
-    partition: usize,
-    level: usize,
-    slot: usize,
-) -> Answer
-    ensures { λ r. ⌜ r ≡ answerOf client taken kind partition level slot ⌝ }
-{
-    Answer {
-        number: 0,
-        taken,
-        kind,
-        partition,
-        level,
-        slot,
-        client,
-    }
-}
+ghost use Rattle.sending.specs.Sent.{Due, Reads, Writes, passed};
 
 // The request goes on from the level above l.
 fn pass_level(c: Client, l: usize) -> Client
@@ -68,8 +48,8 @@ pub fn read_for_request(c: Client, m: &mut [u8], q: usize, l: usize, i: usize) -
 {
     levels::mark_read(c, m, q, l, i);
     let d = pass_level(c, l);
-    let e = commands::send(d, m, 1, q, l, i);
-    sent(e, 0, 1, q, l, i)
+    let e = commands::send(d, m, READ, q, l, i);
+    contract::sent(e, 0, READ, q, l, i)
 }
 
 // Sends the job's next read.
@@ -79,8 +59,8 @@ pub fn read_for_job(c: Client, m: &mut [u8], q: usize, l: usize, i: usize) -> An
 {
     levels::mark_read(c, m, q, l, i);
     let d = c.with_cursor(bits::pow2(l + 1) - 2 + i + 1);
-    let e = commands::send(d, m, 1, q, l, i);
-    sent(e, 0, 1, q, l, i)
+    let e = commands::send(d, m, READ, q, l, i);
+    contract::sent(e, 0, READ, q, l, i)
 }
 
 // The bytes of the block in a slot, or zeros for a dummy, go into the buffer.
@@ -113,9 +93,9 @@ pub fn write_next(
         return contract::refused(15, c);
     }
     let d = c.with_sent(i + 1);
-    let e = commands::send(d, m, 2, q, t, i);
+    let e = commands::send(d, m, WRITE, q, t, i);
     put_bytes(e, m, q, t, i, buffer);
-    sent(e, 0, 2, q, t, i)
+    contract::sent(e, 0, WRITE, q, t, i)
 }
 
 // The block at place j of the cache, which has waited longest for q, is chosen if q stores fewer than 2^(L-1) blocks.
@@ -210,9 +190,9 @@ fn send_rebuild(
 {
     let words = bits::pow2(t + 1) - 1;
     let d = write_level(c, m, q, t, x, list, k, tape);
-    let e = commands::send(d, m, 2, q, t, 0);
+    let e = commands::send(d, m, WRITE, q, t, 0);
     put_bytes(e, m, q, t, 0, buffer);
-    sent(e, words, 2, q, t, 0)
+    contract::sent(e, words, WRITE, q, t, 0)
 }
 
 // The rebuild, if enough is lent and the target has room for what it gathers.

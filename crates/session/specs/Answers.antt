@@ -21,8 +21,9 @@ use Rattle.contract.specs.declared.Answer.{Answer}
 use Rattle.contract.specs.Answers.{clearedClient}
 use Rattle.contract.specs.Meets.{commandOf, closed-is}
 use Rattle.printing.specs.Written.{Written}
+use Rattle.printing.specs.Laws.{textRoom}
 use Rattle.session.specs.Session as S
-use Rattle.session.specs.Session.{serves, gives, room, call, replied, brought, start, begun}
+use Rattle.session.specs.Session.{serves, gives, memoryRoom, call, replied, brought, start, begun}
 use Rattle.session.specs.declared.Session.{Session}
 use Rattle.session.specs.declared.Printed.{Printed}
 
@@ -49,10 +50,6 @@ pub fresh-kept : (m tape host : List ℕ) → kept fresh m tape host ≡ begun h
 unfolding begun
 fresh-kept m tape host = λ i. record { state = closed-is m i; words = wordsOf tape; host = host }
 
--- room for the text of one line
-abbrev pub textRoom : ℕ
-textRoom = 1027
-
 -- What is given is what is kept after the line (r, the memory m, the host's bytes) and printed (from the place `at` on); no text is longer than that
 pub record Gives (g : S.Given) (tape out : List ℕ) (at : ℕ) (r : Printed) (m host out′ : List ℕ) : Type 0 where
   pub session : kept (r .session) m tape host ≡ g .0
@@ -71,7 +68,7 @@ AnswersApart s l m tape out at r m′ out′ = (host : List ℕ) → Answers s l
 -- A request, by its kind and contents
 abbrev pub Asks : Session → ℕ → ℕ → List ℕ → List ℕ → List ℕ → List ℕ → ℕ → Printed → List ℕ → List ℕ → Type 0
 Asks s kind block bs m tape out at r m′ out′ = (host : List ℕ)
-    → Gives (replied (kept s m tape host) (step (stateOf (s .client) m) (call (request kind block bs) room (drop (s .taken) (wordsOf tape)) 0))) tape out at r m′ host out′
+    → Gives (replied (kept s m tape host) (step (stateOf (s .client) m) (call (request kind block bs) memoryRoom (drop (s .taken) (wordsOf tape)) 0))) tape out at r m′ host out′
 
 -- A command's slot in a shape that is served
 pub record Slot (h : Shape) (c : Command) : Type 0 where

@@ -21,7 +21,7 @@ use Rattle.rules.specs.Memory.{needed}
 use Rattle.rules.specs.Laws.Layout.{cell-inj}
 use Rattle.rules.specs.Laws.Levels.{two-slots}
 use Rattle.memory.specs.Parts.{replaced, length-replaced, replaced-inside, part-outside}
-use Rattle.session.specs.Session.{serves, room, call, start, fetched, stored, answered, replied, turned, collected, gives, begun}
+use Rattle.session.specs.Session.{hostRoom, serves, memoryRoom, call, start, fetched, stored, answered, replied, turned, collected, gives, begun}
 use Rattle.lines.specs.Lines.{Line, opens, reads, writes, turns, collects, malformed}
 use Rattle.printing.specs.Text.{numberText}
 use Rattle.session.specs.Answers.{Slot}
@@ -29,14 +29,14 @@ use Rattle.session.specs.Slots.{product-le, room-served, blocks-served, 
 use Rattle.session.specs.OpenLine.{bounds}
 
 -- "It serves N up to 64 and P × (2^(L+1) − 2) × B up to 16,384": the memory is long enough for each of these
-pub served-fits : (h : Shape) → within h ≡ true → serves h ≡ true → needed h ≤ room
+pub served-fits : (h : Shape) → within h ≡ true → serves h ≡ true → needed h ≤ memoryRoom
 unfolding needed within between
 served-fits h w e =
     let p = bounds h w .0 in
     let b = bounds h w .2 in
     let s = two-slots (h .L) in
-    let one : h .P * (slots (h .L) - 2) ≤ 16384 = omega (arith, room-served h e, product-one (h .P * (slots (h .L) - 2)) (h .B) (some-byte h w)) in
-    let cells : h .P * slots (h .L) ≤ 16384 + 128 = omega (arith, twice (h .P) (slots (h .L)) s) in
+    let one : h .P * (slots (h .L) - 2) ≤ hostRoom = omega (arith, room-served h e, product-one (h .P * (slots (h .L) - 2)) (h .B) (some-byte h w)) in
+    let cells : h .P * slots (h .L) ≤ hostRoom + 128 = omega (arith, twice (h .P) (slots (h .L)) s) in
     let blocks = product-le (h .N + 1) (h .B) 65 512 (omega (arith, blocks-served h e)) b in
     omega (arith, blocks-served h e)
   where
@@ -62,14 +62,14 @@ spotted : (h : Shape) (c : Command) → Slot h c → Spot h (c .partition) (c .l
 spotted h c f = spot h (c .partition) (c .level) (c .slot) (record { partition = f .partition; level = f .level; slot = f .slot; serves = f .serves; partitions = f .partitions; levels = f .levels; block = f .block })
 
 -- a slot is within the host's bytes
-end-le : (h : Shape) (c : Command) → Slot h c → start h c + h .B ≤ 16384
+end-le : (h : Shape) (c : Command) → Slot h c → start h c + h .B ≤ hostRoom
 unfolding start
 end-le h c f =
     let p = spotted h c f in
     omega (arith, p .bytes, p .start)
 
 -- bytes that are put there are brought
-put-same : (h : Shape) (c : Command) (host bytes : List ℕ) → Slot h c → length host ≡ 16384 → length bytes ≡ h .B → fetched h c (replaced (start h c) host bytes) ≡ bytes
+put-same : (h : Shape) (c : Command) (host bytes : List ℕ) → Slot h c → length host ≡ hostRoom → length bytes ≡ h .B → fetched h c (replaced (start h c) host bytes) ≡ bytes
 unfolding fetched
 put-same h c host bytes f l n =
     let e = end-le h c f in
@@ -118,7 +118,7 @@ place-inj h c d f g e =
         omega arith
 
 -- and no other slot is changed
-put-other : (h : Shape) (c d : Command) (host bytes : List ℕ) → Slot h c → Slot h d → length host ≡ 16384 → length bytes ≡ h .B → (SameSlot c d → ⊥)
+put-other : (h : Shape) (c d : Command) (host bytes : List ℕ) → Slot h c → Slot h d → length host ≡ hostRoom → length bytes ≡ h .B → (SameSlot c d → ⊥)
     → fetched h d (replaced (start h c) host bytes) ≡ fetched h d host
 unfolding fetched start place
 put-other h c d host bytes f g l n ne =
@@ -132,12 +132,12 @@ put-other h c d host bytes f g l n ne =
         above m = let no : place h c ≡ place h d → ⊥ = λ e. ne (place-inj h c d f g e) in omega arith
 
 -- a slot has the bytes last stored there
-pub fetched-same : (h : Shape) (o : Outcome) (host : List ℕ) → Slot h (o .command) → length host ≡ 16384 → o .command .kind ≡ write → length (o .bytes) ≡ h .B → fetched h (o .command) (stored h o host) ≡ o .bytes
+pub fetched-same : (h : Shape) (o : Outcome) (host : List ℕ) → Slot h (o .command) → length host ≡ hostRoom → o .command .kind ≡ write → length (o .bytes) ≡ h .B → fetched h (o .command) (stored h o host) ≡ o .bytes
 unfolding stored
 fetched-same h o host f l w n = rw (eq-eqb (o .command .kind) write w) (put-same h (o .command) host (o .bytes) f l n)
 
 -- and keeps them unless a write to it is completed
-pub fetched-other : (h : Shape) (o : Outcome) (d : Command) (host : List ℕ) → Slot h (o .command) → Slot h d → length host ≡ 16384 → (o .command .kind ≡ write → (length (o .bytes) ≡ h .B) × (SameSlot (o .command) d → ⊥))
+pub fetched-other : (h : Shape) (o : Outcome) (d : Command) (host : List ℕ) → Slot h (o .command) → Slot h d → length host ≡ hostRoom → (o .command .kind ≡ write → (length (o .bytes) ≡ h .B) × (SameSlot (o .command) d → ⊥))
     → fetched h d (stored h o host) ≡ fetched h d host
 unfolding stored
 fetched-other h o d host f g l other = go (ℕ-discrete (o .command .kind) write)
@@ -154,8 +154,8 @@ two c e = step-number closed c ∙ closed-two c e
 pub before-open : (host ws : List ℕ) (l : Line) → (l ≡ malformed → ⊥) → ((h : Shape) → l ≡ opens h → ⊥) → gives (begun host ws) l ≡ (begun host ws, numberText 2)
 unfolding gives replied turned collected answered begun opensOf
 before-open host ws (opens h) m n = absurd (n h refl)
-before-open host ws (reads b) m n = rw (two (call (request read b []) room ws 0) refl)
-before-open host ws (writes b bs) m n = rw (two (call (request write b bs) room ws 0) refl)
-before-open host ws turns m n = rw (two (call turn room ws (closed .shape .B)) refl)
-before-open host ws collects m n = rw (two (call collect room ws (closed .shape .B)) refl)
+before-open host ws (reads b) m n = rw (two (call (request read b []) memoryRoom ws 0) refl)
+before-open host ws (writes b bs) m n = rw (two (call (request write b bs) memoryRoom ws 0) refl)
+before-open host ws turns m n = rw (two (call turn memoryRoom ws (closed .shape .B)) refl)
+before-open host ws collects m n = rw (two (call collect memoryRoom ws (closed .shape .B)) refl)
 before-open host ws malformed m n = absurd (m refl)

@@ -24,10 +24,10 @@ use Rattle.tape.specs.Tape.{wordsOf, length-words, word-is}
 use Rattle.contract.specs.declared.Answer.{Answer}
 use Rattle.contract.specs.Meets.{Meets, callOf}
 use Rattle.printing.specs.Text.{numberText}
-use Rattle.printing.specs.Laws.{number-le as number-text-le}
+use Rattle.printing.specs.Laws.{textRoom, number-le as number-text-le}
 use Rattle.printing.specs.Written.{Written, same-text}
 use Rattle.session.specs.Session as S
-use Rattle.session.specs.Session.{serves, room, call, went, answered, replied}
+use Rattle.session.specs.Session.{serves, memoryRoom, call, went, answered, replied}
 use Rattle.session.specs.declared.Session.{Session}
 use Rattle.session.specs.declared.Printed.{Printed}
 use Rattle.session.specs.Answers.{kept, Served, Gives, Asks}
@@ -99,14 +99,14 @@ meets-small c st a m t b r m′ b′ k = omega (arith, k .number, step-number st
 
 -- ---- One call, on what is left of the tape: the bytes t
 
-module _ (s : Session) (m tape host t : List ℕ) (f : Served s tape) (left : t ≡ drop (s .taken * 2) tape) (long : length m ≡ room) where
+module _ (s : Session) (m tape host t : List ℕ) (f : Served s tape) (left : t ≡ drop (s .taken * 2) tape) (long : length m ≡ memoryRoom) where
   words-left : wordsOf t ≡ drop (s .taken) (wordsOf tape)
   words-left = ap wordsOf left ∙ words-drop tape (s .taken) (f .taken)
 
   module _ (c : Client) (st : State) (a : Ask) (b : List ℕ) (r : Answer) (m′ b′ : List ℕ) (k : Meets c st a m t b r m′ b′) where
     -- the call, as the definition has it
     abbrev pub made : Call
-    made = call a room (drop (s .taken) (wordsOf tape)) (length b)
+    made = call a memoryRoom (drop (s .taken) (wordsOf tape)) (length b)
 
     pub made-is : callOf a m t b ≡ made
     made-is = λ i. record { ask = a; memory = long i; words = words-left i; buffer = length b }
@@ -158,7 +158,7 @@ module _ (s : Session) (m tape host t : List ℕ) (f : Served s tape) (left : t 
         let h = shape-same e four in
         record { serves = ap serves h ∙ f .serves; block = omega (arith, ap (λ (x : Shape). x .B) h, f .block); taken = taken-le }
 
-    pub call-yes : r .number ≡ 0 → Served later tape → (text : List ℕ) → length text ≤ 1027 → (p : Printed) → p .session ≡ later → (out out′ : List ℕ) (at : ℕ) → Written out at text out′ (p .at)
+    pub call-yes : r .number ≡ 0 → Served later tape → (text : List ℕ) → length text ≤ textRoom → (p : Printed) → p .session ≡ later → (out out′ : List ℕ) (at : ℕ) → Written out at text out′ (p .at)
         → Gives (answered (kept s m tape host) (step st made) (went (kept s m tape host) (step st made), text)) tape out at p m′ host out′
     unfolding answered
     call-yes z l text short p e out out′ at w =
@@ -171,7 +171,7 @@ module _ (s : Session) (m tape host t : List ℕ) (f : Served s tape) (left : t 
 
 -- ---- R and W
 
-module _ (s : Session) (m tape t : List ℕ) (f : Served s tape) (left : t ≡ drop (s .taken * 2) tape) (long : length m ≡ room) (kind block : ℕ) (bs : List ℕ) (r : Answer) (m′ : List ℕ)
+module _ (s : Session) (m tape t : List ℕ) (f : Served s tape) (left : t ≡ drop (s .taken * 2) tape) (long : length m ≡ memoryRoom) (kind block : ℕ) (bs : List ℕ) (r : Answer) (m′ : List ℕ)
     (k : Meets (s .client) (stateOf (s .client) m) (request kind block bs) m t [] r m′ []) where
   shaped : stateOf (s .client) m .shape ≡ shapeOf (s .client .shape)
   unfolding stateOf view

@@ -26,7 +26,7 @@ use Rattle.printing.specs.Laws.{number-le as number-text-le}
 use Rattle.printing.specs.Written.{Written, same-text}
 use Rattle.lines.specs.Lines.{opens}
 use Rattle.session.specs.Session as S
-use Rattle.session.specs.Session.{serves, room, lent, call, went, answered, replied, gives}
+use Rattle.session.specs.Session.{serves, memoryRoom, lent, call, went, answered, replied, gives}
 use Rattle.session.specs.declared.Session.{Session}
 use Rattle.session.specs.declared.Printed.{Printed}
 use Rattle.session.specs.Answers.{kept, Served, AnswersApart}
@@ -73,9 +73,9 @@ module _ (s : Session) (m tape : List ℕ) (f : Served s tape) (h : Shape) (p : 
       no-room : lent h ≡ 0
       no-room = unfold lent in (rw l)
 
-module _ (s : Session) (m tape t : List ℕ) (f : Served s tape) (left : t ≡ drop (s .taken * 2) tape) (long : length m ≡ room) (h : Shape) (w : within h ≡ true) (g : serves h ≡ true) (r : Answer) (m′ : List ℕ)
+module _ (s : Session) (m tape t : List ℕ) (f : Served s tape) (left : t ≡ drop (s .taken * 2) tape) (long : length m ≡ memoryRoom) (h : Shape) (w : within h ≡ true) (g : serves h ≡ true) (r : Answer) (m′ : List ℕ)
     (k : Meets clearedClient closed (opening h) m t [] r m′ []) where
-  lent-all : lent h ≡ room
+  lent-all : lent h ≡ memoryRoom
   lent-all = unfold lent in (rw g)
 
   -- the memory that is lent is all there is
@@ -94,10 +94,10 @@ module _ (s : Session) (m tape t : List ℕ) (f : Served s tape) (left : t ≡ d
   unfolding stateOf view accepted act fresh went
   new-shape z =
       let x = went-is s m tape [] t f left long clearedClient closed (opening h) [] r m′ [] k in
-      let y : number closed (asks room) ≡ 0 = sym (step-number closed (asks room)) ∙ number-zero z in
-      ap (λ (u : S.Session). u .state .shape) x ∙ ap (λ (u : State × Outcome). u .0 .shape) (step-accepted closed (asks room) y)
+      let y : number closed (asks memoryRoom) ≡ 0 = sym (step-number closed (asks memoryRoom)) ∙ number-zero z in
+      ap (λ (u : S.Session). u .state .shape) x ∙ ap (λ (u : State × Outcome). u .0 .shape) (step-accepted closed (asks memoryRoom) y)
     where
-      number-zero : r .number ≡ 0 → step closed (asks room) .1 .number ≡ 0
+      number-zero : r .number ≡ 0 → step closed (asks memoryRoom) .1 .number ≡ 0
       number-zero z = sym (number-is s m tape [] t f left long clearedClient closed (opening h) [] r m′ [] k) ∙ z
 
   pub opens-yes : r .number ≡ 0 → (p : Printed) → p .session ≡ record { client = r .client; taken = s .taken + r .taken } → (out out′ : List ℕ) (at : ℕ) → Written out at (numberText 0) out′ (p .at)

@@ -20,17 +20,23 @@ pub record Session : Type 0 where
   pub words : List ℕ
   pub host : List ℕ
 
--- "It serves N up to 64 and P × (2^(L+1) − 2) × B up to 16,384"
+-- "It serves N up to 64 and P × (2^(L+1) − 2) × B up to 16,384": so many blocks, and so many bytes at its host
+abbrev pub mostBlocks : ℕ
+mostBlocks = 64
+
+abbrev pub hostRoom : ℕ
+hostRoom = 16384
+
 unfoldable pub serves : Shape → Bool
-serves h = leb (h .N) 64 && leb (h .P * (slots (h .L) - 2) * h .B) 16384
+serves h = leb (h .N) mostBlocks && leb (h .P * (slots (h .L) - 2) * h .B) hostRoom
 
 -- the bytes of memory that it has for the calls: enough for every shape that it serves (`served-fits`)
-abbrev pub room : ℕ
-room = 133120
+abbrev pub memoryRoom : ℕ
+memoryRoom = 133120
 
 -- ".. and prints 2 for a larger O whose shape is within bounds": no memory is lent for one
 unfoldable pub lent : Shape → ℕ
-lent h = if serves h then room else 0
+lent h = if serves h then memoryRoom else 0
 
 -- ---- The host in memory
 
@@ -69,7 +75,7 @@ brought h c host = if eqb (c .kind) read then fetched h c host else []
 
 unfoldable pub completed : Session → Outcome → Session
 completed s o = record {
-  state = step (s .state) (call (completion (o .command) (brought (s .state .shape) (o .command) (s .host))) room [] 0) .0;
+  state = step (s .state) (call (completion (o .command) (brought (s .state .shape) (o .command) (s .host))) memoryRoom [] 0) .0;
   words = s .words;
   host = stored (s .state .shape) o (s .host);
 }
@@ -87,10 +93,10 @@ collected s r = answered s r (went s r, contentsText (r .1 .bytes))
 -- The buffers of a turn and of a collect have exactly B bytes
 unfoldable pub gives : Session → Line → Given
 gives s (opens h) = replied s (step closed (call (opening h) (lent h) (s .words) 0))
-gives s (reads b) = replied s (step (s .state) (call (request read b []) room (s .words) 0))
-gives s (writes b bs) = replied s (step (s .state) (call (request write b bs) room (s .words) 0))
-gives s turns = turned s (step (s .state) (call turn room (s .words) (s .state .shape .B)))
-gives s collects = collected s (step (s .state) (call collect room (s .words) (s .state .shape .B)))
+gives s (reads b) = replied s (step (s .state) (call (request read b []) memoryRoom (s .words) 0))
+gives s (writes b bs) = replied s (step (s .state) (call (request write b bs) memoryRoom (s .words) 0))
+gives s turns = turned s (step (s .state) (call turn memoryRoom (s .words) (s .state .shape .B)))
+gives s collects = collected s (step (s .state) (call collect memoryRoom (s .words) (s .state .shape .B)))
 gives s malformed = (s, [])
 
 -- ---- What a session prints

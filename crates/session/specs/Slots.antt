@@ -12,7 +12,7 @@ use Rattle.lists.specs.Tests.{and-l, and-r}
 use Rattle.rules.specs.Shape.{Shape, slots, offset}
 use Rattle.rules.specs.State.{cmd}
 use Rattle.rules.specs.Laws.Levels.{two-slots}
-use Rattle.session.specs.Session.{serves, start}
+use Rattle.session.specs.Session.{mostBlocks, hostRoom, serves, start}
 use Rattle.session.specs.Answers.{Slot}
 
 pub slots-most : (ℓ : ℕ) → ℓ ≤ 8 → slots ℓ ≤ 512
@@ -28,13 +28,13 @@ product-le a b c d k l = omega (arith, mul-le-mul-right b k, swapped)
     swapped : c * b ≤ c * d
     swapped = omega (arith, mul-le-mul-right c l, swap b c, swap d c)
 
-pub room-served : (h : Shape) → serves h ≡ true → h .P * (slots (h .L) - 2) * h .B ≤ 16384
+pub room-served : (h : Shape) → serves h ≡ true → h .P * (slots (h .L) - 2) * h .B ≤ hostRoom
 unfolding serves
-room-served h e = leb-true (h .P * (slots (h .L) - 2) * h .B) 16384 (and-r (leb (h .N) 64) (leb (h .P * (slots (h .L) - 2) * h .B) 16384) e)
+room-served h e = leb-true (h .P * (slots (h .L) - 2) * h .B) hostRoom (and-r (leb (h .N) mostBlocks) (leb (h .P * (slots (h .L) - 2) * h .B) hostRoom) e)
 
 pub blocks-served : (h : Shape) → serves h ≡ true → h .N ≤ 64
 unfolding serves
-blocks-served h e = leb-true (h .N) 64 (and-l (leb (h .N) 64) (leb (h .P * (slots (h .L) - 2) * h .B) 16384) e)
+blocks-served h e = leb-true (h .N) mostBlocks (and-l (leb (h .N) mostBlocks) (leb (h .P * (slots (h .L) - 2) * h .B) hostRoom) e)
 
 -- where a slot is, counted in slots: the code's sum, its parts and the bytes up to its end
 pub record Spot (h : Shape) (q ℓ i : ℕ) : Type 0 where
@@ -43,7 +43,7 @@ pub record Spot (h : Shape) (q ℓ i : ℕ) : Type 0 where
   pub own : 2 ≤ slots ℓ
   pub row : q * (slots (h .L) - 2) ≤ 64 * 512
   pub spot : (slots ℓ - 2) + i + 1 ≤ slots (h .L) - 2
-  pub bytes : (q * (slots (h .L) - 2) + (slots ℓ - 2) + i) * h .B + h .B ≤ 16384
+  pub bytes : (q * (slots (h .L) - 2) + (slots ℓ - 2) + i) * h .B + h .B ≤ hostRoom
   pub start : (q * (slots (h .L) - 2) + (slots ℓ - 2) + i) * h .B ≡ start h (cmd 0 q ℓ i)
 
 pub spot : (h : Shape) (q ℓ i : ℕ) → Slot h (cmd 0 q ℓ i) → Spot h q ℓ i
@@ -74,7 +74,7 @@ spot h q ℓ i f =
     doubled : slots ℓ + slots ℓ ≤ slots (h .L)
     doubled = omega (arith, pow-mono {i = ℓ + 1 + 1} {j = h .L + 1} (omega (arith, f .level)), twice (ℓ + 1))
 
-    ended : (slots ℓ - 2) + i + 1 ≤ slots (h .L) - 2 → (q * (slots (h .L) - 2) + (slots ℓ - 2) + i) * h .B + h .B ≤ 16384
+    ended : (slots ℓ - 2) + i + 1 ≤ slots (h .L) - 2 → (q * (slots (h .L) - 2) + (slots ℓ - 2) + i) * h .B + h .B ≤ hostRoom
     ended w =
         let rows : q * (slots (h .L) - 2) + (slots (h .L) - 2) ≤ h .P * (slots (h .L) - 2) = omega (arith, mul-le-mul-right (slots (h .L) - 2) (f .partition), suc-mul q (slots (h .L) - 2)) in
         let n : suc (q * (slots (h .L) - 2) + (slots ℓ - 2) + i) ≤ h .P * (slots (h .L) - 2) = omega arith in

@@ -33,7 +33,7 @@ use Rattle.printing.specs.Laws.{command-le, contents-le}
 use Rattle.printing.specs.Written.{Written, same-text}
 use Rattle.lines.specs.Lines.{turns, collects}
 use Rattle.session.specs.Session as S
-use Rattle.session.specs.Session.{room, call, went, answered, start, fetched, brought, stored, completed, turned, collected, gives}
+use Rattle.session.specs.Session.{memoryRoom, call, went, answered, start, fetched, brought, stored, completed, turned, collected, gives}
 use Rattle.session.specs.declared.Session.{Session}
 use Rattle.session.specs.declared.Printed.{Printed}
 use Rattle.session.specs.Answers.{kept, Served, Gives, Answers, AnswersApart, Slot, Completes}
@@ -98,13 +98,13 @@ possible-sends : (s : State) (x : Step) → possible s x ≡ true → x ≡ noDu
 unfolding possible
 possible-sends s x e z = true≢false (sym e ∙ ap (possible s) z)
 
-module _ (s : Session) (m tape host t : List ℕ) (f : Served s tape) (left : t ≡ drop (s .taken * 2) tape) (long : length m ≡ room) (b : List ℕ) (size : length b ≡ s .client .shape .b) (r : Answer) (m′ b′ : List ℕ)
+module _ (s : Session) (m tape host t : List ℕ) (f : Served s tape) (left : t ≡ drop (s .taken * 2) tape) (long : length m ≡ memoryRoom) (b : List ℕ) (size : length b ≡ s .client .shape .b) (r : Answer) (m′ b′ : List ℕ)
     (k : Meets (s .client) (stateOf (s .client) m) turn m t b r m′ b′) where
   abbrev st : State
   st = stateOf (s .client) m
 
   abbrev asks : Call
-  asks = call turn room (drop (s .taken) (wordsOf tape)) (length b)
+  asks = call turn memoryRoom (drop (s .taken) (wordsOf tape)) (length b)
 
   shaped : st .shape ≡ shapeOf (s .client .shape)
   unfolding stateOf view
@@ -124,7 +124,7 @@ module _ (s : Session) (m tape host t : List ℕ) (f : Served s tape) (left : t 
   pub turns-no : (r .number ≡ 0 → ⊥) → (p : Printed) → p .session ≡ s → (out out′ : List ℕ) (at : ℕ) → Written out at (numberText (r .number)) out′ (p .at) → Answers s turns m tape host out at p m′ host out′
   unfolding gives turned
   turns-no n p e out out′ at w =
-      subst (λ x. Gives (turned (kept s m tape host) (step st (call turn room (drop (s .taken) (wordsOf tape)) x))) tape out at p m′ host out′) (sym size-is)
+      subst (λ x. Gives (turned (kept s m tape host) (step st (call turn memoryRoom (drop (s .taken) (wordsOf tape)) x))) tape out at p m′ host out′) (sym size-is)
       (call-no s m tape host t f left long (s .client) st turn b r m′ b′ k _ n p e out out′ at w)
 
   -- it is accepted
@@ -135,7 +135,7 @@ module _ (s : Session) (m tape host t : List ℕ) (f : Served s tape) (left : t 
     command-is : commandOf r ≡ step st asks .1 .command
     command-is = k .command ∙ ap (λ y. step st y .1 .command) (made-is s m tape host t f left long (s .client) st turn b r m′ b′ k)
 
-    ready-now : ready st room ≡ true
+    ready-now : ready st memoryRoom ≡ true
     unfolding questions
     ready-now = accepted-passed st asks yes .0
 
@@ -144,14 +144,14 @@ module _ (s : Session) (m tape host t : List ℕ) (f : Served s tape) (left : t 
     unfolding accepted sentCommand questions stateOf view
     turn-sent =
         let q = accepted-passed st asks yes in
-        let d = sent-in (st .shape) (decide st) (decide-in st (given-in st room ready-now)) (q .1 .1 .0) (possible-sends st (decide st) (q .1 .1 .1 .1 .1 .0)) in
+        let d = sent-in (st .shape) (decide st) (decide-in st (given-in st memoryRoom ready-now)) (q .1 .1 .0) (possible-sends st (decide st) (q .1 .1 .1 .1 .1 .0)) in
         rw (command-is, step-accepted st asks yes) (rw shaped at d)
 
     pub turn-slot : Slot (shapeOf (r .client .shape)) (cmd 0 (r .partition) (r .level) (r .slot))
     unfolding stateOf view
     turn-slot =
         let d = turn-sent in
-        let w = O.bounds (shapeOf (s .client .shape)) (given-in st room ready-now .shape) in
+        let w = O.bounds (shapeOf (s .client .shape)) (given-in st memoryRoom ready-now .shape) in
         rw turn-shape (record { partition = d .partition; level = d .level; slot = d .slot; serves = f .serves; partitions = w .0; levels = w .1; block = w .2 })
 
     -- a write's bytes are in the buffer
@@ -163,10 +163,10 @@ module _ (s : Session) (m tape host t : List ℕ) (f : Served s tape) (left : t 
         kind-is = eq-eqb (command (decide st) .kind) write (sym (ap (λ (x : Command). x .kind) (command-is ∙ ap (λ (x : State × Outcome). x .1 .command) (step-accepted st asks yes))) ∙ e)
 
         some : 1 ≤ length (step st asks .1 .bytes)
-        some = rw (step-accepted st asks yes, kind-is) (written-some st room (state-whole (s .client) m (omega (arith, ready-long st room ready-now, long))) ready-now (numbersOf (draws (bounds st turn) (asks .words))) _)
+        some = rw (step-accepted st asks yes, kind-is) (written-some st memoryRoom (state-whole (s .client) m (omega (arith, ready-long st memoryRoom ready-now, long))) ready-now (numbersOf (draws (bounds st turn) (asks .words))) _)
 
     -- what is kept, with the host's bytes, after the completion
-    module _ (long′ : length m′ ≡ room) (c : Client) (m″ host′ : List ℕ) (x : Completes r m′ host b′ c m″ host′) where
+    module _ (long′ : length m′ ≡ memoryRoom) (c : Client) (m″ host′ : List ℕ) (x : Completes r m′ host b′ c m″ host′) where
       abbrev pub last : Session
       last = record { client = c; taken = s .taken + r .taken }
 
@@ -180,7 +180,7 @@ module _ (s : Session) (m tape host t : List ℕ) (f : Served s tape) (left : t 
           o : Outcome
           o = step st asks .1
 
-          state-is : stateOf c m″ ≡ step (mid .state) (call (completion (step st asks .1 .command) (brought (mid .state .shape) (step st asks .1 .command) host)) room [] 0) .0
+          state-is : stateOf c m″ ≡ step (mid .state) (call (completion (step st asks .1 .command) (brought (mid .state .shape) (step st asks .1 .command) host)) memoryRoom [] 0) .0
           state-is = x .state ∙ (λ i. step (mid .state) (call (completion (command-is i) (brought (mid .state .shape) (command-is i) host)) (long′ i) [] 0) .0)
 
           host-is : host′ ≡ (if eqb (step st asks .1 .command .kind) write then replaced (start (mid .state .shape) (step st asks .1 .command)) host (step st asks .1 .bytes) else host)
@@ -198,7 +198,7 @@ module _ (s : Session) (m tape host t : List ℕ) (f : Served s tape) (left : t 
       pub turns-yes : (p : Printed) → p .session ≡ last → (out out′ : List ℕ) (at : ℕ) → Written out at (commandText (commandOf r)) out′ (p .at) → Answers s turns m tape host out at p m″ host′ out′
       unfolding gives turned answered
       turns-yes p e out out′ at w =
-          subst (λ n. Gives (turned (kept s m tape host) (step st (call turn room (drop (s .taken) (wordsOf tape)) n))) tape out at p m″ host′ out′) (sym size-is)
+          subst (λ n. Gives (turned (kept s m tape host) (step st (call turn memoryRoom (drop (s .taken) (wordsOf tape)) n))) tape out at p m″ host′ out′) (sym size-is)
           (rw (eq-eqb (step st asks .1 .number) 0 (step-number st asks ∙ yes)) (record {
             session = ap (λ y. kept y m″ tape host′) e ∙ completed-is ∙ ap (λ y. completed y (step st asks .1)) (went-is s m tape host t f left long (s .client) st turn b r m′ b′ k);
             text = same-text (ap commandText command-is) w;
@@ -213,7 +213,7 @@ collect-words : (c : Client) (st : State) (m t b : List ℕ) (r : Answer) (m′ 
 unfolding step number questions accepted bounds draws
 collect-words c st m t b r m′ b′ k = record { number = k .number; taken = k .taken; command = k .command; state = k .state; idle = k .idle; buffer = k .buffer; refused = k .refused; tail = k .tail }
 
-module _ (s : Session) (m tape : List ℕ) (f : Served s tape) (long : length m ≡ room) (b : List ℕ) (size : length b ≡ s .client .shape .b) (r : Answer) (m′ b′ : List ℕ)
+module _ (s : Session) (m tape : List ℕ) (f : Served s tape) (long : length m ≡ memoryRoom) (b : List ℕ) (size : length b ≡ s .client .shape .b) (r : Answer) (m′ b′ : List ℕ)
     (plain : Meets (s .client) (stateOf (s .client) m) collect m [] b r m′ b′) where
   abbrev k : Meets (s .client) (stateOf (s .client) m) collect m (drop (s .taken * 2) tape) b r m′ b′
   k = collect-words (s .client) (stateOf (s .client) m) m (drop (s .taken * 2) tape) b r m′ b′ plain
@@ -222,7 +222,7 @@ module _ (s : Session) (m tape : List ℕ) (f : Served s tape) (long : length m 
   from = stateOf (s .client) m
 
   abbrev wants : Call
-  wants = call collect room (drop (s .taken) (wordsOf tape)) (length b)
+  wants = call collect memoryRoom (drop (s .taken) (wordsOf tape)) (length b)
 
   same-shape : from .shape ≡ shapeOf (s .client .shape)
   unfolding stateOf view
@@ -238,7 +238,7 @@ module _ (s : Session) (m tape : List ℕ) (f : Served s tape) (long : length m 
   pub collects-no : (r .number ≡ 0 → ⊥) → (p : Printed) → p .session ≡ s → (out out′ : List ℕ) (at : ℕ) → Written out at (numberText (r .number)) out′ (p .at) → AnswersApart s collects m tape out at p m′ out′
   unfolding gives collected
   collects-no n p e out out′ at w host =
-      subst (λ x. Gives (collected (kept s m tape host) (step from (call collect room (drop (s .taken) (wordsOf tape)) x))) tape out at p m′ host out′) (sym same-size)
+      subst (λ x. Gives (collected (kept s m tape host) (step from (call collect memoryRoom (drop (s .taken) (wordsOf tape)) x))) tape out at p m′ host out′) (sym same-size)
       (call-no s m tape host (drop (s .taken * 2) tape) f refl long (s .client) from collect b r m′ b′ k _ n p e out out′ at w)
 
   collect-bytes : r .number ≡ 0 → b′ ≡ step from wants .1 .bytes
@@ -254,13 +254,13 @@ module _ (s : Session) (m tape : List ℕ) (f : Served s tape) (long : length m 
       some : 1 ≤ length (step from wants .1 .bytes)
       some =
           let q = accepted-passed from wants yes in
-          rw (step-accepted from wants yes) (answer-some from room (state-whole (s .client) m (omega (arith, ready-long from room (q .0), long))) (q .0) (from .request) (q .1 .0))
+          rw (step-accepted from wants yes) (answer-some from memoryRoom (state-whole (s .client) m (omega (arith, ready-long from memoryRoom (q .0), long))) (q .0) (from .request) (q .1 .0))
 
   pub collects-yes : r .number ≡ 0 → length b′ ≡ length b → (p : Printed) → p .session ≡ record { client = r .client; taken = s .taken + r .taken } → (out out′ : List ℕ) (at : ℕ) → Written out at (contentsText b′) out′ (p .at)
       → AnswersApart s collects m tape out at p m′ out′
   unfolding gives collected
   collects-yes z l p e out out′ at w host =
-      subst (λ x. Gives (collected (kept s m tape host) (step from (call collect room (drop (s .taken) (wordsOf tape)) x))) tape out at p m′ host out′) (sym same-size)
+      subst (λ x. Gives (collected (kept s m tape host) (step from (call collect memoryRoom (drop (s .taken) (wordsOf tape)) x))) tape out at p m′ host out′) (sym same-size)
       (call-yes s m tape host (drop (s .taken * 2) tape) f refl long (s .client) from collect b r m′ b′ k z
       (served-later s m tape host (drop (s .taken * 2) tape) f refl long (s .client) from collect b r m′ b′ k same-shape (unfold opens in refl))
       (contentsText (step from wants .1 .bytes)) (contents-le (step from wants .1 .bytes) (omega (arith, ap length (collect-bytes z), l, size, f .block)))

@@ -1,5 +1,7 @@
 // The answer to one line of a session: the calls that it asks for, and the text that it prints.
 use client::Client;
+use client::READ;
+use client::WRITE;
 use contract::Answer;
 use lines::Line;
 use memory::Shape;
@@ -9,12 +11,21 @@ ghost use lib.ListN.{length};
 ghost use Rattle.rules.specs.Shape.{slots};
 ghost use Rattle.rules.specs.State.{cmd};
 ghost use Rattle.memory.specs.Fits.{shapeOf};
-ghost use Rattle.lines.specs.Lines.{opens, turns, collects};
+ghost use Rattle.lines.specs.Lines.{opens, turns, collects, contentsRoom, tapeRoom};
 ghost use Rattle.lines.specs.Said.{said, Small};
 ghost use Rattle.printing.specs.Text.{numberText};
+ghost use Rattle.printing.specs.Laws.{textRoom};
 ghost use Rattle.printing.specs.Written.{Written};
-ghost use Rattle.session.specs.Session.{serves as servesOf, start as startOf, room};
+ghost use Rattle.session.specs.Session.{serves as servesOf, start as startOf, memoryRoom, hostRoom};
 ghost use Rattle.session.specs.Answers.{Served, Answers, AnswersApart, Asks, Slot, Completes, fresh};
+
+// A session serves stores of at most so many blocks, and so many bytes at the host in memory; the calls are lent so much memory, which is enough for
+// each of them (`served-fits`).
+const BLOCKS: usize = 64;
+
+pub const HOST: usize = 16384;
+
+pub const MEMORY: usize = 133120;
 
 // What is kept from line to line: the client, and how many words of the tape are taken.
 pub struct Session {
@@ -44,12 +55,12 @@ fn serves(h: Shape) -> bool
     ensures { λ r. ⌜ r ≡ servesOf (shapeOf h) ⌝ }
 {
     let slots = bits::pow2(h.l + 1) - 2;
-    (h.n <= 64) & (h.p * slots * h.b <= 16384)
+    (h.n <= BLOCKS) & (h.p * slots * h.b <= HOST)
 }
 
 // A refused line prints its number alone.
 fn refuse(s: Session, number: usize, out: &mut [u8], at: usize) -> Printed
-    requires { ⌜ (number < 65536) × (at + 1027 ≤ length (now out)) ⌝ }
+    requires { ⌜ (number < 65536) × (at + textRoom ≤ length (now out)) ⌝ }
     ensures { λ r. ⌜ (r .session ≡ s) × Written (now (out .entry)) at (numberText number) (now (out .exit)) (r .at) ⌝ }
 {
     let k = printing::number(out, at, number);
@@ -77,7 +88,7 @@ fn open_line(
     out: &mut [u8],
     at: usize,
 ) -> Printed
-    requires { ⌜ Served s (now tape) × (length (now memory) ≡ room) × (length (now tape) ≤ 16384) × (at + 1027 ≤ length (now out)) ⌝ }
+    requires { ⌜ Served s (now tape) × (length (now memory) ≡ memoryRoom) × (length (now tape) ≤ tapeRoom) × (at + textRoom ≤ length (now out)) ⌝ }
     ensures { λ r. ⌜ AnswersApart s (opens (shapeOf h)) (now (memory .entry)) (now (tape .entry)) (now (out .entry)) at r (now (memory .exit)) (now (out .exit)) ⌝ }
 {
     if !contract::is_within(h) {
@@ -109,7 +120,7 @@ fn ask_line(
     out: &mut [u8],
     at: usize,
 ) -> Printed
-    requires { ⌜ Served s (now tape) × (length (now memory) ≡ room) × (length (now tape) ≤ 16384) × (at + 1027 ≤ length (now out)) ⌝ }
+    requires { ⌜ Served s (now tape) × (length (now memory) ≡ memoryRoom) × (length (now tape) ≤ tapeRoom) × (at + textRoom ≤ length (now out)) ⌝ }
     ensures { λ r. ⌜ Asks s kind block (now (contents .entry)) (now (memory .entry)) (now (tape .entry)) (now (out .entry)) at r (now (memory .exit)) (now (out .exit)) ⌝ }
 {
     let from = s.taken * 2;
@@ -127,19 +138,19 @@ fn ask_line(
 // Where a slot's bytes begin in the host.
 fn first(h: Shape, q: usize, l: usize, i: usize) -> usize
     requires { ⌜ Slot (shapeOf h) (cmd 0 q l i) ⌝ }
-    ensures { λ r. ⌜ (r ≡ startOf (shapeOf h) (cmd 0 q l i)) × (r + h .b ≤ 16384) ⌝ }
+    ensures { λ r. ⌜ (r ≡ startOf (shapeOf h) (cmd 0 q l i)) × (r + h .b ≤ hostRoom) ⌝ }
 {
     (q * (bits::pow2(h.l + 1) - 2) + (bits::pow2(l + 1) - 2) + i) * h.b
 }
 
 // The host completes the command of a turn: a write's bytes are stored, a read brings those of its slot.
 fn complete(r: Answer, memory: &mut [u8], host: &mut [u8], bytes: &[u8]) -> Client
-    requires { ⌜ Slot (shapeOf (r .client .shape)) (cmd 0 (r .partition) (r .level) (r .slot)) × (1 ≤ r .kind) × (r .kind ≤ 2) × (length (now host) ≡ 16384) × (length (now bytes) ≡ r .client .shape .b) ⌝ }
+    requires { ⌜ Slot (shapeOf (r .client .shape)) (cmd 0 (r .partition) (r .level) (r .slot)) × (1 ≤ r .kind) × (r .kind ≤ 2) × (length (now host) ≡ hostRoom) × (length (now bytes) ≡ r .client .shape .b) ⌝ }
     ensures { λ c. ⌜ Completes r (now (memory .entry)) (now (host .entry)) (now (bytes .entry)) c (now (memory .exit)) (now (host .exit)) ⌝ }
 {
     let a = first(r.client.shape, r.partition, r.level, r.slot);
     let e = a + r.client.shape.b;
-    if r.kind == 2 {
+    if r.kind == WRITE {
         memory::blocks::copy(&mut host[a..e], bytes);
         let w = completing::completion(
             r.client,
@@ -174,7 +185,7 @@ fn turn_with(
     out: &mut [u8],
     at: usize,
 ) -> Printed
-    requires { ⌜ Served s (now tape) × (length (now memory) ≡ room) × (length (now host) ≡ 16384) × (length (now tape) ≤ 16384) × (at + 1027 ≤ length (now out)) × (length (now buffer) ≡ s .client .shape .b) ⌝ }
+    requires { ⌜ Served s (now tape) × (length (now memory) ≡ memoryRoom) × (length (now host) ≡ hostRoom) × (length (now tape) ≤ tapeRoom) × (at + textRoom ≤ length (now out)) × (length (now buffer) ≡ s .client .shape .b) ⌝ }
     ensures { λ r. ⌜ Answers s turns (now (memory .entry)) (now (tape .entry)) (now (host .entry)) (now (out .entry)) at r (now (memory .exit)) (now (host .exit)) (now (out .exit)) ⌝ }
 {
     let from = s.taken * 2;
@@ -202,7 +213,7 @@ fn turn_line(
     out: &mut [u8],
     at: usize,
 ) -> Printed
-    requires { ⌜ Served s (now tape) × (length (now memory) ≡ room) × (length (now host) ≡ 16384) × (length (now tape) ≤ 16384) × (at + 1027 ≤ length (now out)) ⌝ }
+    requires { ⌜ Served s (now tape) × (length (now memory) ≡ memoryRoom) × (length (now host) ≡ hostRoom) × (length (now tape) ≤ tapeRoom) × (at + textRoom ≤ length (now out)) ⌝ }
     ensures { λ r. ⌜ Answers s turns (now (memory .entry)) (now (tape .entry)) (now (host .entry)) (now (out .entry)) at r (now (memory .exit)) (now (host .exit)) (now (out .exit)) ⌝ }
 {
     let mut buffer = [0u8; 512];
@@ -219,7 +230,7 @@ fn collect_with(
     out: &mut [u8],
     at: usize,
 ) -> Printed
-    requires { ⌜ Served s (now tape) × (length (now memory) ≡ room) × (length (now tape) ≤ 16384) × (at + 1027 ≤ length (now out)) × (length (now buffer) ≡ s .client .shape .b) ⌝ }
+    requires { ⌜ Served s (now tape) × (length (now memory) ≡ memoryRoom) × (length (now tape) ≤ tapeRoom) × (at + textRoom ≤ length (now out)) × (length (now buffer) ≡ s .client .shape .b) ⌝ }
     ensures { λ r. ⌜ AnswersApart s collects (now (memory .entry)) (now (tape .entry)) (now (out .entry)) at r (now (memory .exit)) (now (out .exit)) ⌝ }
 {
     let r = collecting::collect(s.client, memory, buffer);
@@ -235,7 +246,7 @@ fn collect_with(
 
 // C
 fn collect_line(s: Session, memory: &mut [u8], tape: &[u8], out: &mut [u8], at: usize) -> Printed
-    requires { ⌜ Served s (now tape) × (length (now memory) ≡ room) × (length (now tape) ≤ 16384) × (at + 1027 ≤ length (now out)) ⌝ }
+    requires { ⌜ Served s (now tape) × (length (now memory) ≡ memoryRoom) × (length (now tape) ≤ tapeRoom) × (at + textRoom ≤ length (now out)) ⌝ }
     ensures { λ r. ⌜ AnswersApart s collects (now (memory .entry)) (now (tape .entry)) (now (out .entry)) at r (now (memory .exit)) (now (out .exit)) ⌝ }
 {
     let mut buffer = [0u8; 512];
@@ -254,13 +265,13 @@ pub fn answer(
     out: &mut [u8],
     at: usize,
 ) -> Printed
-    requires { ⌜ Served s (now tape) × Small line × (length (now contents) ≡ 1024) × (length (now tape) ≤ 16384) × (length (now memory) ≡ 133120) × (length (now host) ≡ 16384) × (at + 1027 ≤ length (now out)) ⌝ }
+    requires { ⌜ Served s (now tape) × Small line × (length (now contents) ≡ contentsRoom) × (length (now tape) ≤ tapeRoom) × (length (now memory) ≡ memoryRoom) × (length (now host) ≡ hostRoom) × (at + textRoom ≤ length (now out)) ⌝ }
     ensures { λ r. ⌜ Answers s (said line (now (contents .entry))) (now (memory .entry)) (now (tape .entry)) (now (host .entry)) (now (out .entry)) at r (now (memory .exit)) (now (host .exit)) (now (out .exit)) ⌝ }
 {
     match line {
         Line::Open(h) => open_line(s, h, memory, tape, out, at),
-        Line::Read(b) => ask_line(s, 1, b, &contents[0..0], memory, tape, out, at),
-        Line::Write(b, k) => ask_line(s, 2, b, &contents[0..k], memory, tape, out, at),
+        Line::Read(b) => ask_line(s, READ, b, &contents[0..0], memory, tape, out, at),
+        Line::Write(b, k) => ask_line(s, WRITE, b, &contents[0..k], memory, tape, out, at),
         Line::Turn => turn_line(s, memory, host, tape, out, at),
         Line::Collect => collect_line(s, memory, tape, out, at),
         Line::Malformed => Printed { session: s, at },

@@ -5,8 +5,9 @@ use mathlib.Core.List.{List, [], _++_}
 use Prim.Native.Nat.{ℕ, _+_, _-_, _≤_}
 use lib.ListN.{length, take, drop, replicate}
 use Rattle.session.specs.Session as S
-use Rattle.session.specs.Session.{prints, session}
-use Rattle.session.specs.Answers.{kept, textRoom}
+use Rattle.session.specs.Session.{prints, session, hostRoom}
+use Rattle.printing.specs.Laws.{textRoom}
+use Rattle.session.specs.Answers.{kept}
 use Rattle.stream.specs.declared.State.{State}
 use Rattle.stream.specs.declared.Brought.{Brought}
 use Rattle.stream.specs.declared.Brought.the-variants.{Whole, Part, TooLong}
@@ -16,7 +17,7 @@ use Rattle.stream.specs.Stream.{Ready, Brings, Buffers}
 
 -- the host's bytes at the start of the program
 abbrev pub zeros : List ℕ
-zeros = replicate 16384 0
+zeros = replicate hostRoom 0
 
 -- Whatever bytes come after `past`, they print f of the lines that they make, the first of which begins with `had`
 abbrev pub Follows : List ℕ → List ℕ → (List (List ℕ) → List ℕ) → List ℕ → Type 0

@@ -9,13 +9,13 @@ use native.Mathlib.Decide.{ℕ-discrete, decLt, decLe}
 use lib.ListN.{length}
 use lib.Dec.{eqb}
 use borrow.Author.Tests.{eq-eqb, ne-eqb, eqb-true}
-use Rattle.lines.specs.Lines.{Line, malformed, front, fields, letter, others, atMost, digit, digits, begins, number, also, numbers, upTo, pair, hexDigit, pairs, contents, opened, read, stored, written, bare, byLetter, lineOf, tapeOf}
+use Rattle.lines.specs.Lines.{Line, malformed, front, fields, letter, others, atMost, digit, digits, begins, number, also, numbers, upTo, pair, hexDigit, pairs, contents, opened, read, stored, written, bare, byLetter, lineOf, tapeOf, mostWords, contentsRoom}
 use Rattle.lines.specs.Numbers.{most-none, up-none, up-out, digit-in, digit-low, digit-high, digits-large, number-in, number-not}
 use Rattle.stream.specs.Stream.{lineRoom}
 
 -- the longest tape behind its letter: 8,192 numbers of five digits, each with a blank
 abbrev tapeWidth : ℕ
-tapeWidth = 8192 * 6
+tapeWidth = mostWords * 6
 
 -- the bytes of fields, with one for each that parts it from the next
 unfoldable width : List (List ℕ) → ℕ
@@ -125,7 +125,7 @@ up-long m n k (some vs) w f = elim (decLe (length vs) n) [ yes l ↦ absurd (f (
 contents-long : (g : List ℕ) → 2048 < length g → contents g ≡ none
 unfolding contents
 contents-long [] h = refl
-contents-long (x ∷ xs) h = up-long 2 1024 _ (pairs (x ∷ xs)) (pairs-within (x ∷ xs)) (λ i l w. omega arith)
+contents-long (x ∷ xs) h = up-long 2 contentsRoom _ (pairs (x ∷ xs)) (pairs-within (x ∷ xs)) (λ i l w. omega arith)
 
 -- ---- Whole lines
 
@@ -190,5 +190,5 @@ module _ (l : List ℕ) (h : lineRoom < length l) where
       go : (t : Bool) → eqb (letter (fields l)) 84 ≡ t → tapeOf l ≡ none
       go true e =
           let w = others-long (λ z. omega (arith, eqb-true (letter (fields l)) 84 e)) in
-          rw e (up-long 6 8192 _ (numbers (others (fields l))) (numbers-within (others (fields l))) (λ i k u. omega arith))
+          rw e (up-long 6 mostWords _ (numbers (others (fields l))) (numbers-within (others (fields l))) (λ i k u. omega arith))
       go false e = rw e

@@ -7,9 +7,10 @@ use Prim.Native.Nat.{ℕ, _+_, _-_, _≤_, _<_}
 use lib.ListN.{length, take, getD}
 use lib.Dec.{eqb}
 use Rattle.tape.specs.Tape.{wordsOf}
-use Rattle.lines.specs.Lines.{lineOf, tapeOf}
+use Rattle.lines.specs.Lines.{lineOf, tapeOf, tapeRoom}
 use Rattle.session.specs.Session.{ends}
-use Rattle.session.specs.Answers.{Served, Answers, fresh, textRoom}
+use Rattle.printing.specs.Laws.{textRoom}
+use Rattle.session.specs.Answers.{Served, Answers, fresh}
 use Rattle.session.specs.declared.Session.{Session}
 use Rattle.stream.specs.declared.State.{State}
 use Rattle.output.specs.declared.Output.{Output}
@@ -23,7 +24,7 @@ lineRoom = 49153
 -- what holds between turns: the session is served with its part of the tape's buffer, and each count is within its buffer
 pub record Ready (s : State) (words : List ℕ) : Type 0 where
   pub served : Served (s .session) (take (s .tape) words)
-  pub tape : s .tape ≤ 16384
+  pub tape : s .tape ≤ tapeRoom
   pub from : s .from ≤ s .to
   pub to : s .to ≤ 65536
   pub len : s .len ≤ lineRoom

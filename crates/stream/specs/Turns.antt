@@ -9,9 +9,11 @@ use lib.ListN.{length, take, drop, length-append, take-append-drop}
 use lib.Seq.{take-suc, getD-take, length-take-le}
 use lib.Dec.{eqb}
 use borrow.Author.Tests.{eqb-true}
+use Rattle.lines.specs.Lines.{tapeRoom}
 use Rattle.session.specs.Session as S
 use Rattle.session.specs.Session.{ends, prints, session}
-use Rattle.session.specs.Answers.{kept, Served, textRoom}
+use Rattle.printing.specs.Laws.{textRoom}
+use Rattle.session.specs.Answers.{kept, Served}
 use Rattle.stream.specs.declared.State.{State}
 use Rattle.stream.specs.declared.Brought.the-variants.{Whole, Part, TooLong}
 use Rattle.output.specs.Output.{outRoom, total, totalMost, holds-none}
@@ -170,7 +172,7 @@ module _ (s : State) (chunk line : List ℕ) (b : Buffers) (going : s .done ≡ 
     pub begin-turned : s .first ≡ true → Begun (moved (s .from + i + 1) s) (take k line′) b r e → Turned s chunk line b r chunk line′ e
     begin-turned first p = line-turned (p .ready) (p .size) (p .stays) (p .first) (begun-does (moved (s .from + i + 1) s) (take k line′) b r e first going p)
 
-  pub part-turned : Served (s .session) (take (s .tape) (b .tape)) → s .tape ≤ 16384 → (k : ℕ) (line′ : List ℕ) → Goes (waiting s chunk) (take (s .len) line) k line′ → (r : State) (chunk′ out′ : List ℕ) → Refilled (withLen k s) r → Turned s chunk line b r chunk′ line′ (buffers (b .tape) (b .memory) (b .host) out′)
+  pub part-turned : Served (s .session) (take (s .tape) (b .tape)) → s .tape ≤ tapeRoom → (k : ℕ) (line′ : List ℕ) → Goes (waiting s chunk) (take (s .len) line) k line′ → (r : State) (chunk′ out′ : List ℕ) → Refilled (withLen k s) r → Turned s chunk line b r chunk′ line′ (buffers (b .tape) (b .memory) (b .host) out′)
   part-turned v t k line′ w r chunk′ out′ f = record {
     ready = record { served = rw (f .session, f .tape) v; tape = omega (arith, f .tape); from = omega (arith, f .from); to = f .to; len = omega (arith, f .len, w .room); at = omega (arith, f .at) };
     size = omega (arith, f .at, f .gone);

@@ -1,7 +1,12 @@
 // Reads the lines of a session from a descriptor and writes the answers to standard output, with fixed buffers and input of any length.
+use lines::CONTENTS;
 use lines::Line;
+use lines::TAPE;
+use lines::WORDS;
 use output::OUT;
 use output::Output;
+use session::HOST;
+use session::MEMORY;
 use session::Session;
 ghost use mathlib.Core.Path.{_≡_};
 ghost use mathlib.Core.Bool.{false};
@@ -19,13 +24,6 @@ const CHUNK: usize = 65536;
 
 // The longest legal line: a T with 8,192 numbers of five digits.
 const LINE: usize = 49153;
-
-// 8,192 words; the memory for the calls and the bytes of the host, enough for every shape that a session serves.
-const TAPE: usize = 16384;
-
-const MEMORY: usize = 133120;
-
-const HOST: usize = 16384;
 
 // What is kept from turn to turn.
 pub struct State {
@@ -101,7 +99,7 @@ fn respond(
     requires { ⌜ Ready s (now tape) × Due (now out) (s .output) ⌝ }
     ensures { λ r. ⌜ Responds s (now (line .entry)) (buffers (now (tape .entry)) (now (memory .entry)) (now (host .entry)) (now (out .entry))) r (buffers (now (tape .entry)) (now (memory .exit)) (now (host .exit)) (now (out .exit))) ⌝ }
 {
-    let mut contents = [0u8; 1024];
+    let mut contents = [0u8; CONTENTS];
     let l = lines::read_line(line, &mut contents);
     let mut t = s;
     if ends(l) {
@@ -138,7 +136,7 @@ fn begin(
     t.session = session::start();
     t.first = false;
     let k = lines::read_tape(line, tape);
-    if k <= 8192 {
+    if k <= WORDS {
         t.tape = k * 2;
         return t;
     }

@@ -41,6 +41,9 @@ finish-requires c κs =
     let y = yes (o .before .before .before .before) (omega arith) in
     (y .hand, omega (arith, y .size), o .hand-out .ensures)
 
+accepted-requires : tie.Need-accepted-requires
+accepted-requires c κs = omega arith
+
 same-length-2 : tie.Need-same-length-2
 same-length-2 c = omega arith
 
@@ -50,14 +53,14 @@ same-length-3 c = omega arith
 returns-2 : tie.Need-returns-2
 unfolding bounds draws takenOf act sentCommand handed stateOf view
 returns-2 c =
-    let f = c .before .before in
+    let f = c .before .before .before in
     let o = f .before .before .before .before .before in
     let n = o .before .before .before .before in
     let a = n .before .before .before .before .args in
     let e : n .number .result ≡ 0 = omega arith in
     let y = yes n e in
     let full : 1 ≤ length (o .hand-out .last .1 .1 .0) = omega (arith, y .size, y .hand .room .someBytes) in
-    meets-yes (a .c) (stateOf (a .c) (a .m .now)) collect (a .m .now) [] (a .buffer .now) _ _ _ (record {
+    rw (c .accepted .ensures) (meets-yes (a .c) (stateOf (a .c) (a .m .now)) collect (a .m .now) [] (a .buffer .now) _ _ _ (record {
       yes = sym (n .number .ensures) ∙ e;
       number = refl;
       taken = refl;
@@ -66,7 +69,7 @@ returns-2 c =
       state = f .finish .ensures .1 .state ∙ sym (collected-is (a .c) (a .m .now) (y .some));
       buffer = answer-is (a .c) (a .m .now) (a .buffer .now) (o .hand-out .last .1 .1 .0) (y .some) (o .hand-out .ensures) full;
       tail = f .finish .ensures .1 .tail;
-    })
+    }))
 
 pub collect-spec : {M : Type 1} → statement M
 collect-spec =
@@ -78,6 +81,7 @@ collect-spec =
     returns
     hand-out-requires
     finish-requires
+    accepted-requires
     same-length-2
     same-length-3
     returns-2)

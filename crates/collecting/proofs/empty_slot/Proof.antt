@@ -7,7 +7,7 @@ use Rattle.memory.specs.Tables.{tablesOf, withHolds}
 use Rattle.memory.specs.Fits.{shapeOf, fit-lt}
 use Rattle.lists.specs.Tables.{put}
 use Rattle.client.specs.View.{stateOf, placeOf}
-use Rattle.levels.specs.Slots.{stride-le}
+use Rattle.rules.specs.Laws.Layout.{stride-le}
 use Rattle.client.specs.Readings.{place-as}
 use Rattle.collecting.specs.Collecting.{slot-none, slot-some}
 use Rattle.collecting.proofs.empty_slot.Statement.{statement}
@@ -29,34 +29,17 @@ returns c =
     let a = d .before .before .before .args in
     slot-none (a .c) (a .m .now) (a .m .now) (a .c .request .block) (a .p) (d .place .result) (placed d) (c .if1 .taken)
 
-add-pow2 : tie.Need-add-pow2
-add-pow2 c = omega arith
+-- the number of its slot is below those of the partition
+below : (c : tie.After-place) → let a = c .before .before .before .args in c .place .result < slots (a .c .shape .l)
+below c =
+    let a = c .before .before .before .args in
+    rw (c .place .ensures) (fit-lt (slots (a .c .shape .l)) _ (pow-pos (a .c .shape .l + 1)))
 
-pow2-requires : tie.Need-pow2-requires
-pow2-requires c κs = omega arith
-
--- its cell lies within the tables
-cell-is : (c : tie.After-pow2) → let a = c .before .before .before .before .before .before .args in a .p * c .pow2 .result ≡ a .p * slots (a .c .shape .l)
-cell-is c = let a = c .before .before .before .before .before .before .args in ap (λ y. a .p * y) (c .pow2 .ensures .0)
-
-room : (c : tie.After-pow2) → let a = c .before .before .before .before .before .before .args in
-    a .p * slots (a .c .shape .l) + c .before .before .before .place .result < a .c .shape .p * slots (a .c .shape .l)
-room c =
-    let s = c .before .before .before .before .before .before in
-    let h = s .args .c .shape in
-    let l = fit-lt (slots (h .l)) (tablesOf (shapeOf h) (s .args .m .now) .place (s .args .c .request .block)) (pow-pos (h .l + 1)) in
-    omega (arith, l, c .before .before .before .place .ensures, stride-le (h .p) (s .args .p) (slots (h .l)) (s .pre .1))
-
-mul-cell : tie.Need-mul-cell
-mul-cell c = omega (arith, cell-is c, room c, c .before .before .before .before .before .before .pre .0 .room .cells)
-
-add-cell : tie.Need-add-cell
-add-cell c = omega (arith, cell-is c, room c, c .before .before .before .before .before .before .pre .0 .room .cells)
+cell-of-requires : tie.Need-cell-of-requires
+cell-of-requires c κs = omega (arith, below (c .before))
 
 set-holds-requires : tie.Need-set-holds-requires
-set-holds-requires c κs =
-    let d = c .before in
-    (d .before .before .before .before .before .before .pre .0 .room, omega (arith, cell-is d, room d), omega arith)
+set-holds-requires c κs = omega arith
 
 same-length-2 : tie.Need-same-length-2
 same-length-2 c = omega arith
@@ -64,11 +47,11 @@ same-length-2 c = omega arith
 returns-2 : tie.Need-returns-2
 returns-2 c =
     let d = c .before .before .before .before in
-    let k = d .before .before .before in
+    let k = d .before .before in
     let a = k .before .before .before .args in
     let t = tablesOf (shapeOf (a .c .shape)) (a .m .now) in
     slot-some (a .c) (a .m .now) _ (a .c .request .block) (a .p) (k .place .result) (placed k) (omega arith)
-    (c .before .before .set-holds .ensures ∙ ap (λ y. withHolds (put (y + k .place .result) 0 (t .holds)) t) (cell-is d))
+    (c .before .before .set-holds .ensures ∙ ap (λ y. withHolds (put y 0 (t .holds)) t) (d .cell-of .ensures .0))
 
 pub empty-slot-spec : {M : Type 1} → statement M
 empty-slot-spec =
@@ -77,10 +60,7 @@ empty-slot-spec =
     place-requires
     same-length
     returns
-    add-pow2
-    pow2-requires
-    mul-cell
-    add-cell
+    cell-of-requires
     set-holds-requires
     same-length-2
     returns-2)

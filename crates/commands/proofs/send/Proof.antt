@@ -1,5 +1,5 @@
 use native.Mathlib.Omega.{arith}
-use Rattle.client.specs.Changes.{spot-lt}
+use Rattle.rules.specs.Laws.Layout.{offset-lt}
 use Rattle.commands.specs.Commands.{sent}
 use Rattle.commands.proofs.send.Statement.{statement}
 use Rattle.commands.proofs.send.Tie as tie
@@ -28,7 +28,7 @@ set-command-kind-requires c κs = omega arith
 set-command-spot-requires : tie.Need-set-command-spot-requires
 set-command-spot-requires c κs =
     let a = c .before .before .before .before .before .before .before .args in
-    omega (arith, spot-lt (a .c .shape .l) (a .l) (a .i) (omega arith) (omega arith))
+    omega (arith, offset-lt (a .c .shape .l) (a .l) (a .i) (omega arith) (omega arith))
 
 add-with-out : tie.Need-add-with-out
 add-with-out c = omega arith

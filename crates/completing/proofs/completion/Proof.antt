@@ -116,16 +116,20 @@ complete-requires c κs =
     let s = f .before .before .before .before .before .before .before .before .before .before in
     completes (s .args .c) (s .args .m .now) (named s) (s .args .bytes .now) _ (begun (f .before .before)) (there k) (sized (c .before))
 
+accepted-requires : tie.Need-accepted-requires
+accepted-requires c κs = omega arith
+
 same-length-4 : tie.Need-same-length-4
 same-length-4 c = omega arith
 
 returns-5 : tie.Need-returns-5
 returns-5 c =
-    let d = c .before .before .before .before in
+    let d = c .before .before .before .before .before in
     let k = d .before .before in
     let f = k .before .before .before in
     let s = f .before .before .before .before .before .before .before .before .before .before in
-    yes (s .args .c) (s .args .m .now) (named s) (s .args .bytes .now) (begun (f .before .before)) (there k .there) _ _ (sized d) (c .before .before .complete .ensures .0) (c .before .before .complete .ensures .1)
+    rw (c .accepted .ensures)
+    (yes (s .args .c) (s .args .m .now) (named s) (s .args .bytes .now) (begun (f .before .before)) (there k .there) _ _ (sized d) (c .before .before .before .complete .ensures .0) (c .before .before .before .complete .ensures .1))
 
 pub completion-spec : {M : Type 1} → statement M
 completion-spec =
@@ -150,5 +154,6 @@ completion-spec =
     same-length-3
     returns-4
     complete-requires
+    accepted-requires
     same-length-4
     returns-5)

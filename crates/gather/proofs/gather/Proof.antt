@@ -2,10 +2,12 @@ use mathlib.Core.Path.{_≡_, refl, ap, _∙_}
 use Prim.Native.Nat.{_+_, _-_, _*_, _≤_, _<_}
 use native.Mathlib.Omega.{arith}
 use lib.ListN.{length, take}
+use lib.Pow.{pow-mono}
 use Rattle.rules.specs.Shape.{slots}
 use Rattle.client.specs.View.{stateOf}
 use Rattle.gather.specs.Kept.{sofar, topOf, sofar-ascends, gathers-more, gathers-all}
-use Rattle.gather.specs.Slots.{slots-two, cells-in, slot-in, top-is, gather-start, gather-step}
+use Rattle.rules.specs.Laws.Levels.{two-slots}
+use Rattle.gather.specs.Slots.{slot-in, top-is, gather-start, gather-step}
 use Rattle.gather.proofs.gather.Statement.{statement}
 use Rattle.gather.proofs.gather.Tie as tie
 
@@ -22,35 +24,21 @@ pow2-requires : tie.Need-pow2-requires Inv-loop μ-loop
 pow2-requires c κs = omega arith
 
 sub-top : tie.Need-sub-top Inv-loop μ-loop
-sub-top c = omega (arith, slots-two (c .before .before .before .args .sources))
+sub-top c = omega (arith, two-slots (c .before .before .before .args .sources))
 
-add-pow2-2 : tie.Need-add-pow2-2 Inv-loop μ-loop
-add-pow2-2 c = omega arith
-
-pow2-requires-2 : tie.Need-pow2-requires-2 Inv-loop μ-loop
-pow2-requires-2 c κs = omega arith
-
-base-le : (c : tie.After-pow22 Inv-loop μ-loop) → c .before .before .before .before .before .args .q * c .pow22 .result ≤ 32768
-base-le c =
-    let a = c .before .before .before .before .before in
-    omega (arith, cells-in (a .args .c .shape .p) (a .args .q) (slots (a .args .c .shape .l)) (a .pre .1), ap (λ x. a .args .q * x) (c .pow22 .ensures .0))
-
-mul-base : tie.Need-mul-base Inv-loop μ-loop
-mul-base c = omega (arith, base-le c)
-
-add-base : tie.Need-add-base Inv-loop μ-loop
-add-base c = omega (arith, base-le c)
+cell-of-requires : tie.Need-cell-of-requires Inv-loop μ-loop
+cell-of-requires c κs = omega (arith, pow-mono {i = 2} {j = c .before .before .before .args .c .shape .l + 1} (omega arith))
 
 add-requires : tie.Need-add-requires Inv-loop μ-loop
 add-requires c κs = omega arith
 
 loop-holds : tie.Need-loop-holds Inv-loop μ-loop
 loop-holds c =
-    let a = c .before .before .before .before .before .before .before .before .before in
+    let a = c .before .before .before .before .before .before .before .before in
     let e = c .before .before .add .ensures in (
       (
-        ap (λ x. x - 2) (c .before .before .before .before .before .before .pow2 .ensures .0) ∙ top-is (a .args .c) (a .args .m .now) (a .args .q) (a .args .sources) (a .pre .6),
-        ap (λ x. a .args .q * x + 2) (c .before .before .before .before .pow22 .ensures .0),
+        ap (λ x. x - 2) (c .before .before .before .before .before .pow2 .ensures .0) ∙ top-is (a .args .c) (a .args .m .now) (a .args .q) (a .args .sources) (a .pre .6),
+        c .before .before .before .before .cell-of .ensures .0,
       ),
       omega arith,
       omega arith,
@@ -58,9 +46,9 @@ loop-holds c =
       e .0 ∙ gather-start (a .args .c) (a .args .m .now) (a .args .q) (a .args .extra) (a .pre .3) (a .pre .7),
     )
 
-cell-lt : (c : tie.In-loop Inv-loop μ-loop) → let a = c .before .before .before .before .before .before .before .before .before .before .before .args in a .q * c .before .before .before .before .before .before .pow22 .result + 2 + c .before .loop .j < a .c .shape .p * slots (a .c .shape .l)
+cell-lt : (c : tie.In-loop Inv-loop μ-loop) → let a = c .before .before .before .before .before .before .before .before .before .before .args in c .before .before .before .before .before .before .cell-of .result + c .before .loop .j < a .c .shape .p * slots (a .c .shape .l)
 cell-lt c =
-    let a = c .before .before .before .before .before .before .before .before .before .before .before in
+    let a = c .before .before .before .before .before .before .before .before .before .before in
     let l = c .before .loop in
     let t : l .j < slots (a .args .sources) - 2 = omega arith in
     omega (arith, slot-in (a .args .c .shape .p) (a .args .q) (a .args .c .shape .l) (a .args .sources) (l .j) (a .pre .1) (a .pre .2) t)
@@ -69,17 +57,17 @@ add-holds : tie.Need-add-holds Inv-loop μ-loop
 add-holds c = omega (arith, cell-lt c)
 
 holds-requires : tie.Need-holds-requires Inv-loop μ-loop
-holds-requires c κs = (c .before .before .before .before .before .before .before .before .before .before .before .pre .0, cell-lt c)
+holds-requires c κs = (c .before .before .before .before .before .before .before .before .before .before .pre .0, cell-lt c)
 
 add-requires-2 : tie.Need-add-requires-2 Inv-loop μ-loop
 add-requires-2 c κs =
-    let a = c .before .before .before .before .before .before .before .before .before .before .before .before .before in
+    let a = c .before .before .before .before .before .before .before .before .before .before .before .before in
     let l = c .before .before .before .loop in
     (omega arith, rw (l .inv .4) (sofar-ascends (stateOf (a .args .c) (a .args .m .now)) (a .args .q) (l .j)))
 
-more : (c : tie.After-slice-known3 Inv-loop μ-loop) → let a = c .before .before .before .before .before .before .before .before .before .before .before .before .before .before .before .before .args in let r = c .before .before .add2 in take (r .result) (r .last .0) ≡ sofar (stateOf (a .c) (a .m .now)) (a .q) (c .before .before .before .before .before .before .loop .j + 1)
+more : (c : tie.After-slice-known3 Inv-loop μ-loop) → let a = c .before .before .before .before .before .before .before .before .before .before .before .before .before .before .before .args in let r = c .before .before .add2 in take (r .result) (r .last .0) ≡ sofar (stateOf (a .c) (a .m .now)) (a .q) (c .before .before .before .before .before .before .loop .j + 1)
 more c =
-    let a = c .before .before .before .before .before .before .before .before .before .before .before .before .before .before .before .before in
+    let a = c .before .before .before .before .before .before .before .before .before .before .before .before .before .before .before in
     let l = c .before .before .before .before .before .before .loop in
     let h = c .before .before .before .before .holds in
     c .before .before .add2 .ensures .0 ∙ gather-step (a .args .c) (a .args .m .now) (a .args .q) (h .result) _ (l .j) _ (l .inv .0 .1) (h .ensures) (l .inv .4)
@@ -89,7 +77,7 @@ same-length c = omega arith
 
 returns : tie.Need-returns Inv-loop μ-loop
 returns c =
-    let a = c .before .before .before .before .before .before .before .before .before .before .before .before .before .before .before .before .before in
+    let a = c .before .before .before .before .before .before .before .before .before .before .before .before .before .before .before .before in
     let l = c .before .before .before .before .before .before .before .loop in
     gathers-more (stateOf (a .args .c) (a .args .m .now)) (a .args .q) (a .args .limit) _ _ (omega arith) (l .j + 1) (more (c .before)) (omega arith) (c .if1 .taken)
 
@@ -109,7 +97,7 @@ same-length-2 c = omega arith
 
 returns-2 : tie.Need-returns-2 Inv-loop μ-loop
 returns-2 c =
-    let a = c .before .before .before .before .before .before .before .before .before .before .before in
+    let a = c .before .before .before .before .before .before .before .before .before .before in
     let l = c .before .loop in
     gathers-all (stateOf (a .args .c) (a .args .m .now)) (a .args .q) (a .args .limit) (l .k) (l .list) (omega arith) (l .j) (l .inv .4) (omega arith)
 
@@ -122,10 +110,7 @@ gather-spec =
     add-pow2
     pow2-requires
     sub-top
-    add-pow2-2
-    pow2-requires-2
-    mul-base
-    add-base
+    cell-of-requires
     add-requires
     loop-holds
     add-holds

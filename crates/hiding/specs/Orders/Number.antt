@@ -5,7 +5,7 @@ use mathlib.Core.List.{List, [], _∷_}
 use mathlib.Core.Option.{Option, none, some, Option·getD}
 use Prim.Native.Nat.{ℕ, suc}
 use lib.ListN.{length, replicate, length-replicate}
-use lib.Dec.{eqb, leb, ltb, leb·zero, leb·suc-zero, leb·suc-suc}
+use lib.Dec.{eqb, leb, ltb}
 use borrow.Author.Tests.{leb-true, ltb-true, lt-ltb}
 use Rattle.lists.specs.Members.{mem-member}
 use Rattle.lists.specs.Search.{isNone, any, orElse, member}
@@ -25,7 +25,8 @@ use Rattle.rules.specs.Turn
 use Rattle.rules.specs.Turn.{Step, idle, noDummy, readForRequest, readForJob, rebuild, writeNext, firstRead, readStep, requestStep, jobStep, decide, command, stepBounds}
 use Rattle.rules.specs.Questions.{possible, inHand, sends, bounds, ready, questions, firstNo, number}
 use Rattle.rules.specs.Ranges.{isKind, bytesOf, inRange}
-use Rattle.rules.specs.Draws.{Drawn, draw, draws, drawnFirst}
+use Rattle.rules.specs.Draws.{draws}
+use Rattle.rules.specs.Laws.Drawn.{draws-enough}
 use Rattle.hiding.specs.Machines.Rules.{numberR}
 use Rattle.hiding.specs.Orders.Decides.{OpenStep, decide-open}
 use Rattle.hiding.specs.Machines.Needs.{Reachable}
@@ -33,14 +34,7 @@ use Rattle.hiding.specs.Machines.Public.{Later, later-request, later-tur
 
 -- words are enough if there is one for each draw
 pub enough : (ms ws : List ℕ) → not (isNone (draws ms ws)) ≡ leb (length ms) (length ws)
-unfolding draws isNone
-enough [] ws = sym (leb·zero (length ws))
-enough (m ∷ ms) [] = sym (leb·suc-zero (length ms))
-enough (m ∷ ms) (w ∷ ws) = go (draws ms ws) (enough ms ws)
-  where
-    go : (o : Option Drawn) → not (isNone o) ≡ leb (length ms) (length ws) → not (isNone (drawnFirst (draw m w) o)) ≡ leb (suc (length ms)) (suc (length ws))
-    go none e = unfold drawnFirst isNone in (e ∙ sym (leb·suc-suc (length ms) (length ws)))
-    go (some d) e = unfold drawnFirst isNone in (e ∙ sym (leb·suc-suc (length ms) (length ws)))
+enough = draws-enough
 
 pub enough-zeros : (ms : List ℕ) (w : ℕ) → not (isNone (draws ms (replicate w 0))) ≡ leb (length ms) w
 enough-zeros ms w = enough ms (replicate w 0) ∙ simp length-replicate

@@ -2,7 +2,7 @@ use mathlib.Core.Path.{_≡_, sym, ap, _∙_}
 use Prim.Native.Nat.{_/_}
 use native.Mathlib.Omega.{arith}
 use lib.ListN.{length, drop}
-use Rattle.lines.specs.Lines.{upTo, numbers as numbersOf}
+use Rattle.lines.specs.Lines.{upTo, numbers as numbersOf, mostWords}
 use Rattle.lines.specs.Fields.{after}
 use Rattle.lines.specs.Told.{tape-by, tape-none}
 use Rattle.lines.specs.Stored.{words-out}
@@ -21,7 +21,7 @@ same-length c = omega arith
 returns : tie.Need-returns
 returns c =
     let a = c .before .before .before .before .before .before .before .before .args in
-    let e : length (a .tape .now) / 2 ≡ 8192 = omega arith in
+    let e : length (a .tape .now) / 2 ≡ mostWords = omega arith in
     c .before .before .numbers .ensures ∙ ap (λ m. upTo m (numbersOf (after (drop 1 (a .line .now))))) e ∙ sym (tape-by _ _ (c .before .before .before .before .before .letter .ensures) (c .before .before .before .before .match .keys1))
 
 returns-2 : tie.Need-returns-2

@@ -11,12 +11,14 @@ use Rattle.rules.specs.Questions.{opening, number, bounds}
 use Rattle.rules.specs.Run.{refuse, act, sentCommand, handed}
 use Rattle.memory.specs.Fits.{shapeOf}
 use Rattle.client.specs.View.{stateOf, view}
-use Rattle.tape.specs.Tape.{wordsOf, taken-all}
+use Rattle.rules.specs.Laws.Drawn.{taken-all}
+use Rattle.tape.specs.Tape.{wordsOf}
 use Rattle.contract.specs.Answers.{clearedClient}
 use Rattle.contract.specs.Meets.{callOf, meets-no, meets-yes, closed-is}
 use Rattle.opening.specs.Opening.{openNumber, open-number, open-passed, Filled, fresh-is, filled-tail, filled-from, cleared-tail}
 use Rattle.opening.proofs.open.Statement.{statement}
 use Rattle.opening.proofs.open.Tie as tie
+use Rattle.contract.proofs.accepted.Reads as accepted-reads
 use Rattle.contract.proofs.closed.Reads as closed-reads
 use Rattle.contract.proofs.refused.Reads as refused-reads
 use Rattle.opening.proofs.clear.Reads as clear-reads
@@ -74,13 +76,16 @@ draw-partitions-requires c κs =
 fresh-requires : tie.Need-fresh-requires
 fresh-requires c κs = omega arith
 
+accepted-requires : tie.Need-accepted-requires
+accepted-requires c κs = omega arith
+
 same-length : tie.Need-same-length
 same-length c = omega arith
 
 returns-2 : tie.Need-returns-2
 unfolding bounds act sentCommand handed stateOf view
 returns-2 c =
-    let d = c .before .before .before in
+    let d = c .before .before .before .before in
     let n = d .before .before .before .before .before .before .before in
     let a = n .before .before .before .before .args in
     let e : n .number .result ≡ 0 = omega arith in
@@ -91,7 +96,7 @@ returns-2 c =
     let s = fresh-is (a .h) (a .tape .now) (y .0) (y .2) m₁ m₂ f in
     let words : length {A = ℕ} (replicate (a .h .n) (a .h .p)) ≤ length (wordsOf (a .tape .now)) = omega (arith, length-replicate {A = ℕ} (a .h .n) (a .h .p), y .2) in
     let tail = filled-tail (a .h) (a .tape .now) (y .0) (y .2) m₁ m₂ f ∙ cleared-tail (a .h) (a .tape .now) (a .m .now) m₁ (d .before .before .before .before .clear .ensures) in
-    rw (c .fresh .ensures) (meets-yes clearedClient closed (opening (shapeOf (a .h))) (a .m .now) (a .tape .now) [] _ m₂ [] (record {
+    rw (c .accepted .ensures, c .before .fresh .ensures) (meets-yes clearedClient closed (opening (shapeOf (a .h))) (a .m .now) (a .tape .now) [] _ m₂ [] (record {
       yes = sym (asked n) ∙ e;
       number = refl;
       taken = sym (taken-all (replicate (a .h .n) (a .h .p)) (wordsOf (a .tape .now)) words ∙ length-replicate (a .h .n) (a .h .p));
@@ -114,5 +119,6 @@ open-spec =
     clear-requires
     draw-partitions-requires
     fresh-requires
+    accepted-requires
     same-length
     returns-2)

@@ -1,18 +1,16 @@
-use mathlib.Core.Path.{ap}
-use mathlib.Core.Bool.{_&&_}
+use mathlib.Core.Path.{refl}
 use native.Mathlib.Omega.{arith}
-use lib.Dec.{leb}
-use Rattle.lists.specs.Tests.{between}
-use Rattle.rules.specs.Ranges.{isKind}
 use Rattle.requesting.proofs.begins.Statement.{statement}
 use Rattle.requesting.proofs.begins.Tie as tie
 
 is-ready-requires : tie.Need-is-ready-requires
 is-ready-requires c κs = omega arith
 
+is-kind-requires : tie.Need-is-kind-requires
+is-kind-requires c κs = omega arith
+
 returns : tie.Need-returns
-unfolding isKind between
-returns c = let a = c .before .before .args in ap (λ t. t && (leb 1 (a .kind) && leb (a .kind) 2)) (c .is-ready .ensures)
+returns c = rw (c .before .is-ready .ensures, c .is-kind .ensures)
 
 pub begins-spec : {M : Type 1} → statement M
-begins-spec = tie.close (tie.spec is-ready-requires returns)
+begins-spec = tie.close (tie.spec is-ready-requires is-kind-requires returns)

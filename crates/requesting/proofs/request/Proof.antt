@@ -5,7 +5,8 @@ use lib.ListN.{length}
 use Rattle.rules.specs.Questions.{request, number, bounds}
 use Rattle.rules.specs.Run.{refuse, act, sentCommand, handed}
 use Rattle.client.specs.View.{stateOf, view}
-use Rattle.tape.specs.Tape.{wordsOf, taken-all}
+use Rattle.rules.specs.Laws.Drawn.{taken-all}
+use Rattle.tape.specs.Tape.{wordsOf}
 use Rattle.contract.specs.Meets.{callOf, meets-no, meets-yes}
 use Rattle.requesting.specs.Requesting.{requestNumber, request-number, Asked, request-passed, in-hand}
 use Rattle.requesting.proofs.request.Statement.{statement}
@@ -46,18 +47,21 @@ returns c =
 take-requires : tie.Need-take-requires
 take-requires c κs = let y = yes (c .before .before) (omega arith) in (y .usable .room, y .some, y .size, y .words)
 
+accepted-requires : tie.Need-accepted-requires
+accepted-requires c κs = omega arith
+
 same-length-2 : tie.Need-same-length-2
 same-length-2 c = omega arith
 
 returns-2 : tie.Need-returns-2
 unfolding bounds act sentCommand handed stateOf view
 returns-2 c =
-    let d = c .before .before in
+    let d = c .before .before .before in
     let n = d .before .before .before in
     let a = n .before .before .before .before .before .before .args in
     let e : n .number .result ≡ 0 = omega arith in
     let y = yes n e in
-    meets-yes (a .c) (stateOf (a .c) (a .m .now)) (request (a .kind) (a .block) (a .contents .now)) (a .m .now) (a .tape .now) [] _ _ [] (record {
+    rw (c .accepted .ensures) (meets-yes (a .c) (stateOf (a .c) (a .m .now)) (request (a .kind) (a .block) (a .contents .now)) (a .m .now) (a .tape .now) [] _ _ [] (record {
       yes = sym (asked n) ∙ e;
       number = refl;
       taken = sym (taken-all (a .c .shape .p ∷ a .c .shape .p ∷ []) (wordsOf (a .tape .now)) (y .words));
@@ -66,7 +70,7 @@ returns-2 c =
       idle = λ z. absurd (in-hand (a .c) _ (a .m .now) _ (a .kind) (a .block) (a .contents .now) (a .tape .now) (d .take .ensures .state) z);
       buffer = refl;
       tail = d .take .ensures .tail;
-    })
+    }))
 
 pub request-spec : {M : Type 1} → statement M
 request-spec =
@@ -78,5 +82,6 @@ request-spec =
     same-length
     returns
     take-requires
+    accepted-requires
     same-length-2
     returns-2)

@@ -1,13 +1,22 @@
--- No two slots share a cell.
+-- Where a slot lies: within its partition, which lies within the cells; and no two slots share a cell.
 use mathlib.Core.Path.{_≡_, ap, sym}
-use Prim.Native.Nat.{ℕ, suc, _+_, _-_, _*_, _<_}
-use native.Mathlib.Nat.{mul-le-mul-right}
+use Prim.Native.Nat.{ℕ, suc, _+_, _-_, _*_, _≤_, _<_}
+use native.Mathlib.Nat.{suc-mul, mul-le-mul-right}
 use native.Mathlib.Omega.{arith}
 use lib.Pow.{pow-mono}
 use Rattle.rules.specs.Shape.{Shape, cell, offset, slots}
 
+-- a partition's cells lie within those of all
+pub stride-le : (P q n : ℕ) → q < P → q * n + n ≤ P * n
+stride-le P q n h = rw (← suc-mul) (mul-le-mul-right n h)
+
+-- the cells of a level follow one another
+pub cell-from : (h : Shape) (q ℓ i : ℕ) → cell h q ℓ 0 + i ≡ cell h q ℓ i
+unfolding cell
+cell-from h q ℓ i = omega arith
+
 -- the place of a slot among the slots of its partition
-offset-lt : (top ℓ i : ℕ) → ℓ < top → i < slots ℓ → slots ℓ + i < slots top
+pub offset-lt : (top ℓ i : ℕ) → ℓ < top → i < slots ℓ → slots ℓ + i < slots top
 offset-lt top ℓ i h k = omega (arith, pow-mono {i = suc (ℓ + 1)} {j = top + 1} (omega arith))
 
 -- quotient and remainder are unique

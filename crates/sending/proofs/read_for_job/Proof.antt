@@ -14,7 +14,7 @@ use Rattle.bits.proofs.pow2.Reads as pow2-reads
 use Rattle.client.proofs.Client.with_cursor.Reads as with-cursor-reads
 use Rattle.commands.proofs.send.Reads as send-reads
 use Rattle.levels.proofs.mark_read.Reads as mark-read-reads
-use Rattle.sending.proofs.sent.Reads as sent-reads
+use Rattle.contract.proofs.sent.Reads as sent-reads
 
 mark-read-requires : tie.Need-mark-read-requires
 mark-read-requires c κs = omega arith

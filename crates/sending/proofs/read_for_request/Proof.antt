@@ -10,7 +10,7 @@ use Rattle.sending.proofs.read_for_request.Lts as lts
 use Rattle.commands.proofs.send.Reads as send-reads
 use Rattle.levels.proofs.mark_read.Reads as mark-read-reads
 use Rattle.sending.proofs.pass_level.Reads as pass-level-reads
-use Rattle.sending.proofs.sent.Reads as sent-reads
+use Rattle.contract.proofs.sent.Reads as sent-reads
 
 mark-read-requires : tie.Need-mark-read-requires
 mark-read-requires c κs = omega arith

@@ -18,7 +18,7 @@ use Rattle.sending.proofs.send_rebuild.Lts as lts
 use Rattle.bits.proofs.pow2.Reads as pow2-reads
 use Rattle.commands.proofs.send.Reads as send-reads
 use Rattle.sending.proofs.put_bytes.Reads as put-bytes-reads
-use Rattle.sending.proofs.sent.Reads as sent-reads
+use Rattle.contract.proofs.sent.Reads as sent-reads
 use Rattle.sending.proofs.write_level.Reads as write-level-reads
 
 add-pow2 : tie.Need-add-pow2

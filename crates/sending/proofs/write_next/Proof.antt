@@ -16,7 +16,7 @@ use Rattle.client.proofs.Client.with_sent.Reads as with-sent-reads
 use Rattle.commands.proofs.send.Reads as send-reads
 use Rattle.contract.proofs.refused.Reads as refused-reads
 use Rattle.sending.proofs.put_bytes.Reads as put-bytes-reads
-use Rattle.sending.proofs.sent.Reads as sent-reads
+use Rattle.contract.proofs.sent.Reads as sent-reads
 
 refused-requires : tie.Need-refused-requires
 refused-requires c κs = omega arith

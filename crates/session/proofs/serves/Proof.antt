@@ -4,7 +4,7 @@ use native.Mathlib.Omega.{arith}
 use lib.Dec.{leb}
 use mathlib.Core.Bool.{_&&_}
 use Rattle.rules.specs.Laws.Levels.{two-slots}
-use Rattle.session.specs.Session.{serves}
+use Rattle.session.specs.Session.{mostBlocks, hostRoom, serves}
 use Rattle.session.specs.Slots.{slots-most, product-le}
 use Rattle.session.proofs.serves.Statement.{statement}
 use Rattle.session.proofs.serves.Tie as tie
@@ -27,7 +27,7 @@ mul-result-2 c = let a = c .before .before .before .before .before .args in let 
 
 returns : tie.Need-returns
 unfolding serves
-returns c = let a = c .before .before .before .before .before .args in ap (λ n. leb (a .h .n) 64 && leb (a .h .p * (n - 2) * a .h .b) 16384) (c .before .before .before .pow2 .ensures .0)
+returns c = let a = c .before .before .before .before .before .args in ap (λ n. leb (a .h .n) mostBlocks && leb (a .h .p * (n - 2) * a .h .b) hostRoom) (c .before .before .before .pow2 .ensures .0)
 
 pub serves-spec : {M : Type 1} → statement M
 serves-spec = tie.close (tie.spec add-pow2 pow2-requires sub-slots mul-result mul-result-2 returns)

@@ -1,8 +1,8 @@
 use mathlib.Core.Path.{refl}
 use Rattle.lists.specs.Tests.{between}
 use Rattle.rules.specs.Ranges.{isKind}
-use Rattle.completing.proofs.is_kind.Statement.{statement}
-use Rattle.completing.proofs.is_kind.Tie as tie
+use Rattle.client.proofs.is_kind.Statement.{statement}
+use Rattle.client.proofs.is_kind.Tie as tie
 
 returns : tie.Need-returns
 unfolding isKind between
