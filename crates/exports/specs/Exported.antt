@@ -247,7 +247,11 @@ module _ (a : Ask) (four : opens a ≡ false) (st m tape b : List ℕ) (r : Answ
       ∙ low)
       (λ z. subst (Idle a (clientIn st .request)) (sym (progress-is (r .client) (wordAt st))) (λ y. progress-idle st (r .client) m m′ (left-asked (clientIn st) s a m tape b r m′ b′ k z e) (λ x. k .idle z x ∙ n) y ∙ sym n))
 
--- a state of another length is refused
+-- with a state of another length each of the four calls answers 2 at once
+pub exported-length : {a : Ask} {st m tape b : List ℕ} → (length st ≡ stateLength → ⊥) → Exported a st m tape b 2 st m b
+exported-length n = record { meets = λ l. absurd (n l); refused = λ _. refl; between = λ k. refl; other = λ _. (refl, refl, refl, refl) }
+
+-- so does an open, or 1
 pub one-or-two : (t : Bool) (u : ℕ) → u ≡ (if t then 2 else 1) → u % 256 ≡ 0 → ⊥
 one-or-two true u e z = omega arith
 one-or-two false u e z = omega arith

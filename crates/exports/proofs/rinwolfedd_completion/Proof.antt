@@ -5,12 +5,12 @@ use Rattle.rules.specs.State.{cmd}
 use Rattle.rules.specs.Questions.{completion}
 use Rattle.rules.specs.Laws.Answers.{opens}
 use Rattle.rules.specs.Laws.Asked.{completion-asked}
-use Rattle.exports.specs.Exported.{exported-progress}
+use Rattle.exports.specs.Exported.{exported-progress, exported-length}
 use Rattle.exports.proofs.rinwolfedd_completion.Statement.{statement}
 use Rattle.exports.proofs.rinwolfedd_completion.Tie as tie
 
 returns : tie.Need-returns
-returns c = record { meets = λ l. absurd (c .if1 .taken l); refused = λ _. refl; between = λ k. refl; other = λ _. (refl, refl, refl, refl) }
+returns c = exported-length (c .if1 .taken)
 
 decode-requires : tie.Need-decode-requires
 decode-requires c κs = omega arith
