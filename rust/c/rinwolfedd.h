@@ -1,7 +1,7 @@
-/* The five calls of the archive that `rt staticlib exports` writes to
- * target/staticlib/libexports.a. A slice is a pointer and a length; a slice of
- * length 0 may have any pointer that is not null. The slices of one call must
- * not overlap. Lengths and layout: docs/MEMORY.md. */
+/* The five calls of the library that `scripts/library` writes to
+ * target/staticlib/librinwolfedd.a. A slice is a pointer and a length; a slice
+ * of length 0 may have any pointer that is not null. The slices of one call
+ * must not overlap. Lengths and layout: docs/MEMORY.md. */
 #ifndef RINWOLFEDD_H
 #define RINWOLFEDD_H
 

@@ -1,7 +1,7 @@
 /* Document 01's worked session from C: one block of one byte, written, its jobs
  * done, and read again. From the repository's top:
  *
- *     cc -std=c99 rust/c/worked.c target/staticlib/libexports.a -o worked
+ *     cc -std=c99 rust/c/worked.c target/staticlib/librinwolfedd.a -o worked
  */
 #include "rinwolfedd.h"
 #include <stdio.h>

@@ -1,4 +1,4 @@
-//! The archive links from C by the prototypes in c/rinwolfedd.h: document 01's
+//! The library links from C by the prototypes in c/rinwolfedd.h: document 01's
 //! worked session prints what the document says.
 
 use std::path::Path;
@@ -27,7 +27,7 @@ fn the_worked_session_from_c() {
         .args(["-std=c99", "-Wall", "-Wextra", "-Werror", "-o"])
         .arg(&program)
         .arg(here.join("c/worked.c"))
-        .arg(here.join("../target/staticlib/libexports.a"))
+        .arg(env!("RINWOLFEDD_LIBRARY"))
         .output()
         .expect("cc runs");
     assert!(
