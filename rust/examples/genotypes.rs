@@ -16,19 +16,13 @@ use std::io::{self, Write};
 use std::path::{Path, PathBuf};
 use std::process::ExitCode;
 
-/// 4,096 blocks of 512 bytes, with a place in the cache for each.
-const SHAPE: Shape = Shape {
-    blocks: 4096,
-    partitions: 64,
-    levels: 8,
-    bytes: 512,
-    places: 4096,
-    window: 32,
-};
+/// The fish, a block each, and the bytes of a record.
+const FISH: usize = 4096;
+const BYTES: usize = 512;
 
 /// A record's bytes before its genotypes: the name, sex, year class, family.
 const HEAD: usize = 36;
-const SNPS: usize = 4 * (SHAPE.bytes - HEAD);
+const SNPS: usize = 4 * (BYTES - HEAD);
 
 /// A small generator (splitmix64): the fish are made up, and the same each
 /// time. What is hidden does not rest on it.
@@ -58,7 +52,7 @@ fn frequency(snp: usize) -> u64 {
 fn record(fish: usize) -> Vec<u8> {
     let mut rng = Rng(1 << 32 | fish as u64);
     let name = format!("SSA-{}-{fish:05}", 2021 + fish % 4);
-    let mut bytes = vec![0; SHAPE.bytes];
+    let mut bytes = vec![0; BYTES];
     bytes[..name.len()].copy_from_slice(name.as_bytes());
     bytes[32] = b"FM"[(rng.next() % 2) as usize];
     bytes[33] = (21 + fish % 4) as u8;
@@ -131,13 +125,13 @@ fn show(out: &mut impl Write, fish: [usize; 2], seen: &[Vec<Command>; 2]) -> io:
 
 /// Stores the fish in a new file and looks two of them up.
 pub fn run(path: &Path, out: &mut impl Write) -> Result<(), Box<dyn Error>> {
-    let host = FileHost::create(path, SHAPE).map_err(|e| format!("{}: {e}", path.display()))?;
-    let mut reader = Reader::open(SHAPE, Recorded::new(host))?;
-    let mut progress = Progress::to_stderr("storing fish", SHAPE.blocks);
-    reader.write_all((0..SHAPE.blocks).map(record), |done| progress.at(done))?;
+    let shape = Shape::hiding(FISH, BYTES)?;
+    let host = FileHost::create(path, shape).map_err(|e| format!("{}: {e}", path.display()))?;
+    let mut reader = Reader::open(shape, Recorded::new(host))?;
+    let mut progress = Progress::to_stderr("storing fish", FISH);
+    let stored = reader.write_all((0..FISH).map(record), |done| progress.at(done))?;
     let commands = reader.host_mut().take().len();
-    let count = SHAPE.blocks;
-    writeln!(out, "{count} fish stored with {commands} commands")?;
+    writeln!(out, "{stored} fish stored with {commands} commands")?;
 
     let fish = [1234, 17];
     let mut seen = [Vec::new(), Vec::new()];

@@ -1,6 +1,8 @@
 //! The five calls over lent bytes. Slices carry their lengths, so nothing is
 //! asked of the caller: each value of each number is answered.
 
+use crate::shape::Shape;
+
 /// The bytes of a client's state.
 pub const STATE: usize = 64;
 
@@ -8,50 +10,6 @@ pub const STATE: usize = 64;
 pub const READ: u8 = 1;
 /// The kind of a write.
 pub const WRITE: u8 = 2;
-
-/// The shape of a store. N is at most P × 2^(L−1).
-#[derive(Clone, Copy, Debug, PartialEq, Eq)]
-pub struct Shape {
-    /// N, the blocks: 1 to 4,096.
-    pub blocks: usize,
-    /// P, the partitions: 1, 2, 4, .. 64.
-    pub partitions: usize,
-    /// L, the levels of a partition: 1 to 8.
-    pub levels: usize,
-    /// B, the bytes of a block: 1 to 512.
-    pub bytes: usize,
-    /// E, the places in the eviction cache: 1 to N. With fewer than N the
-    /// refusal 8 tells something of which blocks are asked for.
-    pub places: usize,
-    /// W, the commands outstanding at most: 1 to 32.
-    pub window: usize,
-}
-
-impl Shape {
-    /// Whether the shape is within bounds. The bounds stand in the proved open
-    /// alone: it asks for them first, and then for memory, of which none is
-    /// lent here.
-    pub fn is_within_bounds(&self) -> bool {
-        open(&mut [0; STATE], &mut [], *self, &[]).number != 1
-    }
-
-    /// The slots that a host keeps for the store, P × (2^(L+1) − 2), or none
-    /// for a shape out of bounds.
-    pub fn slots(&self) -> Option<usize> {
-        self.is_within_bounds()
-            .then(|| self.partitions * ((2 << self.levels) - 2))
-    }
-
-    /// The bytes of memory that the shape needs (docs/MEMORY.md), or none for
-    /// numbers far out of bounds.
-    pub fn needed(&self) -> Option<usize> {
-        let levels = u32::try_from(self.levels).ok()?.checked_add(1)?;
-        let cells = 2usize.checked_pow(levels)?.checked_mul(self.partitions)?;
-        let tables = self.blocks.checked_add(cells)?.checked_mul(6)?;
-        let contents = self.blocks.checked_add(1)?.checked_mul(self.bytes)?;
-        tables.checked_add(contents)?.checked_add(384)
-    }
-}
 
 /// One command as the calls report it.
 #[derive(Clone, Copy, Debug, Default, PartialEq, Eq)]
@@ -167,12 +125,12 @@ pub fn open(state: &mut [u8], memory: &mut [u8], shape: Shape, tape: &[u8]) -> A
             state.len(),
             memory.as_mut_ptr(),
             memory.len(),
-            shape.blocks,
-            shape.partitions,
-            shape.levels,
-            shape.bytes,
-            shape.places,
-            shape.window,
+            shape.blocks(),
+            shape.partitions(),
+            shape.levels(),
+            shape.bytes(),
+            shape.places(),
+            shape.window(),
             tape.as_ptr(),
             tape.len(),
         )

@@ -1,6 +1,7 @@
 //! What the host is asked to do.
 
-use crate::calls::{self, READ, Shape, WRITE};
+use crate::calls::{self, READ, WRITE};
+use crate::shape::Shape;
 use std::fmt;
 
 /// Read or write.
@@ -33,11 +34,11 @@ impl Command {
     pub fn index(&self, shape: Shape) -> Option<usize> {
         let (partition, level) = (usize::from(self.partition), usize::from(self.level));
         let slot = usize::from(self.slot);
-        if !shape.is_within_bounds() || partition >= shape.partitions || level >= shape.levels {
+        if !shape.is_within_bounds() || partition >= shape.partitions() || level >= shape.levels() {
             return None;
         }
         let first = (2 << level) - 2; // the slots of the levels below
-        (slot < 2 << level).then_some(partition * ((2 << shape.levels) - 2) + first + slot)
+        (slot < 2 << level).then_some(partition * ((2 << shape.levels()) - 2) + first + slot)
     }
 
     /// The command of an accepted turn, whose kind is a read or a write.
@@ -80,16 +81,9 @@ impl fmt::Display for Command {
 #[cfg(test)]
 mod tests {
     use super::{Command, Kind};
-    use crate::calls::Shape;
+    use crate::shape::Shape;
 
-    const SHAPE: Shape = Shape {
-        blocks: 8,
-        partitions: 2,
-        levels: 3,
-        bytes: 1,
-        places: 8,
-        window: 1,
-    };
+    const SHAPE: Shape = Shape::new(8, 2, 3, 1);
 
     #[test]
     fn each_slot_has_an_index_of_its_own() {

@@ -1,8 +1,8 @@
 //! A host in one file.
 
-use crate::calls::Shape;
 use crate::command::{Command, Kind};
 use crate::host::{Host, none_outstanding, wrong};
+use crate::shape::Shape;
 use std::collections::VecDeque;
 use std::fs::{File, OpenOptions};
 use std::io::{self, Read, Seek, SeekFrom, Write};
@@ -63,7 +63,7 @@ impl FileHost {
         let index = command
             .index(self.shape)
             .ok_or_else(|| wrong(format!("the file has no slot for {command}")))?;
-        if length != self.shape.bytes {
+        if length != self.shape.bytes() {
             return Err(wrong(format!("{command} with {length} bytes")));
         }
         let offset = index as u64 * length as u64;
@@ -75,8 +75,8 @@ impl FileHost {
 fn length(shape: Shape) -> io::Result<u64> {
     let slots = shape
         .slots()
-        .ok_or_else(|| wrong(format!("{shape:?} is out of bounds")))?;
-    Ok(slots as u64 * shape.bytes as u64)
+        .ok_or_else(|| wrong(format!("the shape is out of bounds: {shape}")))?;
+    Ok(slots as u64 * shape.bytes() as u64)
 }
 
 impl Host for FileHost {

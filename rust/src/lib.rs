@@ -9,8 +9,8 @@
 //! ```
 //! use rinwolfedd::{Error, MemoryHost, Reader, Recorded, Shape};
 //!
-//! let shape = Shape { blocks: 64, partitions: 4, levels: 5, bytes: 8, places: 64, window: 16 };
-//! let host = MemoryHost::new(shape, 1).map_err(Error::Host)?;
+//! let shape = Shape::hiding(64, 8)?; // 64 blocks of 8 bytes
+//! let host = MemoryHost::new(shape, 1)?;
 //! let mut reader = Reader::open(shape, Recorded::new(host))?;
 //!
 //! reader.write(42, b"genotype")?;
@@ -37,10 +37,10 @@ mod memory_host;
 mod progress;
 mod reader;
 mod refusal;
+mod shape;
 mod store;
 mod tape;
 
-pub use calls::Shape;
 pub use command::{Command, Kind};
 pub use file_host::FileHost;
 pub use host::{Host, Recorded};
@@ -48,5 +48,6 @@ pub use memory_host::MemoryHost;
 pub use progress::Progress;
 pub use reader::{Error, Reader};
 pub use refusal::Refusal;
+pub use shape::Shape;
 pub use store::{Request, Store};
 pub use tape::Tape;

@@ -1,8 +1,9 @@
 //! A host in memory.
 
-use crate::calls::Shape;
 use crate::command::{Command, Kind};
 use crate::host::{Host, none_outstanding, wrong};
+use crate::refusal::Refusal;
+use crate::shape::Shape;
 use std::io;
 
 /// A host in memory that completes the submitted commands in random order. A
@@ -18,22 +19,23 @@ pub struct MemoryHost {
 }
 
 impl MemoryHost {
-    /// A host for stores of this shape, which is to be within bounds. All
-    /// slots are zeros.
-    pub fn new(shape: Shape, seed: u64) -> io::Result<MemoryHost> {
-        let slots = shape
-            .slots()
-            .ok_or_else(|| wrong(format!("{shape:?} is out of bounds")))?;
+    /// A host for stores of this shape. All slots are zeros.
+    ///
+    /// # Errors
+    ///
+    /// [`Refusal::ShapeOutOfBounds`] if the shape is.
+    pub fn new(shape: Shape, seed: u64) -> Result<MemoryHost, Refusal> {
+        let slots = shape.slots().ok_or(Refusal::ShapeOutOfBounds)?;
         Ok(MemoryHost {
             shape,
-            slots: vec![0; slots * shape.bytes],
+            slots: vec![0; slots * shape.bytes()],
             outstanding: Vec::new(),
             seed,
         })
     }
 
     fn slot(&mut self, command: Command) -> io::Result<&mut [u8]> {
-        let length = self.shape.bytes;
+        let length = self.shape.bytes();
         let index = command.index(self.shape);
         index
             .and_then(|index| self.slots.get_mut(index * length..(index + 1) * length))
@@ -53,7 +55,7 @@ impl MemoryHost {
 impl Host for MemoryHost {
     fn submit(&mut self, command: Command, bytes: &[u8]) -> io::Result<()> {
         self.slot(command)?;
-        if command.kind == Kind::Write && bytes.len() != self.shape.bytes {
+        if command.kind == Kind::Write && bytes.len() != self.shape.bytes() {
             let length = bytes.len();
             return Err(wrong(format!("{command} has {length} bytes")));
         }

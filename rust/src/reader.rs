@@ -1,9 +1,9 @@
 //! Whole look-ups: a store, its host and its tape.
 
-use crate::calls::Shape;
 use crate::command::Kind;
 use crate::host::Host;
 use crate::refusal::Refusal;
+use crate::shape::Shape;
 use crate::store::{Request, Store};
 use crate::tape::Supply;
 use std::fmt;
@@ -107,7 +107,7 @@ impl<H: Host, R: Read> Reader<H, R> {
         let mut words = Supply::new(words);
         // A shape with more blocks is out of bounds, for which no word is read.
         let wanted = if shape.is_within_bounds() {
-            shape.blocks
+            shape.blocks()
         } else {
             0
         };
@@ -119,7 +119,7 @@ impl<H: Host, R: Read> Reader<H, R> {
             store,
             host,
             words,
-            arrived: vec![0; shape.bytes],
+            arrived: vec![0; shape.bytes()],
             outstanding: 0,
             unfinished: false,
         })
@@ -148,7 +148,7 @@ impl<H: Host, R: Read> Reader<H, R> {
 
     /// Looks a block up.
     pub fn read(&mut self, block: usize) -> Result<Vec<u8>, Error> {
-        let mut contents = vec![0; self.shape().bytes];
+        let mut contents = vec![0; self.shape().bytes()];
         self.read_into(block, &mut contents)?;
         Ok(contents)
     }
@@ -161,7 +161,7 @@ impl<H: Host, R: Read> Reader<H, R> {
 
     /// Gives a block new contents of B bytes, and hands out those before.
     pub fn write(&mut self, block: usize, contents: &[u8]) -> Result<Vec<u8>, Error> {
-        let mut before = vec![0; self.shape().bytes];
+        let mut before = vec![0; self.shape().bytes()];
         self.look_up(Request::Write { block, contents }, &mut before)?;
         Ok(before)
     }
@@ -189,7 +189,7 @@ impl<H: Host, R: Read> Reader<H, R> {
         if self.unfinished {
             return Err(Error::Unfinished);
         }
-        if before.len() != self.shape().bytes {
+        if before.len() != self.shape().bytes() {
             return Err(Refusal::BufferLength.into());
         }
         let mut tape = self.words.lend(2).map_err(Error::Words)?;

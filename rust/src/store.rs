@@ -1,8 +1,9 @@
 //! A store that owns its state and its memory.
 
-use crate::calls::{self, STATE, Shape};
+use crate::calls::{self, STATE};
 use crate::command::{Command, Kind};
 use crate::refusal::Refusal;
+use crate::shape::Shape;
 use crate::tape::Tape;
 use std::fmt;
 
@@ -34,7 +35,7 @@ pub enum Request<'a> {
 /// ```
 /// use rinwolfedd::{Refusal, Request, Shape, Store, Tape};
 ///
-/// let shape = Shape { blocks: 1, partitions: 1, levels: 1, bytes: 1, places: 1, window: 1 };
+/// let shape = Shape::new(1, 1, 1, 1).with_window(1);
 /// // This tape is fixed, to show the calls; one that hides anything is random.
 /// let mut tape = Tape::new(&[0; 14]);
 /// let mut store = Store::open(shape, &mut tape)?;
@@ -75,7 +76,7 @@ impl Store {
             shape,
             state: [0; STATE],
             memory: vec![0; memory],
-            buffer: vec![0; if within { shape.bytes } else { 0 }],
+            buffer: vec![0; if within { shape.bytes() } else { 0 }],
         };
         let answer = calls::open(&mut store.state, &mut store.memory, shape, tape.rest());
         Refusal::unless_accepted(answer.number)?;

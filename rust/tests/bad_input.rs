@@ -8,31 +8,15 @@ use std::fs::File;
 use std::io::{self, ErrorKind};
 use std::path::PathBuf;
 
-const SHAPE: Shape = Shape {
-    blocks: 8,
-    partitions: 2,
-    levels: 3,
-    bytes: 4,
-    places: 8,
-    window: 4,
-};
+const SHAPE: Shape = Shape::new(8, 2, 3, 4).with_window(4);
 
 /// The bytes of the shape's 2 × 14 slots.
 const LENGTH: u64 = 112;
 
-const OUT_OF_BOUNDS: Shape = Shape {
-    partitions: 3,
-    ..SHAPE
-};
+const OUT_OF_BOUNDS: Shape = Shape::new(8, 3, 3, 4);
 
-const FAR_OUT: Shape = Shape {
-    blocks: usize::MAX,
-    partitions: usize::MAX,
-    levels: usize::MAX,
-    bytes: usize::MAX,
-    places: usize::MAX,
-    window: usize::MAX,
-};
+const FAR: usize = usize::MAX;
+const FAR_OUT: Shape = Shape::from_numbers(FAR, FAR, FAR, FAR, FAR, FAR);
 
 /// A folder of its own, removed in the end.
 struct Folder(PathBuf);
@@ -164,7 +148,8 @@ fn shapes_out_of_bounds() {
     for shape in [OUT_OF_BOUNDS, FAR_OUT] {
         let opened = Store::open(shape, &mut Tape::new(&[0; 64]));
         assert_eq!(opened.err(), Some(Refusal::ShapeOutOfBounds));
-        assert!(MemoryHost::new(shape, 1).is_err());
+        let host = MemoryHost::new(shape, 1);
+        assert_eq!(host.err(), Some(Refusal::ShapeOutOfBounds));
         let host = MemoryHost::new(SHAPE, 1).unwrap();
         let refused = Reader::open(shape, host).err();
         let Some(Error::Refused(Refusal::ShapeOutOfBounds)) = refused else {
@@ -235,14 +220,7 @@ fn hosts_that_misbehave() {
     assert!(matches!(reader.read(0), Err(Error::Unfinished)));
 
     // a host of a smaller shape than the store's
-    let small = Shape {
-        blocks: 1,
-        partitions: 1,
-        levels: 1,
-        bytes: 1,
-        places: 1,
-        window: 1,
-    };
+    let small = Shape::new(1, 1, 1, 1);
     fails(MemoryHost::new(small, 1).unwrap());
     let folder = Folder::new("small");
     fails(FileHost::create(folder.0.join("file"), small).unwrap());

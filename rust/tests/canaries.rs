@@ -6,16 +6,10 @@ mod lent;
 
 use lent::Lent;
 use plain::rng::Rng;
-use rinwolfedd::calls::{self, Answer, STATE, Shape};
+use rinwolfedd::Shape;
+use rinwolfedd::calls::{self, Answer, STATE};
 
-const SHAPE: Shape = Shape {
-    blocks: 3,
-    partitions: 2,
-    levels: 2,
-    bytes: 4,
-    places: 3,
-    window: 2,
-};
+const SHAPE: Shape = Shape::new(3, 2, 2, 4).with_window(2);
 
 /// The state of an open store with numbers put in at random, so that each
 /// question comes to a no now and then; or bytes that say nothing.
@@ -72,11 +66,10 @@ impl Lending {
         };
         match which {
             0 => {
-                let mut shape = SHAPE;
-                if rng.chance(30) {
-                    shape.partitions = number(rng);
-                    shape.places = number(rng);
-                }
+                let shape = match rng.chance(30) {
+                    true => Shape::from_numbers(3, number(rng), 2, 4, number(rng), 2),
+                    false => SHAPE,
+                };
                 calls::open(state, memory, shape, &tape)
             }
             1 => calls::request(state, memory, number(rng), number(rng), &contents, &tape),

@@ -9,14 +9,7 @@ use std::collections::HashSet;
 use std::io;
 
 const fn shape(n: usize, p: usize, l: usize, b: usize, w: usize) -> Shape {
-    Shape {
-        blocks: n,
-        partitions: p,
-        levels: l,
-        bytes: b,
-        places: n,
-        window: w,
-    }
+    Shape::new(n, p, l, b).with_window(w)
 }
 
 const SHAPES: [Shape; 6] = [
@@ -31,11 +24,11 @@ const SHAPES: [Shape; 6] = [
 /// Random reads and writes, held to an array.
 fn look_ups<H: Host>(shape: Shape, host: H, seed: u64, count: usize) -> H {
     let mut reader = Reader::open(shape, host).unwrap();
-    let mut array = vec![vec![0; shape.bytes]; shape.blocks];
+    let mut array = vec![vec![0; shape.bytes()]; shape.blocks()];
     let mut rng = Rng::new(seed);
-    let mut buffer = vec![0; shape.bytes];
+    let mut buffer = vec![0; shape.bytes()];
     for _ in 0..count {
-        let block = rng.below(shape.blocks);
+        let block = rng.below(shape.blocks());
         match rng.below(3) {
             0 => assert_eq!(reader.read(block).unwrap(), array[block]),
             1 => {
@@ -43,7 +36,7 @@ fn look_ups<H: Host>(shape: Shape, host: H, seed: u64, count: usize) -> H {
                 assert_eq!(buffer, array[block]);
             }
             _ => {
-                let contents = rng.bytes(shape.bytes);
+                let contents = rng.bytes(shape.bytes());
                 assert_eq!(reader.write(block, &contents).unwrap(), array[block]);
                 array[block] = contents;
             }
@@ -190,7 +183,7 @@ fn an_array_with_a_host_in_a_file() {
         host.sync().unwrap();
         // another store in the same file begins with zeros
         drop(host);
-        let length = shape.slots().unwrap() * shape.bytes;
+        let length = shape.slots().unwrap() * shape.bytes();
         assert_eq!(std::fs::metadata(&file.0).unwrap().len(), length as u64);
         look_ups(shape, FileHost::open(&file.0, shape).unwrap(), 1, 100);
     }
@@ -228,10 +221,7 @@ fn write_all_says_how_many_are_stored() {
 /// nothing is sent for it, and the reader goes on.
 #[test]
 fn a_small_cache_refuses_and_goes_on() {
-    let shape = Shape {
-        places: 2,
-        ..shape(64, 16, 4, 4, 8)
-    };
+    let shape = shape(64, 16, 4, 4, 8).with_smaller_cache(2);
     let host = Recorded::new(MemoryHost::new(shape, 1).unwrap());
     let tape = Rng::new(2).bytes(400_000);
     let mut reader = Reader::with_words(shape, host, &tape[..]).unwrap();

@@ -1,21 +1,15 @@
 //! Numbers as wide as a host can pass, at the five calls themselves: each value
 //! is answered, and a refusal changes nothing.
 
-use rinwolfedd::calls::{self, READ, STATE, Shape, WRITE};
+use rinwolfedd::Shape;
+use rinwolfedd::calls::{self, READ, STATE, WRITE};
 
 /// N, P, L, B, E and W of the store.
 const NUMBERS: [usize; 6] = [8, 2, 3, 4, 8, 4];
 
 fn shape(numbers: [usize; 6]) -> Shape {
-    let [blocks, partitions, levels, bytes, places, window] = numbers;
-    Shape {
-        blocks,
-        partitions,
-        levels,
-        bytes,
-        places,
-        window,
-    }
+    let [n, p, l, b, e, w] = numbers;
+    Shape::from_numbers(n, p, l, b, e, w)
 }
 
 /// Numbers that agree with a small one in their low 8, 16 or 32 bits.

@@ -37,7 +37,7 @@ fn time(shape: Shape, host: impl Host) -> Result<f64, Error> {
 
 pub fn look(shape: Shape) -> Result<Look, Error> {
     let linked = convert::shape(shape);
-    let memory = time(shape, MemoryHost::new(linked, 1).map_err(Error::Host)?)?;
+    let memory = time(shape, MemoryHost::new(linked, 1)?)?;
     let name = format!("rinwolfedd-bench-{}", std::process::id());
     let path = std::env::temp_dir().join(name);
     let host = FileHost::create(&path, linked).map_err(Error::Host)?;

@@ -3,14 +3,15 @@
 use plain::shape::Shape;
 
 pub fn shape(h: Shape) -> rinwolfedd::Shape {
-    rinwolfedd::Shape {
-        blocks: h.blocks,
-        partitions: h.partitions,
-        levels: h.levels,
-        bytes: h.bytes,
-        places: h.places,
-        window: h.window,
-    }
+    let Shape {
+        blocks,
+        partitions,
+        levels,
+        bytes,
+        places,
+        window,
+    } = h;
+    rinwolfedd::Shape::from_numbers(blocks, partitions, levels, bytes, places, window)
 }
 
 /// A tape as it lies in memory, which on a little-endian machine is low byte
