@@ -1,55 +1,103 @@
 //! The five calls over lent bytes. Slices carry their lengths, so nothing is
 //! asked of the caller: each value of each number is answered.
+//!
+//! ```
+//! use rinwolfedd::Shape;
+//! use rinwolfedd::calls::{self, STATE, WRITE};
+//!
+//! let shape = Shape::from_numbers(1, 1, 1, 1, 1, 1); // N P L B E W
+//! let mut state = [0; STATE];
+//! let mut memory = vec![0; shape.needed().unwrap_or(0)];
+//! let mut tape = &[0; 6][..]; // three words; a tape that hides is random
+//!
+//! let answer = calls::open(&mut state, &mut memory, shape, tape);
+//! assert_eq!((answer.number(), answer.taken()), (0, 1));
+//! tape = &tape[2 * usize::from(answer.taken())..];
+//!
+//! let answer = calls::request(&mut state, &mut memory, WRITE.into(), 0, &[7], tape);
+//! assert_eq!((answer.number(), answer.taken()), (0, 2));
+//! let answer = calls::request(&mut state, &mut memory, WRITE.into(), 0, &[7], tape);
+//! assert_eq!(answer.number(), 4); // a request is in hand
+//! ```
 
+use crate::command::{Command, Kind};
+use crate::refusal::Refusal;
 use crate::shape::Shape;
+use std::fmt;
 
 /// The bytes of a client's state.
 pub const STATE: usize = 64;
 
 /// The kind of a read.
-pub const READ: u8 = 1;
+pub const READ: u8 = Kind::Read.number();
 /// The kind of a write.
-pub const WRITE: u8 = 2;
+pub const WRITE: u8 = Kind::Write.number();
 
-/// One command as the calls report it.
-#[derive(Clone, Copy, Debug, Default, PartialEq, Eq)]
-pub struct Command {
-    /// [`READ`], [`WRITE`], or 0 for none.
-    pub kind: u8,
-    /// The partition.
-    pub partition: u8,
-    /// The level of the partition.
-    pub level: u8,
-    /// The slot of the level.
-    pub slot: u16,
-}
-
-/// What a call reports.
-#[derive(Clone, Copy, Debug, Default, PartialEq, Eq)]
-pub struct Answer {
-    /// The number answered: 0, or that of a [`Refusal`](crate::Refusal).
-    pub number: u8,
-    /// The words taken from the tape.
-    pub taken: u16,
-    /// The command that a turn sent, else zeros.
-    pub command: Command,
-}
+/// What a call reports, in the 64 bits that the library answers.
+#[derive(Clone, Copy, PartialEq, Eq)]
+#[must_use = "the call may have been refused"]
+pub struct Answer(u64);
 
 impl Answer {
-    /// The number in the lowest byte, then kind, partition and level, a byte
-    /// each, then the slot and the words taken, two bytes each.
+    /// The number answered: 0, or that of a [`Refusal`].
     #[inline]
-    fn unpacked(u: u64) -> Answer {
-        Answer {
-            number: u as u8,
-            taken: (u >> 48) as u16,
-            command: Command {
-                kind: (u >> 8) as u8,
-                partition: (u >> 16) as u8,
-                level: (u >> 24) as u8,
-                slot: (u >> 32) as u16,
-            },
+    #[must_use]
+    pub const fn number(self) -> u8 {
+        self.0 as u8
+    }
+
+    /// The words taken from the tape.
+    #[inline]
+    #[must_use]
+    pub const fn taken(self) -> u16 {
+        (self.0 >> 48) as u16
+    }
+
+    /// The command that a turn sent.
+    #[inline]
+    #[must_use]
+    pub fn command(self) -> Option<Command> {
+        let kind = Kind::try_from((self.0 >> 8) as u8).ok()?;
+        Some(Command {
+            kind,
+            partition: (self.0 >> 16) as u8,
+            level: (self.0 >> 24) as u8,
+            slot: (self.0 >> 32) as u16,
+        })
+    }
+
+    /// All of it: the number in the lowest byte, then kind, partition and
+    /// level, a byte each, then the slot and the words taken, two bytes each.
+    /// What does not apply is 0.
+    #[inline]
+    #[must_use]
+    pub const fn bits(self) -> u64 {
+        self.0
+    }
+
+    /// The number by its name.
+    ///
+    /// # Errors
+    ///
+    /// The [`Refusal`] with the number, unless it is 0. Every number is at most
+    /// 15 (theorem `number-le`), so nothing else comes to
+    /// [`Refusal::NotReady`].
+    #[inline]
+    pub fn accepted(self) -> Result<(), Refusal> {
+        match self.number() {
+            0 => Ok(()),
+            number => Err(Refusal::try_from(number).unwrap_or(Refusal::NotReady)),
         }
+    }
+}
+
+impl fmt::Debug for Answer {
+    fn fmt(&self, f: &mut fmt::Formatter<'_>) -> fmt::Result {
+        f.debug_struct("Answer")
+            .field("number", &self.number())
+            .field("taken", &self.taken())
+            .field("command", &self.command())
+            .finish()
     }
 }
 
@@ -114,12 +162,12 @@ mod raw {
     }
 }
 
-/// Opens a store. The tape is pairs of bytes, low byte first.
+/// Opens a store. The tape is pairs of bytes, low byte first; N words are taken.
 #[inline]
 pub fn open(state: &mut [u8], memory: &mut [u8], shape: Shape, tape: &[u8]) -> Answer {
     // Safety: each pointer comes from a slice with its length, and the proved
     // call touches nothing outside of them.
-    Answer::unpacked(unsafe {
+    Answer(unsafe {
         raw::rinwolfedd_open(
             state.as_mut_ptr(),
             state.len(),
@@ -137,7 +185,8 @@ pub fn open(state: &mut [u8], memory: &mut [u8], shape: Shape, tape: &[u8]) -> A
     })
 }
 
-/// Asks for a block: kind 1 reads, kind 2 writes the contents.
+/// Asks for a block: kind 1 reads, kind 2 writes the contents. Two words are
+/// taken.
 #[inline]
 pub fn request(
     state: &mut [u8],
@@ -148,7 +197,7 @@ pub fn request(
     tape: &[u8],
 ) -> Answer {
     // Safety: as in `open`.
-    Answer::unpacked(unsafe {
+    Answer(unsafe {
         raw::rinwolfedd_request(
             state.as_mut_ptr(),
             state.len(),
@@ -168,7 +217,7 @@ pub fn request(
 #[inline]
 pub fn turn(state: &mut [u8], memory: &mut [u8], tape: &[u8], buffer: &mut [u8]) -> Answer {
     // Safety: as in `open`.
-    Answer::unpacked(unsafe {
+    Answer(unsafe {
         raw::rinwolfedd_turn(
             state.as_mut_ptr(),
             state.len(),
@@ -192,7 +241,7 @@ pub fn completion(
     bytes: &[u8],
 ) -> Answer {
     // Safety: as in `open`.
-    Answer::unpacked(unsafe {
+    Answer(unsafe {
         raw::rinwolfedd_completion(
             state.as_mut_ptr(),
             state.len(),
@@ -212,7 +261,7 @@ pub fn completion(
 #[inline]
 pub fn collect(state: &mut [u8], memory: &mut [u8], buffer: &mut [u8]) -> Answer {
     // Safety: as in `open`.
-    Answer::unpacked(unsafe {
+    Answer(unsafe {
         raw::rinwolfedd_collect(
             state.as_mut_ptr(),
             state.len(),
@@ -222,4 +271,36 @@ pub fn collect(state: &mut [u8], memory: &mut [u8], buffer: &mut [u8]) -> Answer
             buffer.len(),
         )
     })
+}
+
+#[cfg(test)]
+mod tests {
+    use super::Answer;
+    use crate::command::{Command, Kind};
+    use crate::refusal::Refusal;
+
+    #[test]
+    fn an_answer_is_taken_apart() {
+        let answer = Answer(0x00FF_0102_0304_0200);
+        let command = Command {
+            kind: Kind::Write,
+            partition: 4,
+            level: 3,
+            slot: 0x0102,
+        };
+        assert_eq!((answer.number(), answer.taken()), (0, 255));
+        assert_eq!(
+            (answer.command(), answer.accepted()),
+            (Some(command), Ok(()))
+        );
+        let text = format!("{answer:?}");
+        assert!(text.starts_with("Answer { number: 0, taken: 255, command: Some(Command {"));
+    }
+
+    #[test]
+    fn a_refused_answer_names_its_number() {
+        assert_eq!(Answer(8).accepted(), Err(Refusal::CacheFull));
+        assert_eq!(Answer(15).accepted(), Err(Refusal::BufferLength));
+        assert_eq!((Answer(8).taken(), Answer(8).command()), (0, None));
+    }
 }

@@ -1,16 +1,39 @@
 //! What the host is asked to do.
 
-use crate::calls::{self, READ, WRITE};
 use crate::shape::Shape;
 use std::fmt;
 
 /// Read or write.
 #[derive(Clone, Copy, Debug, PartialEq, Eq, Hash, PartialOrd, Ord)]
+#[repr(u8)]
 pub enum Kind {
     /// The host brings the bytes of the slot.
-    Read,
+    Read = 1,
     /// The host keeps the bytes in the slot.
-    Write,
+    Write = 2,
+}
+
+impl Kind {
+    /// The number by which the calls tell it: 1 or 2.
+    #[inline]
+    #[must_use]
+    pub const fn number(self) -> u8 {
+        self as u8
+    }
+}
+
+impl TryFrom<u8> for Kind {
+    type Error = u8;
+
+    /// The kind with this number; others than 1 and 2 are handed back.
+    #[inline]
+    fn try_from(number: u8) -> Result<Kind, u8> {
+        match number {
+            1 => Ok(Kind::Read),
+            2 => Ok(Kind::Write),
+            _ => Err(number),
+        }
+    }
 }
 
 /// One command for the host: to read or write one slot of a level of a
@@ -31,6 +54,7 @@ impl Command {
     /// Where its slot stands among all slots of a store of this shape:
     /// partitions, levels and slots ascending. None if the shape has no such
     /// slot.
+    #[must_use]
     pub fn index(&self, shape: Shape) -> Option<usize> {
         let (partition, level) = (usize::from(self.partition), usize::from(self.level));
         let slot = usize::from(self.slot);
@@ -39,28 +63,6 @@ impl Command {
         }
         let first = (2 << level) - 2; // the slots of the levels below
         (slot < 2 << level).then_some(partition * ((2 << shape.levels()) - 2) + first + slot)
-    }
-
-    /// The command of an accepted turn, whose kind is a read or a write.
-    pub(crate) fn sent(raw: calls::Command) -> Command {
-        Command {
-            kind: if raw.kind == WRITE {
-                Kind::Write
-            } else {
-                Kind::Read
-            },
-            partition: raw.partition,
-            level: raw.level,
-            slot: raw.slot,
-        }
-    }
-
-    /// The kind's number.
-    pub(crate) fn number(self) -> u8 {
-        match self.kind {
-            Kind::Read => READ,
-            Kind::Write => WRITE,
-        }
     }
 }
 
@@ -84,6 +86,17 @@ mod tests {
     use crate::shape::Shape;
 
     const SHAPE: Shape = Shape::new(8, 2, 3, 1);
+
+    #[test]
+    fn numbers_and_kinds_are_one_to_one() {
+        for number in 0..=255 {
+            match Kind::try_from(number) {
+                Ok(kind) => assert_eq!(kind.number(), number),
+                Err(other) => assert!(other == number && ![1, 2].contains(&number)),
+            }
+        }
+        assert_eq!(Kind::try_from(1), Ok(Kind::Read));
+    }
 
     #[test]
     fn each_slot_has_an_index_of_its_own() {

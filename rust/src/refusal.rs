@@ -64,15 +64,6 @@ impl Refusal {
         self as u8
     }
 
-    /// What the number that a call answered says. Every number is at most 15
-    /// (theorem `number-le`), so nothing else comes to `NotReady`.
-    pub(crate) fn unless_accepted(number: u8) -> Result<(), Refusal> {
-        match number {
-            0 => Ok(()),
-            _ => Err(Refusal::try_from(number).unwrap_or(Refusal::NotReady)),
-        }
-    }
-
     fn text(self) -> &'static str {
         match self {
             Refusal::ShapeOutOfBounds => "the shape is out of bounds",
@@ -125,8 +116,7 @@ mod tests {
             }
         }
         assert_eq!(Refusal::try_from(8), Ok(Refusal::CacheFull));
-        assert_eq!(Refusal::unless_accepted(0), Ok(()));
-        assert_eq!(Refusal::unless_accepted(15), Err(Refusal::BufferLength));
+        assert_eq!(Refusal::try_from(15), Ok(Refusal::BufferLength));
     }
 
     #[test]

@@ -158,7 +158,7 @@ impl Shape {
     /// lent here.
     #[must_use]
     pub fn is_within_bounds(&self) -> bool {
-        calls::open(&mut [0; STATE], &mut [], *self, &[]).number != 1
+        calls::open(&mut [0; STATE], &mut [], *self, &[]).number() != 1
     }
 
     /// The slots that a host keeps for the store, P × (2^(L+1) − 2), or none

@@ -79,8 +79,8 @@ impl Store {
             buffer: vec![0; if within { shape.bytes() } else { 0 }],
         };
         let answer = calls::open(&mut store.state, &mut store.memory, shape, tape.rest());
-        Refusal::unless_accepted(answer.number)?;
-        tape.take(answer.taken);
+        answer.accepted()?;
+        tape.take(answer.taken());
         Ok(store)
     }
 
@@ -97,8 +97,8 @@ impl Store {
         };
         let (state, memory) = (&mut self.state, &mut self.memory);
         let answer = calls::request(state, memory, kind.into(), block, contents, tape.rest());
-        Refusal::unless_accepted(answer.number)?;
-        tape.take(answer.taken);
+        answer.accepted()?;
+        tape.take(answer.taken());
         Ok(())
     }
 
@@ -107,9 +107,10 @@ impl Store {
     pub fn turn(&mut self, tape: &mut Tape<'_>) -> Result<(Command, &[u8]), Refusal> {
         let (state, memory) = (&mut self.state, &mut self.memory);
         let answer = calls::turn(state, memory, tape.rest(), &mut self.buffer);
-        Refusal::unless_accepted(answer.number)?;
-        tape.take(answer.taken);
-        let command = Command::sent(answer.command);
+        answer.accepted()?;
+        tape.take(answer.taken());
+        // an accepted turn has sent one
+        let command = answer.command().ok_or(Refusal::NotReady)?;
         let bytes = match command.kind {
             Kind::Read => &[],
             Kind::Write => &self.buffer[..],
@@ -125,16 +126,16 @@ impl Store {
             command.level.into(),
             command.slot.into(),
         ];
-        let kind = command.number().into();
+        let kind = command.kind.number().into();
         let (state, memory) = (&mut self.state, &mut self.memory);
-        Refusal::unless_accepted(calls::completion(state, memory, kind, slot, bytes).number)
+        calls::completion(state, memory, kind, slot, bytes).accepted()
     }
 
     /// Hands out the block's contents before the request, once all its reads
     /// have completed, and queues its two jobs.
     pub fn collect(&mut self) -> Result<&[u8], Refusal> {
         let answer = calls::collect(&mut self.state, &mut self.memory, &mut self.buffer);
-        Refusal::unless_accepted(answer.number)?;
+        answer.accepted()?;
         Ok(&self.buffer)
     }
 }

@@ -120,17 +120,17 @@ fn check(rng: &mut Rng, state_len: usize, memory: usize, seen: &mut [[usize; 16]
         let sound = lending.state.is_sound() && lending.memory.is_sound();
         assert!(sound && lending.buffer.is_sound());
         assert!(
-            NUMBERS[which].contains(&answer.number),
+            NUMBERS[which].contains(&answer.number()),
             "{which}: {answer:?}"
         );
-        if answer.number != 0 {
+        if answer.number() != 0 {
             let mut after = lending.bytes();
             if which == OPEN {
                 assert_eq!(after[0], vec![0; state_len]);
                 after[0].clone_from(&before[0]);
             }
             assert_eq!(after, before, "call {which} answers {answer:?}");
-            assert_eq!((answer.taken, answer.command), Default::default());
+            assert_eq!(answer.bits(), answer.number().into(), "and nothing else");
         } else {
             let after = lending.bytes();
             assert_eq!(between(&after[0]), between(&before[0]));
@@ -143,7 +143,7 @@ fn check(rng: &mut Rng, state_len: usize, memory: usize, seen: &mut [[usize; 16]
                 assert_eq!(request_numbers(&after[0]), left, "call {which}");
             }
         }
-        seen[which][usize::from(answer.number)] += 1;
+        seen[which][usize::from(answer.number())] += 1;
     }
 }
 

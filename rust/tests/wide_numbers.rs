@@ -22,7 +22,7 @@ fn opened() -> ([u8; STATE], Vec<u8>) {
     let mut state = [0; STATE];
     let mut memory = vec![0; shape.needed().expect("a shape within bounds")];
     let answer = calls::open(&mut state, &mut memory, shape, &[0; 16]);
-    assert_eq!(answer.number, 0);
+    assert_eq!(answer.number(), 0);
     (state, memory)
 }
 
@@ -31,7 +31,7 @@ fn requests() {
     let (mut state, mut memory) = opened();
     let before = (state, memory.clone());
     let mut number =
-        |kind, block| calls::request(&mut state, &mut memory, kind, block, &[], &[0; 4]).number;
+        |kind, block| calls::request(&mut state, &mut memory, kind, block, &[], &[0; 4]).number();
     for block in wide(3) {
         assert_eq!(number(READ.into(), block), 5, "block {block}");
     }
@@ -52,10 +52,10 @@ fn completions() {
     let asked = calls::request(&mut state, &mut memory, READ.into(), 3, &[], &[0; 4]);
     let collected = calls::collect(&mut state, &mut memory, &mut [0; 4]);
     let sent = calls::turn(&mut state, &mut memory, &[0; 2], &mut [0; 4]);
-    assert_eq!([asked.number, collected.number, sent.number], [0; 3]);
+    assert_eq!([asked.number(), collected.number(), sent.number()], [0; 3]);
     let before = (state, memory.clone());
     let mut number =
-        |kind, slot| calls::completion(&mut state, &mut memory, kind, slot, &[]).number;
+        |kind, slot| calls::completion(&mut state, &mut memory, kind, slot, &[]).number();
     for place in 0..3 {
         for value in wide(0) {
             let mut slot = [0; 3];
@@ -77,7 +77,7 @@ fn opens() {
             numbers[place] = value;
             let mut state = [1; STATE];
             let answer = calls::open(&mut state, &mut [0; 4096], shape(numbers), &[0; 16]);
-            assert_eq!((answer.number, state), (1, [0; STATE]), "{numbers:?}");
+            assert_eq!((answer.number(), state), (1, [0; STATE]), "{numbers:?}");
         }
     }
 }

@@ -65,14 +65,14 @@ impl Linked {
         let (answer, buffer) = self.call(call);
         let opens = matches!(call.ask, Ask::Open(_));
         let kept = if opens { vec![0; STATE] } else { state };
-        let same = [
-            ("answer", reported(&answer, outcome) == *outcome),
+        let all = [
+            ("answer", same(answer, outcome)),
             ("buffer", buffer == filled(call, outcome)),
             ("unlent memory", self.memory.bytes()[call.memory..] == past),
             ("memory", !refused || self.memory.bytes() == memory),
             ("state", !refused || self.state.bytes() == kept),
         ];
-        match same.iter().find(|(_, same)| !same) {
+        match all.iter().find(|(_, same)| !same) {
             None => Ok(()),
             Some((what, _)) => Err(format!(
                 "the {what} departs: {answer:?} for {outcome:?}, after {call:?}"
@@ -81,20 +81,24 @@ impl Linked {
     }
 }
 
-/// The answer as an outcome. The bytes are the buffer's to compare.
-fn reported(answer: &Answer, outcome: &Outcome) -> Outcome {
-    let sent = answer.command;
-    Outcome {
-        number: answer.number,
-        taken: answer.taken.into(),
-        command: Command {
-            kind: sent.kind.into(),
-            partition: sent.partition.into(),
-            level: sent.level.into(),
-            slot: sent.slot.into(),
-        },
-        bytes: outcome.bytes.clone(),
-    }
+/// The answer is the outcome's in all its bits, and says so: number, words taken
+/// and command. The bytes are the buffer's to compare.
+fn same(answer: Answer, outcome: &Outcome) -> bool {
+    let wanted = outcome.command;
+    let bits = usize::from(outcome.number)
+        | wanted.kind << 8
+        | wanted.partition << 16
+        | wanted.level << 24
+        | wanted.slot << 32
+        | outcome.taken << 48;
+    let sent = answer.command().map_or(Command::default(), |sent| Command {
+        kind: sent.kind.number().into(),
+        partition: sent.partition.into(),
+        level: sent.level.into(),
+        slot: sent.slot.into(),
+    });
+    let said = (answer.number(), usize::from(answer.taken()), sent);
+    answer.bits() == bits as u64 && said == (outcome.number, outcome.taken, wanted)
 }
 
 /// The buffer after a call by the model: what it hands out, or as it was.
