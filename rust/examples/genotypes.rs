@@ -128,8 +128,8 @@ pub fn run(path: &Path, out: &mut impl Write) -> Result<(), Box<dyn Error>> {
     let shape = Shape::hiding(FISH, BYTES)?;
     let host = FileHost::create(path, shape).map_err(|e| format!("{}: {e}", path.display()))?;
     let mut reader = Reader::open(shape, Recorded::new(host))?;
-    let mut progress = Progress::to_stderr("storing fish", FISH);
-    let stored = reader.write_all((0..FISH).map(record), |done| progress.at(done))?;
+    let progress = Progress::to_stderr("storing fish", FISH);
+    let stored = reader.write_all_with((0..FISH).map(record), progress.into_callback())?;
     let commands = reader.host_mut().take().len();
     writeln!(out, "{stored} fish stored with {commands} commands")?;
 

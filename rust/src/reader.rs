@@ -166,11 +166,36 @@ impl<H: Host, R: Read> Reader<H, R> {
         Ok(before)
     }
 
-    /// Writes block 0, 1, 2, .. as long as there are contents, and says after
-    /// each how many are stored. Hands back their number.
+    /// Writes block 0, 1, 2, .. as long as there are contents, and hands back
+    /// how many are stored.
     ///
-    /// [`Progress`](crate::Progress) makes a line of it.
+    /// # Errors
+    ///
+    /// Those of [`write`](Reader::write) at the first block that has one; the
+    /// blocks before it are stored.
     pub fn write_all<C: AsRef<[u8]>>(
+        &mut self,
+        contents: impl IntoIterator<Item = C>,
+    ) -> Result<usize, Error> {
+        self.write_all_with(contents, |_| ())
+    }
+
+    /// As [`write_all`](Reader::write_all), and says after each block how many
+    /// are stored. [`Progress`](crate::Progress) makes a line of it:
+    ///
+    /// ```
+    /// # use rinwolfedd::{Error, MemoryHost, Progress, Reader, Shape};
+    /// # let shape = Shape::hiding(64, 8)?;
+    /// # let mut reader = Reader::open(shape, MemoryHost::new(shape, 1)?)?;
+    /// let progress = Progress::to_stderr("storing blocks", 64);
+    /// reader.write_all_with([[7; 8]; 64], progress.into_callback())?;
+    /// # Ok::<(), Error>(())
+    /// ```
+    ///
+    /// # Errors
+    ///
+    /// Those of [`write_all`](Reader::write_all).
+    pub fn write_all_with<C: AsRef<[u8]>>(
         &mut self,
         contents: impl IntoIterator<Item = C>,
         mut stored: impl FnMut(usize),

@@ -137,7 +137,7 @@ fn lengths_and_blocks_that_are_none_of_the_stores() {
     }
     let small = reader.read_into(3, &mut [0; 3]).map(|()| Vec::new());
     assert_eq!(refused(small), Refusal::BufferLength);
-    let all = reader.write_all([[1; 4]; 9], |_| ()).map(|_| Vec::new());
+    let all = reader.write_all([[1; 4]; 9]).map(|_| Vec::new());
     assert_eq!(refused(all), Refusal::NoSuchBlock);
     // none of it ended the reader, and the blocks are as they were
     assert_eq!(reader.read(3).unwrap(), [1; 4]);

@@ -4,7 +4,7 @@
 
 use plain::rng::Rng;
 use rinwolfedd::{Command, Error, FileHost, Host, Kind, MemoryHost};
-use rinwolfedd::{Reader, Recorded, Refusal, Shape};
+use rinwolfedd::{Progress, Reader, Recorded, Refusal, Shape};
 use std::collections::HashSet;
 use std::io;
 
@@ -211,10 +211,20 @@ fn write_all_says_how_many_are_stored() {
     let mut reader = Reader::open(shape, MemoryHost::new(shape, 1).unwrap()).unwrap();
     let mut said = Vec::new();
     let contents = (0..50u8).map(|tag| [tag, 1]);
-    assert_eq!(reader.write_all(contents, |n| said.push(n)).unwrap(), 50);
+    let stored = reader.write_all_with(contents, |stored| said.push(stored));
+    assert_eq!(stored.unwrap(), 50);
     assert_eq!(said, (1..=50).collect::<Vec<usize>>());
     assert_eq!(reader.read(49).unwrap(), [49, 1]);
     assert_eq!(reader.read(50).unwrap(), [0, 0]);
+
+    // without a callback, and with a line of progress
+    assert_eq!(reader.write_all([[2; 2]; 5]).unwrap(), 5);
+    assert_eq!(reader.read(4).unwrap(), [2, 2]);
+    assert_eq!(reader.read(5).unwrap(), [5, 1]);
+    let mut lines = Vec::new();
+    let progress = Progress::new(&mut lines, "storing", 2).into_callback();
+    assert_eq!(reader.write_all_with([[3; 2]; 2], progress).unwrap(), 2);
+    assert_eq!(lines, b"storing: 1 of 2\nstoring: 2 of 2\n");
 }
 
 /// With E below N a request may be refused for want of a place in the cache;

@@ -22,7 +22,7 @@ fn time(shape: Shape, host: impl Host) -> Result<f64, Error> {
     const LOOK_UPS: usize = 256;
     let mut reader = Reader::open(convert::shape(shape), host)?;
     let contents = vec![1; shape.bytes];
-    reader.write_all((0..shape.blocks).map(|_| &contents), |_| ())?;
+    reader.write_all((0..shape.blocks).map(|_| &contents))?;
     let mut rng = Rng::new(1);
     let mut best = f64::INFINITY;
     for _ in 0..PARTS {
