@@ -12,15 +12,36 @@ use std::io;
 pub trait Host {
     /// Takes a command. A write comes with the bytes of one block, a read with
     /// none.
+    ///
+    /// # Errors
+    ///
+    /// Whatever keeps the host from taking it. A reader makes no more look-ups
+    /// then.
     fn submit(&mut self, command: Command, bytes: &[u8]) -> io::Result<()>;
 
     /// Waits until one of the submitted commands has completed, and says
     /// which. The bytes that a read brings fill the buffer, which is as long
     /// as a block; after a write its bytes mean nothing.
+    ///
+    /// # Errors
+    ///
+    /// Whatever keeps a submitted command from completing, and that none is
+    /// outstanding. A reader makes no more look-ups then.
     fn next_completed(&mut self, buffer: &mut [u8]) -> io::Result<Command>;
 }
 
 impl<H: Host + ?Sized> Host for &mut H {
+    fn submit(&mut self, command: Command, bytes: &[u8]) -> io::Result<()> {
+        (**self).submit(command, bytes)
+    }
+
+    fn next_completed(&mut self, buffer: &mut [u8]) -> io::Result<Command> {
+        (**self).next_completed(buffer)
+    }
+}
+
+/// A `Box<dyn Host>` is for a host that is chosen when the program runs.
+impl<H: Host + ?Sized> Host for Box<H> {
     fn submit(&mut self, command: Command, bytes: &[u8]) -> io::Result<()> {
         (**self).submit(command, bytes)
     }
@@ -40,6 +61,7 @@ pub struct Recorded<H> {
 
 impl<H> Recorded<H> {
     /// Notes what this host sees.
+    #[must_use]
     pub fn new(host: H) -> Recorded<H> {
         Recorded {
             host,
@@ -48,6 +70,7 @@ impl<H> Recorded<H> {
     }
 
     /// The commands seen since the last [`take`](Recorded::take).
+    #[must_use]
     pub fn commands(&self) -> &[Command] {
         &self.commands
     }
@@ -57,8 +80,15 @@ impl<H> Recorded<H> {
         std::mem::take(&mut self.commands)
     }
 
-    /// The host.
-    pub fn into_inner(self) -> H {
+    /// The host below.
+    #[must_use]
+    pub fn host(&self) -> &H {
+        &self.host
+    }
+
+    /// Gives the host below back.
+    #[must_use]
+    pub fn into_host(self) -> H {
         self.host
     }
 }

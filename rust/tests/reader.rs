@@ -227,6 +227,25 @@ fn write_all_says_how_many_are_stored() {
     assert_eq!(lines, b"storing: 1 of 2\nstoring: 2 of 2\n");
 }
 
+/// A host that is chosen when the program runs, owned or lent.
+#[test]
+fn an_array_with_a_host_behind_a_pointer() {
+    let shape = SHAPES[2];
+    let file = Temporary::new("pointer");
+    let hosts: [Box<dyn Host>; 2] = [
+        Box::new(MemoryHost::new(shape, 4).unwrap()),
+        Box::new(FileHost::create(&file.0, shape).unwrap()),
+    ];
+    for host in hosts {
+        let mut host = look_ups(shape, host, 4, 200);
+        let lent: &mut dyn Host = &mut host;
+        look_ups(shape, lent, 5, 200);
+    }
+    let mut host = Watched::new(MemoryHost::new(shape, 4).unwrap());
+    look_ups(shape, &mut host, 6, 200);
+    assert_eq!(host.most, shape.window());
+}
+
 /// With E below N a request may be refused for want of a place in the cache;
 /// nothing is sent for it, and the reader goes on.
 #[test]
