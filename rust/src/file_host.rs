@@ -22,8 +22,12 @@ pub struct FileHost {
 }
 
 impl FileHost {
-    /// Creates the file, as long as the shape's slots are. A file that exists
-    /// is not overwritten: that is an error.
+    /// Creates the file, as long as the shape's slots are.
+    ///
+    /// # Errors
+    ///
+    /// `AlreadyExists` for a file that exists, which is never overwritten;
+    /// `InvalidInput` for a shape out of bounds; and those of the file system.
     pub fn create(path: impl AsRef<Path>, shape: Shape) -> io::Result<FileHost> {
         let length = length(shape)?;
         let mut options = OpenOptions::new();
@@ -34,12 +38,22 @@ impl FileHost {
 
     /// Opens a file that exists. The store is new, so what the file holds is
     /// written over, but it has to be long enough.
+    ///
+    /// # Errors
+    ///
+    /// `UnexpectedEof` for a file that is too short, `InvalidInput` for a shape
+    /// out of bounds, and those of the file system.
     pub fn open(path: impl AsRef<Path>, shape: Shape) -> io::Result<FileHost> {
         let file = OpenOptions::new().read(true).write(true).open(path)?;
         FileHost::from_file(file, shape)
     }
 
     /// Takes a file that is open for reading and writing and long enough.
+    ///
+    /// # Errors
+    ///
+    /// `UnexpectedEof` for a file that is too short, `InvalidInput` for a shape
+    /// out of bounds, and those of the file system.
     pub fn from_file(file: File, shape: Shape) -> io::Result<FileHost> {
         let (has, wants) = (file.metadata()?.len(), length(shape)?);
         if has < wants {
@@ -54,6 +68,10 @@ impl FileHost {
     }
 
     /// Waits until the file system has all that was written.
+    ///
+    /// # Errors
+    ///
+    /// Those of the file system.
     pub fn sync(&self) -> io::Result<()> {
         self.file.sync_all()
     }

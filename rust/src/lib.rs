@@ -23,11 +23,22 @@
 //! # Ok::<(), Error>(())
 //! ```
 //!
-//! Below it are the five calls: [`Store`] owns what they need, [`calls`] has
-//! them as the proved library exports them, over lent bytes and with the
+//! Slots are kept in a file ([`FileHost`]), in memory ([`MemoryHost`]), or by
+//! whatever implements [`Host`]; [`Recorded`] notes what a host sees.
+//!
+//! Below the reader are the five calls: [`Store`] owns what they need, [`calls`]
+//! has them as the proved library exports them, over lent bytes and with the
 //! document's numbers, which [`Refusal`] names.
+//!
+//! # Linking
+//!
+//! The calls are in the library `librinwolfedd.a`, which `scripts/library`
+//! writes to the repository's `target/staticlib`. It is linked from there, or
+//! from the folder that the environment variable `RINWOLFEDD_LIB_DIR` names
+//! when this crate is built.
 
 #![deny(missing_docs)]
+#![warn(clippy::missing_errors_doc, clippy::must_use_candidate)]
 
 pub mod calls;
 mod command;

@@ -18,6 +18,7 @@ const TURN_WORDS: usize = 255;
 
 /// Why a look-up came to nothing.
 #[derive(Debug)]
+#[non_exhaustive]
 pub enum Error {
     /// A call was refused. A block or a length that is none of the store's is
     /// refused before anything is sent; the reader goes on.
@@ -93,6 +94,11 @@ impl<H: fmt::Debug, R> fmt::Debug for Reader<H, R> {
 impl<H: Host> Reader<H> {
     /// Opens a store at the host, with the operating system's randomness. All
     /// blocks are zeros, whatever the host's slots hold.
+    ///
+    /// # Errors
+    ///
+    /// [`Error::Refused`] for a shape out of bounds, [`Error::Words`] if the
+    /// system has no random words.
     pub fn open(shape: Shape, host: H) -> Result<Reader<H>, Error> {
         let random = File::open(RANDOM).map_err(Error::Words)?;
         Reader::with_words(shape, host, random)
@@ -103,6 +109,11 @@ impl<H: Host, R: Read> Reader<H, R> {
     /// Opens a store whose words are the bytes of this source, low byte first.
     /// For a store that is to hide anything, nobody else may know them, and no
     /// other store may have them.
+    ///
+    /// # Errors
+    ///
+    /// [`Error::Refused`] for a shape out of bounds or a source with fewer than
+    /// N words, [`Error::Words`] if it fails.
     pub fn with_words(shape: Shape, host: H, words: R) -> Result<Reader<H, R>, Error> {
         let mut words = Supply::new(words);
         // A shape with more blocks is out of bounds, for which no word is read.
@@ -126,27 +137,45 @@ impl<H: Host, R: Read> Reader<H, R> {
     }
 
     /// The shape of the store.
+    #[must_use]
     pub fn shape(&self) -> Shape {
         self.store.shape()
     }
 
     /// The host.
+    #[must_use]
     pub fn host(&self) -> &H {
         &self.host
     }
 
     /// The host, to be changed. A slot that is written behind the store's back
     /// brings other contents than those that were stored.
+    #[must_use]
     pub fn host_mut(&mut self) -> &mut H {
         &mut self.host
     }
 
     /// Gives the host back; the store is lost.
+    #[must_use]
     pub fn into_host(self) -> H {
         self.host
     }
 
+    /// Whether a look-up failed midway, so that every later one answers
+    /// [`Error::Unfinished`]. If not, the reader goes on after an error.
+    #[must_use]
+    pub fn is_unfinished(&self) -> bool {
+        self.unfinished
+    }
+
     /// Looks a block up.
+    ///
+    /// # Errors
+    ///
+    /// [`Error::Refused`] for a block that is none of the store's, for want of
+    /// words or of a place in a cache with fewer than N, or for a host that
+    /// completes what it was not sent; [`Error::Host`] and [`Error::Words`] if
+    /// one of them fails; [`Error::Unfinished`] after a failure midway.
     pub fn read(&mut self, block: usize) -> Result<Vec<u8>, Error> {
         let mut contents = vec![0; self.shape().bytes()];
         self.read_into(block, &mut contents)?;
@@ -155,11 +184,21 @@ impl<H: Host, R: Read> Reader<H, R> {
 
     /// Looks a block up and puts its contents into the buffer, which has B
     /// bytes.
+    ///
+    /// # Errors
+    ///
+    /// Those of [`read`](Reader::read), and [`Error::Refused`] for a buffer of
+    /// another length.
     pub fn read_into(&mut self, block: usize, buffer: &mut [u8]) -> Result<(), Error> {
         self.look_up(Request::Read { block }, buffer)
     }
 
     /// Gives a block new contents of B bytes, and hands out those before.
+    ///
+    /// # Errors
+    ///
+    /// Those of [`read`](Reader::read), and [`Error::Refused`] for contents of
+    /// another length.
     pub fn write(&mut self, block: usize, contents: &[u8]) -> Result<Vec<u8>, Error> {
         let mut before = vec![0; self.shape().bytes()];
         self.look_up(Request::Write { block, contents }, &mut before)?;

@@ -5,6 +5,7 @@ use std::fmt;
 /// The question to which the reply was no. Its number is that of the document
 /// that sets the rules; 0 is no refusal. A refused call changes nothing.
 #[derive(Clone, Copy, Debug, PartialEq, Eq, Hash)]
+#[non_exhaustive]
 #[repr(u8)]
 pub enum Refusal {
     /// Open: is the shape within bounds?
@@ -41,7 +42,7 @@ pub enum Refusal {
 
 impl Refusal {
     /// All refusals, number 1 first.
-    pub const ALL: [Refusal; 15] = [
+    pub const ALL: &[Refusal] = &[
         Refusal::ShapeOutOfBounds,
         Refusal::NotReady,
         Refusal::TooFewWords,
@@ -60,7 +61,8 @@ impl Refusal {
     ];
 
     /// The document's number, 1 to 15.
-    pub fn number(self) -> u8 {
+    #[must_use]
+    pub const fn number(self) -> u8 {
         self as u8
     }
 

@@ -68,6 +68,11 @@ impl fmt::Debug for Store {
 
 impl Store {
     /// Opens a store of the shape: all blocks are zeros. Takes N words.
+    ///
+    /// # Errors
+    ///
+    /// [`Refusal::ShapeOutOfBounds`], or [`Refusal::TooFewWords`] for a tape
+    /// with fewer than N.
     pub fn open(shape: Shape, tape: &mut Tape<'_>) -> Result<Store, Refusal> {
         // A shape out of bounds is refused whatever it is lent.
         let within = shape.is_within_bounds();
@@ -85,11 +90,19 @@ impl Store {
     }
 
     /// The shape with which it was opened.
+    #[must_use]
     pub fn shape(&self) -> Shape {
         self.shape
     }
 
     /// Takes a request in hand. Takes two words.
+    ///
+    /// # Errors
+    ///
+    /// [`Refusal::RequestInHand`], [`Refusal::NoSuchBlock`],
+    /// [`Refusal::ContentsLength`], [`Refusal::QueueFull`],
+    /// [`Refusal::CacheFull`] (only with fewer places than blocks) or
+    /// [`Refusal::TooFewWords`]. A refused call changes nothing.
     pub fn request(&mut self, request: Request<'_>, tape: &mut Tape<'_>) -> Result<(), Refusal> {
         let (kind, block, contents) = match request {
             Request::Read { block } => (calls::READ, block, &[][..]),
@@ -104,6 +117,11 @@ impl Store {
 
     /// Sends one command, with the bytes of a write; those of a read are
     /// empty. A turn that draws an order takes up to 255 words.
+    ///
+    /// # Errors
+    ///
+    /// [`Refusal::WindowFull`], [`Refusal::NothingToSend`] or
+    /// [`Refusal::TooFewWords`].
     pub fn turn(&mut self, tape: &mut Tape<'_>) -> Result<(Command, &[u8]), Refusal> {
         let (state, memory) = (&mut self.state, &mut self.memory);
         let answer = calls::turn(state, memory, tape.rest(), &mut self.buffer);
@@ -120,6 +138,10 @@ impl Store {
 
     /// Says that the host has completed a command: a read with the B bytes
     /// that it brought, a write with none. Commands may complete in any order.
+    ///
+    /// # Errors
+    ///
+    /// [`Refusal::NotOutstanding`] or [`Refusal::CompletionLength`].
     pub fn completion(&mut self, command: Command, bytes: &[u8]) -> Result<(), Refusal> {
         let slot = [
             command.partition.into(),
@@ -133,6 +155,10 @@ impl Store {
 
     /// Hands out the block's contents before the request, once all its reads
     /// have completed, and queues its two jobs.
+    ///
+    /// # Errors
+    ///
+    /// [`Refusal::NoRequest`] or [`Refusal::NotFinished`].
     pub fn collect(&mut self) -> Result<&[u8], Refusal> {
         let answer = calls::collect(&mut self.state, &mut self.memory, &mut self.buffer);
         answer.accepted()?;

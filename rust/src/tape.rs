@@ -13,16 +13,19 @@ pub struct Tape<'a> {
 
 impl<'a> Tape<'a> {
     /// A tape of these bytes. An odd last byte is no word.
-    pub fn new(bytes: &'a [u8]) -> Tape<'a> {
+    #[must_use]
+    pub const fn new(bytes: &'a [u8]) -> Tape<'a> {
         Tape { bytes, taken: 0 }
     }
 
     /// The words that calls have taken.
+    #[must_use]
     pub fn taken(&self) -> usize {
         self.taken
     }
 
     /// The words left.
+    #[must_use]
     pub fn left(&self) -> usize {
         self.rest().len() / 2
     }

@@ -86,6 +86,7 @@ fn fails<H: Host>(host: H) -> io::Error {
     let Err(Error::Host(error)) = reader.write(0, &[1, 2, 3, 4]) else {
         panic!("the host fails");
     };
+    assert!(reader.is_unfinished());
     assert!(matches!(reader.read(0), Err(Error::Unfinished)));
     assert!(matches!(reader.read(99), Err(Error::Unfinished)));
     error
@@ -140,6 +141,7 @@ fn lengths_and_blocks_that_are_none_of_the_stores() {
     let all = reader.write_all([[1; 4]; 9]).map(|_| Vec::new());
     assert_eq!(refused(all), Refusal::NoSuchBlock);
     // none of it ended the reader, and the blocks are as they were
+    assert!(!reader.is_unfinished());
     assert_eq!(reader.read(3).unwrap(), [1; 4]);
 }
 

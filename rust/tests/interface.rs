@@ -1,0 +1,114 @@
+//! What the types promise a program at large: they go to other threads, and
+//! the errors may grow.
+
+use rinwolfedd::calls::Answer;
+use rinwolfedd::{Command, Error, FileHost, Host, Kind, MemoryHost, Progress};
+use rinwolfedd::{Reader, Recorded, Refusal, Request, Shape, Store, Tape};
+use std::fs::File;
+use std::io;
+
+/// Each is a compile error for a type that is not.
+const fn send<T: Send>() {}
+const fn sync<T: Sync>() {}
+const fn both<T: Send + Sync>() {}
+
+const _: () = {
+    both::<Shape>();
+    both::<Command>();
+    both::<Kind>();
+    both::<Answer>();
+    both::<Refusal>();
+    both::<Error>();
+    both::<Request<'_>>();
+    both::<Tape<'_>>();
+    both::<Store>();
+    both::<MemoryHost>();
+    both::<FileHost>();
+    both::<Progress>();
+    both::<Reader<FileHost>>();
+    // a boxed host may be one for this thread alone; then so is its reader
+    send::<Reader<Box<dyn Host + Send>, File>>();
+};
+
+/// What holds of the parts holds of the whole, whatever they are.
+#[allow(dead_code)] // to compile is enough
+fn as_their_parts<S: Send, Y: Sync>() {
+    send::<Reader<S, S>>();
+    sync::<Reader<Y, Y>>();
+    send::<Recorded<S>>();
+    sync::<Recorded<Y>>();
+    send::<Progress<S>>();
+    sync::<Progress<Y>>();
+}
+
+#[test]
+fn a_reader_works_in_another_thread() {
+    let shape = Shape::hiding(16, 4).unwrap();
+    let host: Box<dyn Host + Send> = Box::new(MemoryHost::new(shape, 1).unwrap());
+    let mut reader = Reader::open(shape, host).unwrap();
+    let mut reader = std::thread::spawn(move || {
+        reader.write(3, b"fish").unwrap();
+        reader
+    })
+    .join()
+    .unwrap();
+    assert_eq!(reader.read(3).unwrap(), b"fish");
+}
+
+/// A match that names every variant needs one more arm: another version may
+/// have more. Were an enum exhaustive, that arm would be an error here.
+#[deny(unreachable_patterns)]
+#[test]
+fn errors_may_grow() {
+    let at_fault = |error: &Error| match error {
+        Error::Refused(_) => "caller",
+        Error::Host(_) | Error::Unfinished => "host",
+        Error::Words(_) => "words",
+        _ => "new",
+    };
+    assert_eq!(at_fault(&Error::Unfinished), "host");
+    let asked_of = |refusal: Refusal| match refusal {
+        Refusal::NotReady | Refusal::TooFewWords | Refusal::BufferLength => "several",
+        Refusal::ShapeOutOfBounds => "open",
+        Refusal::RequestInHand | Refusal::NoSuchBlock | Refusal::ContentsLength => "request",
+        Refusal::QueueFull | Refusal::CacheFull => "request",
+        Refusal::WindowFull | Refusal::NothingToSend => "turn",
+        Refusal::NotOutstanding | Refusal::CompletionLength => "completion",
+        Refusal::NoRequest | Refusal::NotFinished => "collect",
+        _ => "new",
+    };
+    assert_eq!(Refusal::ALL.len(), 15);
+    assert!(
+        Refusal::ALL
+            .iter()
+            .all(|refusal| asked_of(*refusal) != "new")
+    );
+}
+
+/// An error has a source, by which a program can tell what is behind it.
+#[test]
+fn errors_have_sources() {
+    use std::error::Error as _;
+    let refused = Error::from(Refusal::NoSuchBlock);
+    assert_eq!(
+        refused.to_string(),
+        "refused: there is no such block (number 5)"
+    );
+    let source = refused.source().unwrap().downcast_ref::<Refusal>();
+    assert_eq!(source, Some(&Refusal::NoSuchBlock));
+    let host = Error::Host(io::Error::other("the wire is cut"));
+    assert_eq!(host.to_string(), "the host: the wire is cut");
+    assert!(host.source().unwrap().is::<io::Error>());
+    assert!(Error::Unfinished.source().is_none());
+}
+
+/// The host below one that notes commands, as it is and given back.
+#[test]
+fn a_recorded_host_is_reached_and_given_back() {
+    let shape = Shape::hiding(4, 2).unwrap();
+    let host = Recorded::new(MemoryHost::new(shape, 1).unwrap());
+    let mut reader = Reader::open(shape, host).unwrap();
+    reader.write(1, &[1, 2]).unwrap();
+    let below = format!("{:?}", reader.host().host());
+    assert_eq!(format!("{:?}", reader.into_host().into_host()), below);
+}
