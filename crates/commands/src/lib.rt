@@ -55,7 +55,7 @@ pub fn is_writing(c: Client, m: &[u8]) -> bool
     false
 }
 
-// The place of an outstanding command of this kind (1 or 2), partition and slot: spot is slots(level) + slot.
+// The place of an outstanding command of this kind, partition, level and slot.
 pub fn find(c: Client, m: &[u8], kind: usize, q: usize, l: usize, i: usize) -> Found
     requires { ⌜ Room c (now m) × (c .out ≤ 32) × (1 ≤ kind) × (kind ≤ 2) ⌝ }
     ensures { λ r. ⌜ Outstanding (cmd kind q l i) (stateOf c (now (m .entry)) .outstanding) r ⌝ }
@@ -71,7 +71,7 @@ pub fn find(c: Client, m: &[u8], kind: usize, q: usize, l: usize, i: usize) -> F
     search(c, m, kind, q, n + i)
 }
 
-// The same, by the number of the slot.
+// The same, by the number of the slot, slots(level) + slot.
 fn search(c: Client, m: &[u8], kind: usize, q: usize, spot: usize) -> Found
     requires { ⌜ Room c (now m) × (c .out ≤ 32) × (2 ≤ spot) ⌝ }
     ensures { λ r. ⌜ Outstanding (spotCommand (c .shape .l) kind q spot) (stateOf c (now (m .entry)) .outstanding) r ⌝ }

@@ -8,7 +8,7 @@ use Rattle.output.specs.declared.Output.{Output}
 use Rattle.output.specs.Output.{outRoom, total, totalMost, Holds}
 
 -- The lines that bytes make; `had` are the bytes of the first line that were there before. Each line ends with a newline, and what is behind the last newline
--- is no line yet (`cut-joined`)
+-- is no line yet (`cut-joined`, crate `stream`)
 unfoldable pub cut : List ℕ → List ℕ → List (List ℕ)
 cut had [] = []
 cut had (x ∷ xs) = elim (eqb x 10) [ true ↦ had ∷ cut [] xs | false ↦ cut (had ++ (x ∷ [])) xs ]

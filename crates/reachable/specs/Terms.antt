@@ -51,8 +51,8 @@ EachAfterWrite q ℓ i k (o ∷ os) = (o .command ≡ cmd read q ℓ i → k ≡
 
 -- ---- Items
 
--- The items of level ℓ of q, as they were numbered when it was written, are n blocks and then dummies: the slot of an item below n holds
--- a block or has been read, and that of an item from n on holds none
+-- Of the items of level ℓ of q, in the numbers that they got when it was written: the slot of one below n holds a block or has been read, and that of
+-- one from n on holds none. Where n is more than the blocks that there were, the dummies between have been read
 pub record Numbered (h : Shape) (order mark holds : ℕ → ℕ) (q ℓ n : ℕ) : Type 0 where
   pub few : n ≤ 2 ^ ℓ
   pub blocks : (k : ℕ) → k < n → k < slots ℓ → holds (cell h q ℓ (order (cell h q ℓ k))) ≡ 0 → mark (cell h q ℓ (order (cell h q ℓ k))) ≡ 0

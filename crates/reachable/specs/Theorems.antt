@@ -155,9 +155,9 @@ module _ (s : State) (c : Call) (h : Shape) (first : c .ask ≡ opening h) (cs :
       go (live f) = let d : JobReads left q ℓ i = rw e at (decided left) in (d .unread, lower-read left f q ℓ i d)
       go (shut w) = absurd (closed-decides left w (readForJob q ℓ i) e (unfold Questions.sends in refl))
 
-  -- ---- "The block's slot if its place is there, else the slot of the lowest-numbered unread dummy item." The items of a level, as they were
-  -- numbered when it was written, are n blocks and then dummies: a slot read for a dummy is that of an unread dummy item k, and the dummy
-  -- items below k have been read
+  -- ---- "The block's slot if its place is there, else the slot of the lowest-numbered unread dummy item." The items of
+  -- a level below some n are blocks or have been read, and those from n on are dummies: a slot read for a dummy is that of an unread item k of these,
+  -- and those below k have been read
   pub dummy-is-lowest : (q ℓ i : ℕ) → decide left ≡ readForRequest q ℓ i → (r : Request) → left .request ≡ some r → slotIn ℓ (left .place (r .block)) ≡ none
       → (n : ℕ) × (Numbered (left .shape) (left .order) (left .mark) (left .holds) q ℓ n × LowestDummy (left .shape) (left .order) (left .mark) q ℓ n i)
   dummy-is-lowest q ℓ i e r p u = go was

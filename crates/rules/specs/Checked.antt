@@ -1,5 +1,6 @@
 pub mod Worked
 pub mod Edges
+pub mod FirstNo
 pub mod SessionsA
 pub mod SessionsB
 pub mod SessionsC

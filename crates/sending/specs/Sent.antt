@@ -34,6 +34,7 @@ use Rattle.tape.specs.Tape.{wordsOf}
 use Rattle.ready.specs.Usable.{Usable}
 use Rattle.contract.specs.declared.Answer.{Answer}
 use Rattle.contract.specs.Answers.{refusedWith, answerOf}
+use Rattle.contract.specs.Buffers.{filled}
 use Rattle.contract.specs.Meets.{callOf, handedTo, commandOf, Meets, meets-no, meets-yes}
 use Rattle.rebuild.specs.Target.{rebuilt, rebuild-is}
 use Rattle.client.specs.declared.Found.{Found}
@@ -138,17 +139,13 @@ slot-block c m q l i x v e z n =
     go zero n l = absurd (n refl)
     go (suc b) n l = unfold bytesIn in (rw (lt-ltb b (c .shape .n) (omega arith)) (ap (tablesOf (shapeOf (c .shape)) m .blocks) (omega arith)))
 
-handed-some : (b ys : List ℕ) → 1 ≤ length ys → handedTo b ys ≡ ys
-handed-some b [] l = absurd (omega arith)
-handed-some b (y ∷ ys) l = refl
-
 pub handed-read : (b : List ℕ) (s : State) (q l i : ℕ) → b ≡ handedTo b (written s (cmd read q l i))
 unfolding written
 handed-read b s q l i = refl
 
 pub handed-write : (b b′ : List ℕ) (s : State) (q l i : ℕ) → 1 ≤ length b′ → b′ ≡ slotBytes s (holder s q l i) → b′ ≡ handedTo b (written s (cmd write q l i))
 unfolding written
-handed-write b b′ s q l i n e = e ∙ sym (handed-some b (slotBytes s (holder s q l i)) (rw (sym e) n))
+handed-write b b′ s q l i n e = e ∙ sym (filled b (slotBytes s (holder s q l i)) (rw (sym e) n))
 
 -- ---- What it changes
 

@@ -4,7 +4,7 @@ use mathlib.Core.Logic.{_⊎_, inl, inr}
 use mathlib.Core.Bool.{true, false}
 use mathlib.Core.List.{List, []}
 use Prim.Native.Nat.{ℕ, suc, _+_, _-_, _*_, _≤_, _<_}
-use native.Mathlib.Nat.{suc-mul, mul-le-mul-right}
+use native.Mathlib.Nat.{suc-mul, mul-le-mul-right, mul-add}
 use native.Mathlib.Omega.{arith}
 use native.Mathlib.Decide.{ℕ-discrete, decLt}
 use lib.ListN.{length, take, drop, length-take, length-drop}
@@ -44,13 +44,10 @@ served-fits h w e =
     product-one a b l = omega (arith, product-le a 1 a b (omega arith) l)
 
     twice : (p s : ℕ) → 2 ≤ s → p * s ≡ p * (s - 2) + p * 2
-    twice p s l = ap (λ n. p * n) (back s l) ∙ distributed p (s - 2) 2
+    twice p s l = ap (λ n. p * n) (back s l) ∙ mul-add p (s - 2) 2
       where
         back : (s : ℕ) → 2 ≤ s → s ≡ (s - 2) + 2
         back s l = omega arith
-
-        distributed : (a b c : ℕ) → a * (b + c) ≡ a * b + a * c
-        distributed a b c = omega arith
 
     some-byte : (h : Shape) → within h ≡ true → 1 ≤ h .B
     some-byte h w = leb-true 1 (h .B) (and-l (leb 1 (h .B)) (leb (h .B) 512) (every-yes _ w .1 .1 .1 .0))

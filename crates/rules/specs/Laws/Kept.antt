@@ -287,7 +287,7 @@ step-left s c l = go (eqb (number s c) 0) refl
         rw (step-accepted s c z) (live (unfold Run.accepted in (accepted-in s (c .ask) (c .memory) (c .words) (c .buffer) (accepted-passed s c z))))
     go false e = rw (step-refused s c (eqb-false (number s c) 0 e)) (refuse-left s (c .ask) l)
 
--- Document 01: each number of a state that calls left is in its range
+-- Document 01: each number of a state that calls left is in its range, if it was so or the state was closed before them
 pub after-left : (cs : List Call) (s : State) → Left s → Left (after s cs)
 unfolding after
 after-left [] s l = l
