@@ -61,7 +61,7 @@ fn field(out: &mut [u8], at: usize, n: usize) -> usize
 fn letter(kind: usize) -> u8
     ensures { λ r. ⌜ r ≡ letterOf kind ⌝ }
 {
-    if kind == 1 { b'r' } else { b'w' }
+    if kind == client::READ { b'r' } else { b'w' }
 }
 
 // The line of an accepted t: at most 22 bytes.

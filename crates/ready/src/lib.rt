@@ -1,6 +1,8 @@
 // The question with which the other four calls begin: memory long enough, each number of the state in its range?
 use client::Client;
+use client::READ;
 use client::Request;
+use client::WRITE;
 use memory::Shape;
 ghost use mathlib.Core.Path.{_≡_};
 ghost use mathlib.Core.Bool.{true};
@@ -18,8 +20,8 @@ ghost use Rattle.ready.specs.Usable.{shapeFits};
 fn request_fits(h: Shape, r: Request) -> bool
     ensures { λ a. ⌜ a ≡ requestFits (shapeOf h) r ⌝ }
 {
-    (1 <= r.kind)
-        & (r.kind <= 2)
+    (READ <= r.kind)
+        & (r.kind <= WRITE)
         & (r.block < h.n)
         & (r.next < h.p)
         & (r.evict < h.p)
