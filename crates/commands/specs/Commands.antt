@@ -18,8 +18,9 @@ use Rattle.rules.specs.Setters.{setOutstanding}
 use Rattle.rules.specs.Completion.{isCommand}
 use Rattle.rules.specs.Turn.{send}
 use Rattle.memory.specs.declared.Shape.{Shape}
-use Rattle.memory.specs.Words.{wordAt-lt}
-use Rattle.memory.specs.Tables.{Tables, tablesOf, withKinds, withSpots, get-kinds, get-spots}
+use Rattle.memory.specs.Tables.{Tables, tablesOf, withKinds, withSpots}
+use Rattle.memory.specs.Stored.{table-lt}
+use Rattle.memory.specs.declared.tables.Table.the-variants as table
 use Rattle.memory.specs.Fits.{shapeOf, fit, fit-in}
 use Rattle.client.specs.declared.Client.{Client}
 use Rattle.client.specs.View.{levelOf, spotOf, commandOf, rows, view, stateOf, writeFrom}
@@ -51,10 +52,10 @@ module _ (h : Shape) (m : List ℕ) (i a : ℕ) where
 
   -- what is read of the tables can be stored
   pub kind-lt : i < 32 → a ≡ tablesOf (shapeOf h) m .kinds i → a < 65536
-  kind-lt l e = rw (e ∙ get-kinds (shapeOf h) m i l) (wordAt-lt m _)
+  kind-lt l e = rw e (table-lt (shapeOf h) m table.Kinds i l)
 
   pub spot-lt-word : i < 32 → a ≡ tablesOf (shapeOf h) m .spots i → a < 65536
-  spot-lt-word l e = rw (e ∙ get-spots (shapeOf h) m i l) (wordAt-lt m _)
+  spot-lt-word l e = rw e (table-lt (shapeOf h) m table.Spots i l)
 
 -- a command by the number of its slot, slots(level) + slot
 abbrev pub spotCommand : ℕ → ℕ → ℕ → ℕ → Command

@@ -12,8 +12,9 @@ use Rattle.lists.specs.Tables.{put, put-same, put-other}
 use Rattle.rules.specs.Shape.{Shape}
 use Rattle.rules.specs.Memory.{needed}
 use Rattle.memory.specs.Words.{wordAt, window, window-in, window-past}
-use Rattle.memory.specs.Blocks.{cells, blocksAt, blockStart, blockTable, block-is, block-past}
-use Rattle.memory.specs.Tables
+use Rattle.memory.specs.Blocks.{blocksAt, blockStart, blockTable, block-is, block-past}
+use Rattle.memory.specs.Tables.{Tables, tablesOf, tablesBy, startOf, sizeOf, withBlocks}
+use Rattle.memory.specs.Stored.{end-table}
 
 -- the list t, with v in the place of its elements from a on
 unfoldable pub replaced : ℕ → List ℕ → List ℕ → List ℕ
@@ -130,41 +131,15 @@ module _ (h : Shape) (m : List ℕ) (long : needed h ≤ length m) (b : ℕ) (lb
   tail-same = drop-after (blockStart h b) m v room (needed h) (rw lv block-last)
 
   -- a block stored changes that block and nothing else
-  pub set-blocks : Tables.tablesOf h (replaced (blockStart h b) m v) ≡ Tables.withBlocks (put b v (Tables.tablesOf h m .blocks)) (Tables.tablesOf h m)
-  unfolding Tables.tablesOf m′
-  set-blocks = λ k. record {
-    queue = window-before (Tables.queueAt h) 64 (omega arith) k;
-    kinds = window-before (Tables.kindsAt h) 32 (omega arith) k;
-    spots = window-before (Tables.spotsAt h) 32 (omega arith) k;
-    counter = window-before (Tables.counterAt h) 64 (omega arith) k;
-    partition = window-before (Tables.partitionAt h) (h .N) (omega arith) k;
-    place = window-before (Tables.placeAt h) (h .N) (omega arith) k;
-    waiting = window-before (Tables.waitingAt h) (h .N) (omega arith) k;
-    order = window-before (Tables.orderAt h) (cells h) (omega arith) k;
-    holds = window-before (Tables.holdsAt h) (cells h) (omega arith) k;
-    mark = window-before (Tables.markAt h) (cells h) (omega arith) k;
-    blocks = block-set k;
-    tail = tail-same k;
-  }
+  pub set-blocks : tablesOf h (replaced (blockStart h b) m v) ≡ withBlocks (put b v (tablesOf h m .blocks)) (tablesOf h m)
+  unfolding tablesOf m′
+  set-blocks = λ k. tablesBy (λ t. window-before (startOf h t) (sizeOf h t) (end-table h t) k) (block-set k) (tail-same k)
 
 -- ---- All that a shape needs, cleared
 
 -- what is there when every byte before the tail is 0
-unfoldable pub empty : Shape → List ℕ → Tables.Tables
-empty h rest = record {
-  queue = λ i. 0;
-  kinds = λ i. 0;
-  spots = λ i. 0;
-  counter = λ i. 0;
-  partition = λ i. 0;
-  place = λ i. 0;
-  waiting = λ i. 0;
-  order = λ i. 0;
-  holds = λ i. 0;
-  mark = λ i. 0;
-  blocks = λ b. replicate (h .B) 0;
-  tail = rest;
-}
+unfoldable pub empty : Shape → List ℕ → Tables
+empty h rest = tablesBy (λ t i. 0) (λ b. replicate (h .B) 0) rest
 
 module _ (h : Shape) (m : List ℕ) (long : needed h ≤ length m) where
   clean : List ℕ
@@ -209,22 +184,10 @@ module _ (h : Shape) (m : List ℕ) (long : needed h ≤ length m) where
       go b (no g) = block-is h clean b (omega arith) ∙ block-clean b (omega arith)
 
   -- bytes cleared leave every table empty, and the tail as it was
-  pub cleared-tables : Tables.tablesOf h (replaced 0 m (replicate (needed h) 0)) ≡ empty h (drop (needed h) m)
-  unfolding Tables.tablesOf empty clean
-  cleared-tables = λ k. record {
-    queue = window-clean (Tables.queueAt h) 64 (omega arith) k;
-    kinds = window-clean (Tables.kindsAt h) 32 (omega arith) k;
-    spots = window-clean (Tables.spotsAt h) 32 (omega arith) k;
-    counter = window-clean (Tables.counterAt h) 64 (omega arith) k;
-    partition = window-clean (Tables.partitionAt h) (h .N) (omega arith) k;
-    place = window-clean (Tables.placeAt h) (h .N) (omega arith) k;
-    waiting = window-clean (Tables.waitingAt h) (h .N) (omega arith) k;
-    order = window-clean (Tables.orderAt h) (cells h) (omega arith) k;
-    holds = window-clean (Tables.holdsAt h) (cells h) (omega arith) k;
-    mark = window-clean (Tables.markAt h) (cells h) (omega arith) k;
-    blocks = blocks-clean k;
-    tail = drop-after 0 m (replicate (needed h) 0) room-all (needed h) (omega (arith, all)) k;
-  }
+  pub cleared-tables : tablesOf h (replaced 0 m (replicate (needed h) 0)) ≡ empty h (drop (needed h) m)
+  unfolding tablesOf empty clean
+  cleared-tables = λ k. tablesBy (λ t. window-clean (startOf h t) (sizeOf h t) (end-table h t) k) (blocks-clean k)
+      (drop-after 0 m (replicate (needed h) 0) room-all (needed h) (omega (arith, all)) k)
 
 -- ---- A part from a to e, as a lent part of a slice leaves it
 pub part-put : (a e : ℕ) (t v : List ℕ) → length v ≡ e - a → take a t ++ (v ++ drop (e - a) (drop a t)) ≡ replaced a t v
