@@ -41,9 +41,9 @@ pub fn clear(m: &mut [u8], n: usize)
     zeros(&mut m[0..n]);
 }
 
-// The first byte of block b.
+// The first byte of block b. Block N has what a request in hand writes; where block N + 1 would start, the memory that a shape needs ends.
 pub fn start(h: Shape, b: usize) -> usize
-    requires { ⌜ (h .n ≤ 4096) × (h .l ≤ 8) × (h .p ≤ 64) × (h .b ≤ 512) × (h .p * slots (h .l) ≤ 32768) × (b ≤ h .n) ⌝ }
+    requires { ⌜ (h .n ≤ 4096) × (h .l ≤ 8) × (h .p ≤ 64) × (h .b ≤ 512) × (h .p * slots (h .l) ≤ 32768) × (b ≤ h .n + 1) ⌝ }
     ensures { λ r. ⌜ r ≡ blockStart (shapeOf h) b ⌝ }
 {
     384 + 6 * h.n + 6 * crate::tables::cells(h) + b * h.b

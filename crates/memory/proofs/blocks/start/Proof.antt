@@ -19,8 +19,8 @@ mul-result-2 c = omega arith
 add-result-2 : tie.Need-add-result-2
 add-result-2 c = omega arith
 
-small : (c : tie.After-struct-known2) → c .before .before .before .args .b * c .before .before .before .args .h .b ≤ 2097152
-small c = let a = c .before .before .before in let n : a .args .b ≤ 4096 = omega arith in mul-le-mul n (a .pre .3)
+small : (c : tie.After-struct-known2) → c .before .before .before .args .b * c .before .before .before .args .h .b ≤ 2097664
+small c = let a = c .before .before .before in let n : a .args .b ≤ 4097 = omega arith in mul-le-mul n (a .pre .3)
 
 mul-result-3 : tie.Need-mul-result-3
 mul-result-3 c = omega (arith, small c)
