@@ -17,11 +17,12 @@ use Rattle.rules.specs.Setters.{setWaiting}
 use Rattle.memory.specs.declared.Shape.{Shape}
 use Rattle.memory.specs.Tables as M
 use Rattle.memory.specs.Tables.{tablesOf}
+use Rattle.memory.specs.Closing.{closedUp}
 use Rattle.memory.specs.Fits.{shapeOf, fit}
 use Rattle.client.specs.declared.Client.{Client}
 use Rattle.client.specs.View.{rows, view, stateOf}
-use Rattle.client.specs.Rows.{dropAt, length-rows, Shifted, shifted-none, shifted-all, Kept, kept-none, kept-yes, kept-no, any-hit, any-miss}
-use Rattle.client.specs.Changes.{fitted, fit-push, fit-shifted, fit-kept}
+use Rattle.client.specs.Rows.{dropAt, length-rows, Kept, kept-none, kept-yes, kept-no, any-hit, any-miss}
+use Rattle.client.specs.Changes.{fitted, fit-push, fit-kept, fit-closed}
 use Rattle.client.specs.Moves.{withWaiting, Stands, stands}
 
 abbrev pub blocksIn : Shape → List ℕ → ℕ → ℕ
@@ -42,26 +43,11 @@ pub waiting-stands : (c : Client) (m₀ m : List ℕ) (f : ℕ → ℕ) (n : ℕ
 unfolding stateOf view tablesOf
 waiting-stands c m₀ m f n xs e l = stands (withWaiting n c) m₀ m (M.withWaiting f (tablesOf (shapeOf (c .shape)) m₀)) _ e refl (ap (λ r. setWaiting r (view c (tablesOf (shapeOf (c .shape)) m₀))) l)
 
--- ---- One leaves: of the blocks from place j on, those below i are as the ones behind them were
-pub record Leaving (h : Shape) (m₀ m : List ℕ) (j i : ℕ) : Type 0 where
-  pub blocks : ℕ → ℕ
-  pub tables : tablesOf (shapeOf h) m ≡ M.withWaiting blocks (tablesOf (shapeOf h) m₀)
-  pub shifted : Shifted (blocksIn h m₀) (fitted (h .n) blocks) j i
-
-pub leaving-none : (h : Shape) (m : List ℕ) (j : ℕ) → Leaving h m m j j
-leaving-none h m j = record { blocks = tablesOf (shapeOf h) m .waiting; tables = refl; shifted = shifted-none (blocksIn h m) j }
-
-pub leaving-more : (h : Shape) (m₀ m m′ : List ℕ) (j i v : ℕ) → 1 ≤ h .n → j ≤ i → v ≡ blocksIn h m (i + 1) → tablesOf (shapeOf h) m′ ≡ M.withWaiting (put i v (tablesOf (shapeOf h) m .waiting)) (tablesOf (shapeOf h) m)
-    → Leaving h m₀ m j i → Leaving h m₀ m′ j (i + 1)
-leaving-more h m₀ m m′ j i v l u e t s = record {
-  blocks = put i v (s .blocks);
-  tables = t ∙ ap (λ x. M.withWaiting (put i v (x .waiting)) x) (s .tables);
-  shifted = fit-shifted (h .n) l (s .blocks) (blocksIn h m₀) j i v (e ∙ ap (λ x. fit (h .n) (x .waiting (i + 1))) (s .tables)) u (s .shifted);
-}
-
-pub left : (c : Client) (m₀ m : List ℕ) (j i : ℕ) → j < c .waiting → c .waiting ≤ i + 1 → Leaving (c .shape) m₀ m j i → Stands (withWaiting (c .waiting - 1) c) m₀ m (setWaiting (dropAt j (stateOf c m₀ .waiting)) (stateOf c m₀))
-left c m₀ m j i l u s =
-    waiting-stands c m₀ m (s .blocks) (c .waiting - 1) _ (s .tables) (shifted-all (blocksIn (c .shape) m₀) (fitted (c .shape .n) (s .blocks)) j i (c .waiting) l u (s .shifted) ∙ ap (dropAt j) (sym (waiting-is c m₀)))
+-- the block at place j leaves
+pub left : (c : Client) (m₀ m : List ℕ) (j : ℕ) → 1 ≤ c .shape .n → j < c .waiting
+    → tablesOf (shapeOf (c .shape)) m ≡ M.withWaiting (closedUp (c .shape .n) j (c .waiting - 1) (tablesOf (shapeOf (c .shape)) m₀ .waiting)) (tablesOf (shapeOf (c .shape)) m₀)
+    → Stands (withWaiting (c .waiting - 1) c) m₀ m (setWaiting (dropAt j (stateOf c m₀ .waiting)) (stateOf c m₀))
+left c m₀ m j s l e = waiting-stands c m₀ m _ (c .waiting - 1) _ e (fit-closed (c .shape .n) s _ j (c .waiting) l ∙ ap (dropAt j) (sym (waiting-is c m₀)))
 
 -- ---- The first place of a block among the first n, or n
 pub record FirstAt (f : ℕ → ℕ) (n b r : ℕ) : Type 0 where

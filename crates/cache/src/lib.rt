@@ -1,6 +1,7 @@
 // The blocks that wait in the eviction cache, longest waiting first, in the lent memory.
 use client::Client;
 use client::Found;
+use memory::tables::Table;
 ghost use mathlib.Core.Path.{_≡_};
 ghost use mathlib.Core.List.{_∷_, [], _++_};
 ghost use Prim.Native.Nat.{_+_, _-_, _<_, _≤_};
@@ -61,12 +62,7 @@ pub fn leave(c: Client, m: &mut [u8], j: usize) -> Client
     ensures { λ r. ⌜ (r ≡ withWaiting (c .waiting - 1) c) × Stands r (now (m .entry)) (now (m .exit)) (setWaiting (dropAt j (stateOf c (now (m .entry)) .waiting)) (stateOf c (now (m .entry)))) ⌝ }
 {
     let last = c.waiting - 1;
-    let mut i = j;
-    while i < last {
-        let b = memory::tables::waiting(c.shape, m, i + 1);
-        memory::tables::set_waiting(c.shape, m, i, b);
-        i += 1;
-    }
+    memory::tables::close_up(c.shape, m, Table::Waiting, j, last, c.shape.n);
     c.with_waiting(last)
 }
 

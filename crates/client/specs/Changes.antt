@@ -19,10 +19,11 @@ use Rattle.rules.specs.Setters.{setPartition, setPlace, setBytes, setCounter, s
 use Rattle.rules.specs.Laws.Levels.{two-slots}
 use Rattle.rules.specs.Laws.Layout.{offset-lt}
 use Rattle.memory.specs.Tables.{Tables, withPartition, withPlace, withCounter, withOrder, withMark, withHolds, withBlocks}
+use Rattle.memory.specs.Closing.{closedUp, closed-low, closed-in, closed-past}
 use Rattle.memory.specs.Fits.{shapeOf, fit, fit-in, fit-lt}
 use Rattle.client.specs.declared.Client.{Client}
 use Rattle.client.specs.View.{levelOf, placeOf, levelAt, requestOf, bytesIn, rows, view}
-use Rattle.client.specs.Rows.{put-map, rows-push, Shifted, shifted-more, Kept, kept-yes}
+use Rattle.client.specs.Rows.{dropAt, put-map, rows-push, shifted-all, Kept, kept-yes}
 
 -- ---- Slots as numbers
 
@@ -137,8 +138,13 @@ module _ (bound : ℕ) (some : 0 < bound) (f : ℕ → ℕ) where
   fit-again : (i x v : ℕ) → v ≡ fit bound (f x) → _≡_ {A = ℕ → ℕ} (fitted bound (put i v f)) (put i (fit bound (f x)) (fitted bound f))
   fit-again i x v e = rw e (fit-put (λ x. bound) i (fit bound (f x)) f (fit-lt bound (f x) some))
 
-  pub fit-shifted : (g : ℕ → ℕ) (j i v : ℕ) → v ≡ fit bound (f (i + 1)) → j ≤ i → Shifted g (fitted bound f) j i → Shifted g (fitted bound (put i v f)) j (i + 1)
-  fit-shifted g j i v e l s = subst (λ k. Shifted g k j (i + 1)) (sym (fit-again i (i + 1) v e)) (shifted-more g (fitted bound f) j i l s)
+  -- an entry that moves is stored as it is read, and reads as it did
+  pub fit-closed : (j n : ℕ) → j < n → rows (fitted bound (closedUp bound j (n - 1) f)) (n - 1) ≡ dropAt j (rows (fitted bound f) n)
+  fit-closed j n l = shifted-all (fitted bound f) (fitted bound (closedUp bound j (n - 1) f)) j (n - 1) n l (omega arith) (record {
+    low = λ x u. ap (fit bound) (closed-low bound j (n - 1) f x u);
+    moved = λ x u w. ap (fit bound) (closed-in bound j (n - 1) f x u w) ∙ fit-in bound _ (fit-lt bound (f (x + 1)) some);
+    rest = λ x u. ap (fit bound) (closed-past bound j (n - 1) f x (omega arith) u);
+  })
 
   pub fit-kept : (p : ℕ → Bool) (g : ℕ → ℕ) (k i v : ℕ) → v ≡ fit bound (f i) → p v ≡ true → Kept p g (fitted bound f) k i → Kept p g (fitted bound (put k v f)) (k + 1) (i + 1)
   fit-kept p g k i v e t s = subst (λ h. Kept p g h (k + 1) (i + 1)) (sym (fit-again k i v e)) (kept-yes p g (fitted bound f) k i (rw e at t) s)

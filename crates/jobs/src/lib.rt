@@ -1,5 +1,6 @@
 // The first-in first-out queue of jobs, in the lent memory.
 use client::Client;
+use memory::tables::Table;
 ghost use mathlib.Core.Path.{_≡_};
 ghost use mathlib.Core.List.{_∷_, [], _++_};
 ghost use Prim.Native.Nat.{_+_, _-_, _<_, _≤_};
@@ -49,11 +50,6 @@ pub fn pop(c: Client, m: &mut [u8]) -> Client
     ensures { λ r. ⌜ (r ≡ withJobs (c .jobs - 1) c) × Stands r (now (m .entry)) (now (m .exit)) (setQueue (dropAt 0 (stateOf c (now (m .entry)) .queue)) (stateOf c (now (m .entry)))) ⌝ }
 {
     let last = c.jobs - 1;
-    let mut i = 0;
-    while i < last {
-        let q = memory::tables::job(c.shape, m, i + 1);
-        memory::tables::set_job(c.shape, m, i, q);
-        i += 1;
-    }
+    memory::tables::close_up(c.shape, m, Table::Queue, 0, last, c.shape.p);
     c.with_jobs(last)
 }

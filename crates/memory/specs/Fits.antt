@@ -96,6 +96,13 @@ fit-lt bound x h = go (decLt x bound)
     go (yes l) = rw (fit-in bound x l) l
     go (no l) = rw (fit-out bound x (omega arith)) h
 
+pub fit-le : (bound x : ℕ) → fit bound x ≤ x
+fit-le bound x = go (decLt x bound)
+  where
+    go : Dec (x < bound) → fit bound x ≤ x
+    go (yes l) = omega (arith, fit-in bound x l)
+    go (no l) = omega (arith, fit-out bound x (omega arith))
+
 pub fit-zero : (bound : ℕ) → fit bound 0 ≡ 0
 fit-zero bound = go (decLt 0 bound)
   where

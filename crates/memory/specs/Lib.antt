@@ -5,3 +5,4 @@ pub mod Tables
 pub mod Stored
 pub mod Parts
 pub mod Fits
+pub mod Closing

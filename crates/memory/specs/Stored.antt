@@ -1,19 +1,22 @@
 -- What an entry of a table reads, and what a number stored as one changes.
-use mathlib.Core.Path.{_≡_, sym, ap, _∙_}
+use mathlib.Core.Path.{_≡_, refl, sym, ap, _∙_}
+use mathlib.Core.Bool.{Bool, true, false}
 use mathlib.Core.List.{List}
 use Prim.Native.Nat.{ℕ, _+_, _*_, _≤_, _<_}
 use native.Mathlib.Omega.{arith}
 use native.Mathlib.Decide.{ℕ-discrete, decLt}
-use lib.ListN.{length}
+use lib.Dec.{eqb}
+use lib.ListN.{length, drop}
 use borrow.Author.Tests.{eq-eqb, ne-eqb}
+use Rattle.lists.specs.Tests.{if_then_else_}
 use Rattle.lists.specs.Tables.{put}
 use Rattle.rules.specs.Shape.{Shape}
 use Rattle.rules.specs.Memory.{needed}
 use Rattle.memory.specs.Words.{wordAt, setWord, wordAt-lt, window, window-in, window-set, window-else}
-use Rattle.memory.specs.Blocks.{blocksAt, block-else, drop-else}
+use Rattle.memory.specs.Blocks.{blocksAt, blockTable, block-else, drop-else}
 use Rattle.memory.specs.Layout.{ends-before, ends-within}
 use Rattle.memory.specs.declared.tables.Table.{Table}
-use Rattle.memory.specs.Tables.{tablesOf, tablesBy, tableAt, table-by, startOf, sizeOf, sizes, index, pick, withTable}
+use Rattle.memory.specs.Tables.{Tables, tablesOf, tablesBy, tableAt, table-by, startOf, sizeOf, sizes, index, pick, withTable}
 
 module _ (h : Shape) (m : List ℕ) (t : Table) where
   table-is : tableAt t (tablesOf h m) ≡ window (startOf h t) (sizeOf h t) m
@@ -25,6 +28,26 @@ module _ (h : Shape) (m : List ℕ) (t : Table) where
 
   pub table-lt : (i : ℕ) → i < sizeOf h t → tableAt t (tablesOf h m) i < 65536
   table-lt i l = rw (get-table i l) (wordAt-lt m (startOf h t + i))
+
+  -- changed to what it is
+  pub table-kept : tablesOf h m ≡ withTable t (tableAt t (tablesOf h m)) (tablesOf h m)
+  unfolding tablesOf
+  table-kept = λ k. tablesBy (λ u. same u (ℕ-discrete (index t) (index u)) k) (blockTable h m) (drop (needed h) m)
+    where
+      same : (u : Table) → Dec (index t ≡ index u) → window (startOf h u) (sizeOf h u) m ≡ pick t u (tableAt t (tablesOf h m)) (window (startOf h u) (sizeOf h u) m)
+      same u (yes e) = rw (eq-eqb (index t) (index u) e, ← e) (sym table-is)
+      same u (no n) = rw (ne-eqb (index t) (index u) n)
+
+-- what a table is changed to, and changed again
+pub table-with : (t : Table) (f : ℕ → ℕ) (x : Tables) → tableAt t (withTable t f x) ≡ f
+table-with t f x = table-by (λ u. pick t u f (tableAt u x)) _ _ t ∙ rw (eq-eqb (index t) (index t) refl)
+
+pub table-again : (t : Table) (f g : ℕ → ℕ) (x : Tables) → withTable t g (withTable t f x) ≡ withTable t g x
+table-again t f g x = λ k. tablesBy (λ u. again (eqb (index t) (index u)) (tableAt u x) k) (x .blocks) (x .tail)
+  where
+    again : (b : Bool) (y : ℕ → ℕ) → (if b then g else (if b then f else y)) ≡ (if b then g else y)
+    again true y = refl
+    again false y = refl
 
 -- a table ends before the blocks
 pub end-table : (h : Shape) (t : Table) → (startOf h t + sizeOf h t) * 2 ≤ blocksAt h

@@ -7,6 +7,7 @@ ghost use Rattle.lists.specs.Tables.{put as putAt};
 ghost use Rattle.rules.specs.Shape.{slots};
 ghost use Rattle.memory.specs.Tables.{tablesOf, startOf, sizeOf, tableAt, withTable, withQueue, withKinds, withSpots, withCounter, withPartition, withPlace, withWaiting, withOrder, withHolds, withMark};
 ghost use Rattle.memory.specs.Words.{wordAt, Numbers};
+ghost use Rattle.memory.specs.Closing.{closedUp};
 ghost use Rattle.memory.specs.Fits.{shapeOf, Fits, fit as fitOf};
 
 // x where it is below the bound, else 0.
@@ -82,6 +83,20 @@ fn set(h: Shape, m: &mut [u8], t: Table, i: usize, v: usize)
     ensures { λ _. ⌜ tablesOf (shapeOf h) (now (m .exit)) ≡ withTable t (putAt i v (tableAt t (tablesOf (shapeOf h) (now (m .entry))))) (tablesOf (shapeOf h) (now (m .entry))) ⌝ }
 {
     crate::set_word(m, start(h, t) + i, v);
+}
+
+// Entry `from` of table t leaves: the entries behind it, up to entry `last`, move down by one, each as it is read below the bound. A copy of
+// the bytes would do, but the compiler makes a call of that, which costs every completion more than the few jobs that end gain.
+pub fn close_up(h: Shape, m: &mut [u8], t: Table, from: usize, last: usize, bound: usize)
+    requires { ⌜ Fits (shapeOf h) (length (now m)) × (from ≤ last) × (last < sizeOf (shapeOf h) t) ⌝ }
+    ensures { λ _. ⌜ tablesOf (shapeOf h) (now (m .exit)) ≡ withTable t (closedUp bound from last (tableAt t (tablesOf (shapeOf h) (now (m .entry))))) (tablesOf (shapeOf h) (now (m .entry))) ⌝ }
+{
+    let mut i = from;
+    while i < last {
+        let v = get(h, m, t, i + 1, bound);
+        set(h, m, t, i, v);
+        i += 1;
+    }
 }
 
 // The bytes of the n numbers from number k on.
