@@ -30,16 +30,21 @@ clientOf w = record {
   out = w 30;
 }
 
+-- words with six numbers from number k on
+abbrev pub withSix : ℕ → ℕ → ℕ → ℕ → ℕ → ℕ → ℕ → (ℕ → ℕ) → ℕ → ℕ
+withSix k a b c d e f w =
+    put ((k + 5) * 2) (f % 65536) (put ((k + 4) * 2) (e % 65536) (put ((k + 3) * 2) (d % 65536) (put ((k + 2) * 2) (c % 65536) (put ((k + 1) * 2) (b % 65536) (put (k * 2) (a % 65536) w)))))
+
 -- words with the numbers of a shape; with those that say what a request asks for
 abbrev pub withShape : Shape → (ℕ → ℕ) → ℕ → ℕ
-withShape h w = put 10 (h .w % 65536) (put 8 (h .e % 65536) (put 6 (h .b % 65536) (put 4 (h .l % 65536) (put 2 (h .p % 65536) (put 0 (h .n % 65536) w)))))
+withShape h w = withSix 0 (h .n) (h .p) (h .l) (h .b) (h .e) (h .w) w
 
 abbrev pub withAsked : Request → (ℕ → ℕ) → ℕ → ℕ
 withAsked r w = put 18 (r .evict % 65536) (put 16 (r .next % 65536) (put 14 (r .block % 65536) (put 12 (r .kind % 65536) w)))
 
 -- words with the numbers that tell how far a client is, and with all but its shape
 abbrev pub withProgress : Client → (ℕ → ℕ) → ℕ → ℕ
-withProgress c w = put 30 (c .out % 65536) (put 28 (c .waiting % 65536) (put 26 (c .sent % 65536) (put 24 (c .cursor % 65536) (put 22 (c .jobs % 65536) (put 20 (c .request .level % 65536) w)))))
+withProgress c w = withSix 10 (c .request .level) (c .jobs) (c .cursor) (c .sent) (c .waiting) (c .out) w
 
 abbrev pub withRest : Client → (ℕ → ℕ) → ℕ → ℕ
 withRest c w = withProgress c (withAsked (c .request) w)
@@ -98,14 +103,17 @@ Between w w′ = (k : ℕ) → w′ (k * 2 + 1) ≡ w (k * 2 + 1)
 between : (n v : ℕ) (w w′ : ℕ → ℕ) → Between w w′ → Between w (put (n * 2) v w′)
 between n v w w′ h k = put-other (n * 2) v w′ (k * 2 + 1) (λ e. omega arith) ∙ h k
 
+between-six : (k a b c d e f : ℕ) (w w′ : ℕ → ℕ) → Between w w′ → Between w (withSix k a b c d e f w′)
+between-six k a b c d e f w w′ h = between (k + 5) _ w _ (between (k + 4) _ w _ (between (k + 3) _ w _ (between (k + 2) _ w _ (between (k + 1) _ w _ (between k _ w w′ h)))))
+
 pub between-progress : (c : Client) (w w′ : ℕ → ℕ) → Between w w′ → Between w (withProgress c w′)
-between-progress c w w′ h = between 15 _ w _ (between 14 _ w _ (between 13 _ w _ (between 12 _ w _ (between 11 _ w _ (between 10 _ w w′ h)))))
+between-progress c w w′ h = between-six 10 (c .request .level) (c .jobs) (c .cursor) (c .sent) (c .waiting) (c .out) w w′ h
 
 pub between-rest : (c : Client) (w w′ : ℕ → ℕ) → Between w w′ → Between w (withRest c w′)
 between-rest c w w′ h = between-progress c w _ (between 9 _ w _ (between 8 _ w _ (between 7 _ w _ (between 6 _ w w′ h))))
 
 pub between-shape : (h : Shape) (w : ℕ → ℕ) → Between w (withShape h w)
-between-shape h w = between 5 _ w _ (between 4 _ w _ (between 3 _ w _ (between 2 _ w _ (between 1 _ w _ (between 0 _ w w (λ k. refl))))))
+between-shape h w = between-six 0 (h .n) (h .p) (h .l) (h .b) (h .e) (h .w) w w (λ k. refl)
 
 -- the answer as a number, and back
 abbrev pub packed : Answer → ℕ

@@ -4,11 +4,11 @@ use client::Request;
 use contract::Answer;
 use memory::Shape;
 ghost use mathlib.Core.Path.{_≡_};
-ghost use Prim.Native.Nat.{_*_, _%_, _<_};
+ghost use Prim.Native.Nat.{_*_, _%_, _≤_, _<_};
 ghost use lib.ListN.{length};
 ghost use Rattle.lists.specs.Tables.{put as putAt};
 ghost use Rattle.memory.specs.Words.{wordAt};
-ghost use Rattle.codec.specs.Codec.{stateLength, clientOf, withShape, withAsked, withProgress, withRest, packed};
+ghost use Rattle.codec.specs.Codec.{stateLength, clientOf, withSix, withShape, withAsked, withProgress, withRest, packed};
 
 // Number k of the state.
 fn number(s: &[u8], k: usize) -> usize
@@ -23,6 +23,19 @@ fn set_number(s: &mut [u8], k: usize, v: usize)
     ensures { λ _. ⌜ wordAt (now (s .exit)) ≡ putAt (k * 2) (v % 65536) (wordAt (now (s .entry))) ⌝ }
 {
     memory::set_word(s, k * 2, v % 65536);
+}
+
+// Stores six numbers from number k on. It takes plain numbers, since a struct lies in memory where this is a call.
+fn set_six(s: &mut [u8], k: usize, a: usize, b: usize, c: usize, d: usize, e: usize, f: usize)
+    requires { ⌜ (length (now s) ≡ stateLength) × (k ≤ 10) ⌝ }
+    ensures { λ _. ⌜ wordAt (now (s .exit)) ≡ withSix k a b c d e f (wordAt (now (s .entry))) ⌝ }
+{
+    set_number(s, k, a);
+    set_number(s, k + 1, b);
+    set_number(s, k + 2, c);
+    set_number(s, k + 3, d);
+    set_number(s, k + 4, e);
+    set_number(s, k + 5, f);
 }
 
 fn shape(s: &[u8]) -> Shape
@@ -71,12 +84,7 @@ fn put_shape(s: &mut [u8], h: Shape)
     requires { ⌜ length (now s) ≡ stateLength ⌝ }
     ensures { λ _. ⌜ wordAt (now (s .exit)) ≡ withShape h (wordAt (now (s .entry))) ⌝ }
 {
-    set_number(s, 0, h.n);
-    set_number(s, 1, h.p);
-    set_number(s, 2, h.l);
-    set_number(s, 3, h.b);
-    set_number(s, 4, h.e);
-    set_number(s, 5, h.w);
+    set_six(s, 0, h.n, h.p, h.l, h.b, h.e, h.w);
 }
 
 // What the request asks for.
@@ -95,12 +103,16 @@ pub fn encode_progress(s: &mut [u8], c: Client)
     requires { ⌜ length (now s) ≡ stateLength ⌝ }
     ensures { λ _. ⌜ wordAt (now (s .exit)) ≡ withProgress c (wordAt (now (s .entry))) ⌝ }
 {
-    set_number(s, 10, c.request.level);
-    set_number(s, 11, c.jobs);
-    set_number(s, 12, c.cursor);
-    set_number(s, 13, c.sent);
-    set_number(s, 14, c.waiting);
-    set_number(s, 15, c.out);
+    set_six(
+        s,
+        10,
+        c.request.level,
+        c.jobs,
+        c.cursor,
+        c.sent,
+        c.waiting,
+        c.out,
+    );
 }
 
 // Stores all but the shape, which only an open changes.
