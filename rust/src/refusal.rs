@@ -3,7 +3,8 @@
 use std::fmt;
 
 /// The question to which the reply was no. Its number is that of the document
-/// that sets the rules; 0 is no refusal. A refused call changes nothing.
+/// that sets the rules; 0 is no refusal. A refused call changes no byte that it
+/// was lent, but a refused open leaves zeros in the state: it is closed.
 #[derive(Clone, Copy, Debug, PartialEq, Eq, Hash)]
 #[non_exhaustive]
 #[repr(u8)]

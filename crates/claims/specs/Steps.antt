@@ -1,12 +1,10 @@
 -- One exported call is the rules' step, from the state that the whole memory stands for to the one that it stands for after the call.
 use mathlib.Core.Path.{_≡_, refl, ap, sym, _∙_}
 use mathlib.Core.Bool.{true, false, true≢false}
-use mathlib.Core.List.{List, [], _∷_, _++_}
-use mathlib.Core.Option.{none}
+use mathlib.Core.List.{List, [], _++_}
 use Prim.Native.Nat.{ℕ, _%_, _≤_, _<_}
 use native.Mathlib.Omega.{arith}
 use native.Mathlib.Decide.{ℕ-discrete, decLt}
-use lib.Dec.{eqb}
 use lib.ListN.{length}
 use borrow.Author.Tests.{lt-leb, leb-true}
 use Rattle.rules.specs.Draws.{draws}
@@ -15,11 +13,9 @@ use Rattle.rules.specs.Laws.Shapes.{act-shape}
 use Rattle.rules.specs.Memory.{needed}
 use Rattle.rules.specs.Open.{fresh}
 use Rattle.rules.specs.Questions.{Ask, opening, request, turn, completion, collect, Call, ready, questions, firstNo, bounds, number}
-use Rattle.rules.specs.Request.{accept}
 use Rattle.rules.specs.Run.{Outcome, act, step, accepted, refused, refuse, numbersOf, sentCommand, handed}
 use Rattle.rules.specs.Shape.{Shape}
-use Rattle.rules.specs.State.{State, Command, closed}
-use Rattle.rules.specs.Turn.{Step}
+use Rattle.rules.specs.State.{State, closed}
 use Rattle.client.specs.declared.Client.{Client}
 use Rattle.client.specs.View.{stateOf, view}
 use Rattle.contract.specs.declared.Answer.{Answer}

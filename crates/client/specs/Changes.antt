@@ -14,7 +14,7 @@ use borrow.Author.Tests.{leb-true, lt-ltb, le-ltb, le-leb, lt-leb}
 use Rattle.lists.specs.Tests.{if_then_else_}
 use Rattle.lists.specs.Tables.{put, put-same, put-other}
 use Rattle.rules.specs.Shape.{Shape, slots, cell}
-use Rattle.rules.specs.State.{Place, nowhere, stored}
+use Rattle.rules.specs.State.{nowhere, stored}
 use Rattle.rules.specs.Setters.{setPartition, setPlace, setBytes, setCounter, setOrder, setMark, setHolds, setRequest}
 use Rattle.rules.specs.Laws.Levels.{two-slots}
 use Rattle.rules.specs.Laws.Layout.{offset-lt}

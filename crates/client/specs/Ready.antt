@@ -1,6 +1,6 @@
 -- Document 01: "memory long enough, each number of the state in its range". Every entry of a table decodes to a number in range, so the question asks
 -- only the client's numbers, in constant time but where the cache is full.
-use mathlib.Core.Path.{_≡_, refl, ap, sym, _∙_}
+use mathlib.Core.Path.{_≡_, refl, sym, _∙_}
 use mathlib.Core.Bool.{Bool, true, false, _&&_, _||_, true≢false}
 use mathlib.Core.List.{List, [], _∷_, map}
 use mathlib.Core.Option.{Option, none, some}
@@ -12,12 +12,12 @@ use lib.Dec.{ltb, leb, eqb}
 use lib.Pow.{pow-mono, pow-pos}
 use borrow.Author.Tests.{ltb-true, lt-ltb, le-ltb, leb-true, le-leb}
 use Rattle.lists.specs.Tests.{if_then_else_, between, every-yes, and-l, and-r, and-true, both-true}
-use Rattle.lists.specs.Search.{below, count, member}
+use Rattle.lists.specs.Search.{below, member}
 use Rattle.lists.specs.All.{All, nil, cons, IfSome}
 use Rattle.rules.specs.Shape.{Shape, within, slots, cell}
 use Rattle.rules.specs.State as R
-use Rattle.rules.specs.State.{Command, read, write, Place, nowhere, stored}
-use Rattle.rules.specs.Ranges.{isKind, bytesOf, others, inRange}
+use Rattle.rules.specs.State.{read, write, nowhere, stored}
+use Rattle.rules.specs.Ranges.{isKind, bytesOf, inRange}
 use Rattle.rules.specs.Laws.Levels.{levels-pos, partitions-pos}
 use Rattle.rules.specs.Laws.Waiting.{Waits, waits-le, others-room, room-others}
 use Rattle.rules.specs.Laws.Range.{PlaceIn, CommandIn, RequestIn, JobsIn, InRange, range-facts, facts-range}

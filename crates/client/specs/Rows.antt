@@ -8,7 +8,7 @@ use native.Mathlib.Omega.{arith}
 use native.Mathlib.Decide.{ℕ-discrete}
 use lib.ListN.{length, getD, length-map}
 use Rattle.lists.specs.Tests.{or-left, or-right}
-use Rattle.lists.specs.Search.{find, any, all, keep, without, below, count, find-yes, find-no, without-yes, without-no, keep-yes, keep-no}
+use Rattle.lists.specs.Search.{find, any, keep, without, below, count, find-yes, find-no, without-yes, without-no, keep-yes, keep-no}
 use Rattle.lists.specs.Lengths.{length-below}
 use Rattle.lists.specs.Tables.{put, put-same, put-other}
 use Rattle.client.specs.View.{rows}

@@ -10,6 +10,9 @@ ghost use Rattle.lists.specs.Tables.{put as putAt};
 ghost use Rattle.memory.specs.Words.{wordAt};
 ghost use Rattle.codec.specs.Codec.{stateLength, clientOf, withSix, withShape, withAsked, withProgress, withRest, packed};
 
+// The bytes of a state.
+pub const STATE: usize = 64;
+
 // Number k of the state.
 fn number(s: &[u8], k: usize) -> usize
     requires { ⌜ (length (now s) ≡ stateLength) × (k < 16) ⌝ }

@@ -120,10 +120,10 @@ pub fn is_within(h: Shape) -> bool
     h.n <= h.p * bits::pow2(h.l - 1)
 }
 
-// The bytes of memory that a shape within bounds needs.
+// The bytes of memory that a shape within bounds needs: up to where a block N + 1 would start.
 pub fn needed(h: Shape) -> usize
     requires { ⌜ within (shapeOf h) ≡ true ⌝ }
     ensures { λ r. ⌜ r ≡ neededOf (shapeOf h) ⌝ }
 {
-    384 + 6 * h.n + 6 * memory::tables::cells(h) + (h.n + 1) * h.b
+    memory::blocks::start(h, h.n + 1)
 }

@@ -3,7 +3,7 @@ use mathlib.Core.Path.{_≡_, refl, ap, sym, _∙_}
 use mathlib.Core.Bool.{Bool, true, false, _&&_, true≢false}
 use mathlib.Core.List.{List, _∷_}
 use mathlib.Core.Option.{Option, none, some, Option·getD}
-use Prim.Native.Nat.{ℕ, zero, suc, _+_, _-_, _*_, _^_, _≤_, _<_, min}
+use Prim.Native.Nat.{ℕ, _+_, _-_, _*_, _^_, _≤_, _<_, min}
 use native.Mathlib.Omega.{arith}
 use native.Mathlib.Decide.{decLt}
 use lib.Dec.{eqb, leb, ltb}
@@ -11,7 +11,7 @@ use borrow.Author.Tests.{eq-eqb, ne-eqb, eqb-true, leb-true, ltb-true, le-leb, l
 use Rattle.lists.specs.Tests.{if_then_else_, and-l, and-r, and-true}
 use Rattle.lists.specs.Search.{any, orElse, keep, below, count, member}
 use Rattle.rules.specs.Shape.{Shape, slots}
-use Rattle.rules.specs.State.{State, Request, write, Place, nowhere, stored}
+use Rattle.rules.specs.State.{State, Request, Place, nowhere, stored}
 use Rattle.rules.specs.Levels.{filled, sources, target}
 use Rattle.rules.specs.Request.{held, levelsLeft, slotIn, dummy}
 use Rattle.rules.specs.Rebuild.{unread}

@@ -12,7 +12,7 @@ use Rattle.rules.specs.Shape.{Shape, within}
 use Rattle.rules.specs.State.{State, Command, closed}
 use Rattle.rules.specs.Draws.{draws}
 use Rattle.rules.specs.Questions.{Ask, opening, Call, bounds, number}
-use Rattle.rules.specs.Run.{Outcome, step, act, accepted, refused, sentCommand, numbersOf}
+use Rattle.rules.specs.Run.{Outcome, act, accepted, refused, sentCommand, numbersOf}
 use Rattle.rules.specs.Laws.Shapes.{act-shape}
 use Rattle.rules.specs.Laws.Asked.{asked}
 use Rattle.rules.specs.Laws.Answers.{opens, number-le, step-number, step-accepted, refused-outcome, accepted-passed, accepted-taken}

@@ -6,14 +6,14 @@ use mathlib.Core.Option.{Option, none, some}
 use Prim.Native.Nat.{ℕ, _+_, _-_, _%_, _^_, _≤_, _<_}
 use native.Mathlib.Nat.{mod-eq-of-lt}
 use native.Mathlib.Omega.{arith}
-use lib.ListN.{length, replicate, length-replicate}
+use lib.ListN.{length, length-replicate}
 use lib.Dec.{eqb, leb}
 use lib.Pow.{pow-mono, pow-pos}
 use borrow.Author.Tests.{eqb-true, leb-true, eq-eqb}
 use Rattle.lists.specs.Tests.{if_then_else_, and-r, every-yes, between}
 use Rattle.lists.specs.All.{IfSome}
 use Rattle.rules.specs.Shape.{Shape, within, slots}
-use Rattle.rules.specs.State.{State, Command, cmd, write}
+use Rattle.rules.specs.State.{State, Command, cmd}
 use Rattle.rules.specs.State as R
 use Rattle.rules.specs.Ranges.{isKind}
 use Rattle.rules.specs.Turn.{Step, idle, noDummy, readForRequest, readForJob, rebuild, writeNext, decide, command, stepBounds}
@@ -30,7 +30,7 @@ use Rattle.memory.specs.Fits.{shapeOf, parts-le, fit}
 use Rattle.memory.specs.Tables.{tablesOf}
 use Rattle.client.specs.declared.Client.{Client}
 use Rattle.client.specs.declared.Request.{Request}
-use Rattle.client.specs.View.{stateOf, view, handBy, requestOf, commandOf, rows}
+use Rattle.client.specs.View.{stateOf, view, handBy, requestOf, commandOf}
 use Rattle.client.specs.Rows.{length-rows}
 use Rattle.memory.specs.declared.Shape as M
 use Rattle.codec.specs.Codec.{lowShape, lowRequest, lowClient}

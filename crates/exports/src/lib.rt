@@ -1,5 +1,6 @@
 // The five calls for a host program: numbers and byte slices. The state is 64 bytes, the tape pairs of bytes, low byte first; the answer is one
 // number (see codec::pack). Every value of every number is answered; nothing is required.
+use codec::STATE;
 use contract::Answer;
 use memory::Shape;
 ghost use mathlib.Core.Path.{_≡_};
@@ -72,7 +73,7 @@ pub extern "C" fn rinwolfedd_open(
 ) -> u64
     ensures { λ u. ⌜ Opened (numbers n p l b e w) (now (state .entry)) (now (memory .entry)) (now (tape .entry)) u (now (state .exit)) (now (memory .exit)) ⌝ }
 {
-    if state.len() != 64 {
+    if state.len() != STATE {
         return refuse_state(state, Shape { n, p, l, b, e, w });
     }
     let r = opening::open(Shape { n, p, l, b, e, w }, memory, tape);
@@ -90,7 +91,7 @@ pub extern "C" fn rinwolfedd_request(
 ) -> u64
     ensures { λ u. ⌜ Exported (request kind block (now (contents .entry))) (now (state .entry)) (now (memory .entry)) (now (tape .entry)) [] u (now (state .exit)) (now (memory .exit)) [] ⌝ }
 {
-    if state.len() != 64 {
+    if state.len() != STATE {
         return 2;
     }
     let c = codec::decode(state);
@@ -107,7 +108,7 @@ pub extern "C" fn rinwolfedd_turn(
 ) -> u64
     ensures { λ u. ⌜ Exported turn (now (state .entry)) (now (memory .entry)) (now (tape .entry)) (now (buffer .entry)) u (now (state .exit)) (now (memory .exit)) (now (buffer .exit)) ⌝ }
 {
-    if state.len() != 64 {
+    if state.len() != STATE {
         return 2;
     }
     let c = codec::decode(state);
@@ -127,7 +128,7 @@ pub extern "C" fn rinwolfedd_completion(
 ) -> u64
     ensures { λ u. ⌜ Exported (completionOf (cmd kind partition level slot) (now (bytes .entry))) (now (state .entry)) (now (memory .entry)) [] [] u (now (state .exit)) (now (memory .exit)) [] ⌝ }
 {
-    if state.len() != 64 {
+    if state.len() != STATE {
         return 2;
     }
     let c = codec::decode(state);
@@ -139,7 +140,7 @@ pub extern "C" fn rinwolfedd_completion(
 pub extern "C" fn rinwolfedd_collect(state: &mut [u8], memory: &mut [u8], buffer: &mut [u8]) -> u64
     ensures { λ u. ⌜ Exported collect (now (state .entry)) (now (memory .entry)) [] (now (buffer .entry)) u (now (state .exit)) (now (memory .exit)) (now (buffer .exit)) ⌝ }
 {
-    if state.len() != 64 {
+    if state.len() != STATE {
         return 2;
     }
     let c = codec::decode(state);

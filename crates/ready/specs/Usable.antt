@@ -7,7 +7,7 @@ use native.Mathlib.Omega.{arith}
 use lib.ListN.{length, drop, length-drop, length-take}
 use lib.Dec.{eqb, leb, ltb}
 use borrow.Author.Tests.{leb-true, leb-false, le-leb, lt-leb, eqb-true}
-use Rattle.lists.specs.Tests.{if_then_else_, and-l, and-r, every, every-yes, between}
+use Rattle.lists.specs.Tests.{if_then_else_, and-l, and-r, every-yes, between}
 use Rattle.rules.specs.Shape.{Shape, within}
 use Rattle.rules.specs.Ranges.{inRange}
 use Rattle.rules.specs.Memory.{needed}
@@ -16,7 +16,7 @@ use Rattle.rules.specs.Laws.Range.{InRange}
 use Rattle.rules.specs.Laws.Kept.{given-in}
 use Rattle.memory.specs.Blocks.{blockStart, block-is}
 use Rattle.memory.specs.Tables.{Tables, tablesOf}
-use Rattle.memory.specs.Fits.{shapeOf, Fits, fits}
+use Rattle.memory.specs.Fits.{shapeOf, fits}
 use Rattle.client.specs.declared.Client.{Client}
 use Rattle.client.specs.View.{view, stateOf}
 use Rattle.client.specs.Ready.{requestFits, countsFit, handFits, ownWaits, Counts, counts-facts, Asked, asked-facts, in-range}

@@ -10,7 +10,7 @@ use lib.Dec.{eqb, leb, ltb}
 use borrow.Author.Tests.{lt-ltb, le-ltb, le-leb, lt-leb, eq-eqb, ne-eqb}
 use Rattle.lists.specs.Tests.{if_then_else_}
 use Rattle.rules.specs.Shape.{slots, cell, offset}
-use Rattle.rules.specs.State.{State, Command, cmd, read, write}
+use Rattle.rules.specs.State.{State, cmd, read, write}
 use Rattle.rules.specs.Setters.{setRequest, setCursor, setSent, setWaiting}
 use Rattle.rules.specs.Draws.{draws, newOrder}
 use Rattle.rules.specs.Levels.{sources}

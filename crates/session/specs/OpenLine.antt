@@ -2,13 +2,13 @@
 use mathlib.Core.Path.{_≡_, ap, sym, _∙_}
 use mathlib.Core.Bool.{true, false}
 use mathlib.Core.List.{List, []}
-use Prim.Native.Nat.{ℕ, _+_, _*_, _-_, _≤_, _<_}
+use Prim.Native.Nat.{ℕ, _+_, _*_, _≤_}
 use native.Mathlib.Omega.{arith}
 use lib.ListN.{length, drop}
-use lib.Dec.{eqb, leb}
+use lib.Dec.{leb}
 use borrow.Author.Tests.{lt-leb, ne-eqb, leb-true}
 use Rattle.lists.specs.Tests.{between, every-yes, and-r}
-use Rattle.rules.specs.Shape.{Shape, within, slots}
+use Rattle.rules.specs.Shape.{Shape, within}
 use Rattle.rules.specs.State.{State, closed}
 use Rattle.rules.specs.Memory.{needed}
 use Rattle.rules.specs.Questions.{opening, Call, questions, firstNo, number}

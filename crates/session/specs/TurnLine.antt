@@ -2,7 +2,7 @@
 use mathlib.Core.Path.{_≡_, refl, ap, sym, subst, _∙_}
 use mathlib.Core.Bool.{Bool, true, false, true≢false}
 use mathlib.Core.List.{List, []}
-use Prim.Native.Nat.{ℕ, _+_, _*_, _-_, _≤_, _<_}
+use Prim.Native.Nat.{ℕ, _+_, _*_, _≤_, _<_}
 use native.Mathlib.Omega.{arith}
 use lib.ListN.{length, drop}
 use lib.Dec.{eqb}
@@ -11,8 +11,7 @@ use borrow.Author.Tests.{eq-eqb, ne-eqb, eqb-true}
 use Rattle.lists.specs.Tests.{if_then_else_}
 use Rattle.lists.specs.Search.{below, count}
 use Rattle.rules.specs.Shape.{Shape, slots}
-use Rattle.rules.specs.State.{State, Command, cmd, read, write, Request}
-use Rattle.rules.specs.Collect.{answer}
+use Rattle.rules.specs.State.{State, Command, cmd, read, write}
 use Rattle.rules.specs.Draws.{draws}
 use Rattle.rules.specs.Turn.{Step, idle, noDummy, readForRequest, readForJob, rebuild, writeNext, decide, command}
 use Rattle.rules.specs.Questions.{turn, completion, collect, Call, ready, questions, sends, possible, bounds, number}
@@ -33,7 +32,7 @@ use Rattle.printing.specs.Laws.{command-le, contents-le}
 use Rattle.printing.specs.Written.{Written, same-text}
 use Rattle.lines.specs.Lines.{turns, collects}
 use Rattle.session.specs.Session as S
-use Rattle.session.specs.Session.{memoryRoom, call, went, answered, start, fetched, brought, stored, completed, turned, collected, gives}
+use Rattle.session.specs.Session.{memoryRoom, call, answered, start, fetched, brought, stored, completed, turned, collected, gives}
 use Rattle.session.specs.declared.Session.{Session}
 use Rattle.session.specs.declared.Printed.{Printed}
 use Rattle.session.specs.Answers.{kept, Served, Gives, Answers, AnswersApart, Slot, Completes}

@@ -1,5 +1,5 @@
 use mathlib.Core.Path.{_≡_, ap, _∙_}
-use Prim.Native.Nat.{_+_, _*_, _<_}
+use Prim.Native.Nat.{_+_, _<_}
 use native.Mathlib.Omega.{arith}
 use lib.Pow.{pow-pos}
 use Rattle.rules.specs.Shape.{slots}
@@ -7,7 +7,6 @@ use Rattle.memory.specs.Tables.{tablesOf, withHolds}
 use Rattle.memory.specs.Fits.{shapeOf, fit-lt}
 use Rattle.lists.specs.Tables.{put}
 use Rattle.client.specs.View.{stateOf, placeOf}
-use Rattle.rules.specs.Laws.Layout.{stride-le}
 use Rattle.client.specs.Readings.{place-as}
 use Rattle.collecting.specs.Collecting.{slot-none, slot-some}
 use Rattle.collecting.proofs.empty_slot.Statement.{statement}

@@ -1,5 +1,4 @@
 use native.Mathlib.Omega.{arith}
-use lib.Dec.{eqb}
 use borrow.Author.Tests.{eq-eqb, ne-eqb}
 use Rattle.memory.specs.Fits.{fit}
 use Rattle.levels.proofs.is_dummy.Statement.{statement}

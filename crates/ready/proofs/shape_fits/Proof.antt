@@ -1,8 +1,6 @@
 use mathlib.Core.Path.{sym, _∙_}
-use mathlib.Core.Bool.{true}
 use native.Mathlib.Omega.{arith}
 use borrow.Author.Tests.{not-true, not-false}
-use Rattle.rules.specs.Shape.{within}
 use Rattle.ready.specs.Usable.{shapeFits}
 use Rattle.ready.proofs.shape_fits.Statement.{statement}
 use Rattle.ready.proofs.shape_fits.Tie as tie

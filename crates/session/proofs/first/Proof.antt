@@ -1,5 +1,4 @@
-use mathlib.Core.Path.{ap}
-use Prim.Native.Nat.{_+_, _-_, _*_, _≤_}
+use Prim.Native.Nat.{_-_, _*_, _≤_}
 use native.Mathlib.Omega.{arith}
 use Rattle.memory.specs.Fits.{shapeOf}
 use Rattle.session.specs.Slots.{Spot, spot}

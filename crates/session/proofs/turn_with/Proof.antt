@@ -1,8 +1,7 @@
 use mathlib.Core.Path.{refl, ap}
 use Prim.Native.Nat.{_*_}
-use lib.ListN.{length}
 use native.Mathlib.Omega.{arith}
-use Rattle.rules.specs.Shape.{Shape, slots}
+use Rattle.rules.specs.Shape.{Shape}
 use Rattle.tape.specs.Tape.{length-words}
 use Rattle.session.specs.Answers.{Slot}
 use Rattle.session.specs.Laws.{left-le, left-whole, meets-small}
