@@ -25,7 +25,7 @@ use Rattle.memory.specs.Tables.{Tables}
 use Rattle.memory.specs.Fits.{shapeOf, fit, fit-lt}
 use Rattle.client.specs.declared.Client.{Client}
 use Rattle.client.specs.declared.Request.{Request}
-use Rattle.client.specs.View.{levelOf, placeOf, spotOf, commandOf, handBy, requestOf, rows, view, writeFrom}
+use Rattle.client.specs.View.{levelOf, placeOf, spotOf, commandBy, handBy, requestOf, rows, view, writeFrom}
 use Rattle.client.specs.Rows.{length-rows}
 use Rattle.client.specs.Readings.{jobs-are, waiting-are}
 use Rattle.client.specs.Changes.{cell-level}
@@ -91,8 +91,8 @@ spot-range n x p = go (decLt (fit (slots n) x) 2)
     go (yes k) = rw (lt-ltb (fit (slots n) x) 2 k) (omega arith, omega (arith, pow-mono {i = 2} {j = n + 1} (omega arith)))
     go (no k) = rw (le-ltb (fit (slots n) x) 2 (omega arith)) (omega arith, fit-lt (slots n) x (pow-pos (n + 1)))
 
-pub command-range : (h : Shape) (a x : ℕ) → 0 < h .L → 0 < h .P → CommandIn h (commandOf h a x)
-unfolding commandOf isKind
+pub command-range : (h : Shape) (a x : ℕ) → 0 < h .L → 0 < h .P → CommandIn h (commandBy h a x)
+unfolding commandBy isKind
 command-range h a x l p = record {
   kind = go (ltb a writeFrom);
   partition = fit-lt (h .P) (a % writeFrom) p;
@@ -274,7 +274,7 @@ module _ (c : Client) (t : Tables) (w : within (shapeOf (c .shape)) ≡ true) (f
       there : inRange (view c t) ≡ true → (countsFit c && handFits c waits) ≡ true
       there e =
           let r = range-facts (view c t) e in
-          let f : Counts c = unfold view in (record { cursor = r .cursor; sent = r .sent; out = omega (arith, r .free, length-rows (λ i. commandOf h (t .kinds i) (t .spots i)) (c .out)); waiting = omega (arith, waiting-are c t, waits-le (h .E) (view c t .waiting) (view c t .request) (r .cache)) }) in
+          let f : Counts c = unfold view in (record { cursor = r .cursor; sent = r .sent; out = omega (arith, r .free, length-rows (λ i. commandBy h (t .kinds i) (t .spots i)) (c .out)); waiting = omega (arith, waiting-are c t, waits-le (h .E) (view c t .waiting) (view c t .request) (r .cache)) }) in
           and-true (facts-counts c f) (back (r .request, r .jobs, r .cache))
 
       here : (countsFit c && handFits c waits) ≡ true → inRange (view c t) ≡ true

@@ -34,8 +34,8 @@ writeFrom = 64
 unfoldable pub spotOf : ℕ → ℕ → ℕ
 spotOf levels x = if ltb (fit (slots levels) x) 2 then 2 else fit (slots levels) x
 
-unfoldable pub commandOf : Shape → ℕ → ℕ → Command
-commandOf h a x =
+unfoldable pub commandBy : Shape → ℕ → ℕ → Command
+commandBy h a x =
     let y = spotOf (h .L) x in
     cmd (if ltb a writeFrom then read else write) (fit (h .P) (a % writeFrom)) (levelOf (h .L) y) (y - slots (levelOf (h .L) y))
 
@@ -72,7 +72,7 @@ view c t = let h = shapeOf (c .shape) in record {
   queue = rows (λ i. fit (h .P) (t .queue i)) (c .jobs);
   cursor = c .cursor;
   sent = c .sent;
-  outstanding = rows (λ i. commandOf h (t .kinds i) (t .spots i)) (c .out);
+  outstanding = rows (λ i. commandBy h (t .kinds i) (t .spots i)) (c .out);
   request = requestOf (c .request) (t .blocks (h .N));
 }
 

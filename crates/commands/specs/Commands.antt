@@ -23,7 +23,7 @@ use Rattle.memory.specs.Stored.{table-lt}
 use Rattle.memory.specs.declared.tables.Table.the-variants as table
 use Rattle.memory.specs.Fits.{shapeOf, fit, fit-in}
 use Rattle.client.specs.declared.Client.{Client}
-use Rattle.client.specs.View.{levelOf, spotOf, commandOf, rows, view, stateOf, writeFrom}
+use Rattle.client.specs.View.{levelOf, spotOf, commandBy, rows, view, stateOf, writeFrom}
 use Rattle.client.specs.Rows.{dropAt, rows-push, any-miss, Shifted, shifted-none, shifted-more, shifted-all}
 use Rattle.rules.specs.Laws.Layout.{offset-lt}
 use Rattle.client.specs.Changes.{level-is, level-le}
@@ -31,7 +31,7 @@ use Rattle.client.specs.Ready.{command-range}
 use Rattle.client.specs.Moves.{withOut, Room, Stands, stands}
 
 abbrev pub commandIn : Shape → List ℕ → ℕ → Command
-commandIn h m i = commandOf (shapeOf h) (tablesOf (shapeOf h) m .kinds i) (tablesOf (shapeOf h) m .spots i)
+commandIn h m i = commandBy (shapeOf h) (tablesOf (shapeOf h) m .kinds i) (tablesOf (shapeOf h) m .spots i)
 
 pub outstanding-is : (c : Client) (m : List ℕ) → stateOf c m .outstanding ≡ rows (commandIn (c .shape) m) (c .out)
 unfolding stateOf view
@@ -43,11 +43,11 @@ kindOf a = if ltb a writeFrom then read else write
 
 module _ (h : Shape) (m : List ℕ) (i a : ℕ) where
   pub kind-is : a ≡ tablesOf (shapeOf h) m .kinds i → commandIn h m i .kind ≡ kindOf a
-  unfolding commandOf
+  unfolding commandBy
   kind-is e = rw e
 
   pub partition-is : (q : ℕ) → a ≡ tablesOf (shapeOf h) m .kinds i → q ≡ fit (h .p) (a % writeFrom) → commandIn h m i .partition ≡ q
-  unfolding commandOf
+  unfolding commandBy
   partition-is q e f = sym (rw e at f)
 
   -- what is read of the tables can be stored
@@ -97,8 +97,8 @@ module _ (n x z : ℕ) (e : z ≡ fit (slots n) x) where
   spot-some l = rw (le-ltb (fit (slots n) x) 2 (rw e at l)) e
 
 -- a command is compared by its kind, its partition and the number of its slot
-pub is-command : (h : R.Shape) (k q y a x : ℕ) → 2 ≤ y → isCommand (spotCommand (h .L) k q y) (commandOf h a x) ≡ (eqb k (kindOf a) && eqb q (fit (h .P) (a % writeFrom)) && eqb y (spotOf (h .L) x))
-unfolding isCommand commandOf
+pub is-command : (h : R.Shape) (k q y a x : ℕ) → 2 ≤ y → isCommand (spotCommand (h .L) k q y) (commandBy h a x) ≡ (eqb k (kindOf a) && eqb q (fit (h .P) (a % writeFrom)) && eqb y (spotOf (h .L) x))
+unfolding isCommand commandBy
 is-command h k q y a x l =
     and-assoc (eqb k (kindOf a) && eqb q (fit (h .P) (a % writeFrom))) _ _ ∙ ap (λ t. eqb k (kindOf a) && eqb q (fit (h .P) (a % writeFrom)) && t) (same-spot (h .L) y (spotOf (h .L) x) l (spot-two (h .L) x))
 
@@ -120,8 +120,8 @@ none-such c m k q ℓ i r f = rw outstanding-is (any-miss (isCommand (cmd k q �
 -- ---- Changes
 
 -- the numbers that are stored say the command
-pub command-is : (h : R.Shape) (k q ℓ i : ℕ) → 1 ≤ k → k ≤ 2 → h .P ≤ 64 → q < h .P → ℓ < h .L → i < slots ℓ → commandOf h (q + writeFrom * (k - 1)) (slots ℓ + i) ≡ cmd k q ℓ i
-unfolding commandOf spotOf
+pub command-is : (h : R.Shape) (k q ℓ i : ℕ) → 1 ≤ k → k ≤ 2 → h .P ≤ 64 → q < h .P → ℓ < h .L → i < slots ℓ → commandBy h (q + writeFrom * (k - 1)) (slots ℓ + i) ≡ cmd k q ℓ i
+unfolding commandBy spotOf
 command-is h k q ℓ i a b c d l u = (λ z. spotCommand (h .L) (kind-is (decLt k 2) z) (partition-is z) (spot-is z)) ∙ spot-command (h .L) k q ℓ i l u
   where
     kind-is : Dec (k < 2) → kindOf (q + writeFrom * (k - 1)) ≡ k
@@ -135,18 +135,18 @@ command-is h k q ℓ i a b c d l u = (λ z. spotCommand (h .L) (kind-is (decLt k
     spot-is = rw (fit-in (slots (h .L)) (slots ℓ + i) (offset-lt (h .L) ℓ i l u), le-ltb (slots ℓ + i) 2 (omega (arith, pow-mono {i = 1} {j = ℓ + 1} (omega arith))))
 
 -- only the two tables are changed
-pub out-stands : (c : Client) (m₀ m : List ℕ) (f g : ℕ → ℕ) (n : ℕ) (ds : List Command) → tablesOf (shapeOf (c .shape)) m ≡ withSpots g (withKinds f (tablesOf (shapeOf (c .shape)) m₀)) → rows (λ i. commandOf (shapeOf (c .shape)) (f i) (g i)) n ≡ ds
+pub out-stands : (c : Client) (m₀ m : List ℕ) (f g : ℕ → ℕ) (n : ℕ) (ds : List Command) → tablesOf (shapeOf (c .shape)) m ≡ withSpots g (withKinds f (tablesOf (shapeOf (c .shape)) m₀)) → rows (λ i. commandBy (shapeOf (c .shape)) (f i) (g i)) n ≡ ds
     → Stands (withOut n c) m₀ m (setOutstanding ds (stateOf c m₀))
 unfolding stateOf view tablesOf
 out-stands c m₀ m f g n ds e l = stands (withOut n c) m₀ m (withSpots g (withKinds f (tablesOf (shapeOf (c .shape)) m₀))) _ e refl (ap (λ r. setOutstanding r (view c (tablesOf (shapeOf (c .shape)) m₀))) l)
 
 -- two tables with entry i changed in both, read entry by entry
-put-both : (h : R.Shape) (i a x : ℕ) (f g : ℕ → ℕ) → _≡_ {A = ℕ → Command} (λ j. commandOf h (put i a f j) (put i x g j)) (put i (commandOf h a x) (λ j. commandOf h (f j) (g j)))
+put-both : (h : R.Shape) (i a x : ℕ) (f g : ℕ → ℕ) → _≡_ {A = ℕ → Command} (λ j. commandBy h (put i a f j) (put i x g j)) (put i (commandBy h a x) (λ j. commandBy h (f j) (g j)))
 put-both h i a x f g = fun-ext (λ j. go j (ℕ-discrete j i))
   where
-    go : (j : ℕ) → Dec (j ≡ i) → commandOf h (put i a f j) (put i x g j) ≡ put i (commandOf h a x) (λ j. commandOf h (f j) (g j)) j
-    go j (yes e) = rw e ((λ z. commandOf h (put-same i a f z) (put-same i x g z)) ∙ sym (put-same i _ _))
-    go j (no n) = (λ z. commandOf h (put-other i a f j n z) (put-other i x g j n z)) ∙ sym (put-other i _ _ j n)
+    go : (j : ℕ) → Dec (j ≡ i) → commandBy h (put i a f j) (put i x g j) ≡ put i (commandBy h a x) (λ j. commandBy h (f j) (g j)) j
+    go j (yes e) = rw e ((λ z. commandBy h (put-same i a f z) (put-same i x g z)) ∙ sym (put-same i _ _))
+    go j (no n) = (λ z. commandBy h (put-other i a f j n z) (put-other i x g j n z)) ∙ sym (put-other i _ _ j n)
 
 -- a command is stored behind the others
 pub sent : (c : Client) (m₀ m m′ : List ℕ) (k q ℓ i : ℕ) → 1 ≤ k → k ≤ 2 → c .shape .p ≤ 64 → q < c .shape .p → ℓ < c .shape .l → i < slots ℓ
@@ -167,7 +167,7 @@ pub record Completing (h : Shape) (m₀ m : List ℕ) (j i : ℕ) : Type 0 where
   pub kinds : ℕ → ℕ
   pub spots : ℕ → ℕ
   pub tables : tablesOf (shapeOf h) m ≡ withSpots spots (withKinds kinds (tablesOf (shapeOf h) m₀))
-  pub shifted : Shifted (commandIn h m₀) (λ x. commandOf (shapeOf h) (kinds x) (spots x)) j i
+  pub shifted : Shifted (commandIn h m₀) (λ x. commandBy (shapeOf h) (kinds x) (spots x)) j i
 
 pub completing-none : (h : Shape) (m : List ℕ) (j : ℕ) → Completing h m m j j
 completing-none h m j = record { kinds = tablesOf (shapeOf h) m .kinds; spots = tablesOf (shapeOf h) m .spots; tables = refl; shifted = shifted-none (commandIn h m) j }

@@ -8,8 +8,8 @@ abbrev pub refusedWith : ℕ → Client → Answer
 refusedWith n c = record { number = n; taken = 0; kind = 0; partition = 0; level = 0; slot = 0; client = c }
 
 -- an accepted call that takes n words and sends the command of kind k to slot i of level l of partition q; one that sends none has zeros there
-abbrev pub answerOf : Client → ℕ → ℕ → ℕ → ℕ → ℕ → Answer
-answerOf c n k q l i = record { number = 0; taken = n; kind = k; partition = q; level = l; slot = i; client = c }
+abbrev pub acceptedWith : Client → ℕ → ℕ → ℕ → ℕ → ℕ → Answer
+acceptedWith c n k q l i = record { number = 0; taken = n; kind = k; partition = q; level = l; slot = i; client = c }
 
 -- the closed state, all zeros
 abbrev pub clearedClient : Client

@@ -10,7 +10,7 @@ ghost use Rattle.lists.specs.Search.{member};
 ghost use Rattle.rules.specs.Shape.{within};
 ghost use Rattle.rules.specs.Memory.{needed as neededOf};
 ghost use Rattle.memory.specs.Fits.{shapeOf};
-ghost use Rattle.contract.specs.Answers.{refusedWith, answerOf, clearedClient};
+ghost use Rattle.contract.specs.Answers.{refusedWith, acceptedWith, clearedClient};
 
 // The number, the words taken, the command sent (zeros for none), and the next state.
 pub struct Answer {
@@ -47,7 +47,7 @@ pub fn sent(
     level: usize,
     slot: usize,
 ) -> Answer
-    ensures { λ r. ⌜ r ≡ answerOf client taken kind partition level slot ⌝ }
+    ensures { λ r. ⌜ r ≡ acceptedWith client taken kind partition level slot ⌝ }
 {
     Answer {
         number: 0,
@@ -62,7 +62,7 @@ pub fn sent(
 
 // What one answers that sends none.
 pub fn accepted(client: Client, taken: usize) -> Answer
-    ensures { λ r. ⌜ r ≡ answerOf client taken 0 0 0 0 ⌝ }
+    ensures { λ r. ⌜ r ≡ acceptedWith client taken 0 0 0 0 ⌝ }
 {
     sent(client, taken, 0, 0, 0, 0)
 }
@@ -89,7 +89,7 @@ pub fn closed() -> Client
     }
 }
 
-// Whether P is 1, 2, 4, .. 64: up to 64, and its one bit is gone from the number before it.
+// Whether P is 1, 2, 4, .. 64: at most 64, and it shares no bit with P - 1, as powers of two alone do.
 fn is_power(p: usize) -> bool
     ensures { λ r. ⌜ r ≡ member p (1 ∷ 2 ∷ 4 ∷ 8 ∷ 16 ∷ 32 ∷ 64 ∷ []) ⌝ }
 {

@@ -8,9 +8,9 @@ use Rattle.rules.specs.Levels.{filled}
 use Rattle.levels.specs.declared.Spot.{Spot}
 use Rattle.levels.specs.declared.Spot.the-variants.{At, Nothing}
 
-abbrev pub spotOf : Spot → Option (ℕ × ℕ)
-spotOf (At l i) = some (l, i)
-spotOf Nothing = none
+abbrev pub foundSpot : Spot → Option (ℕ × ℕ)
+foundSpot (At l i) = some (l, i)
+foundSpot Nothing = none
 
 -- r is the first filled level from `from` on, or `levels`: what it says of the levels that are left
 pub record NextFilled (levels counter from r : ℕ) : Type 0 where

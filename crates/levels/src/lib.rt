@@ -16,7 +16,7 @@ ghost use Rattle.memory.specs.Fits.{shapeOf};
 ghost use Rattle.client.specs.View.{stateOf, foundOf};
 ghost use Rattle.client.specs.Moves.{Room, Stands};
 ghost use Rattle.levels.specs.Dummies.{freeAt, itemsFrom};
-ghost use Rattle.levels.specs.Next.{NextFilled, spotOf};
+ghost use Rattle.levels.specs.Next.{NextFilled, foundSpot};
 
 // A slot: level and number; or none.
 pub enum Spot {
@@ -99,7 +99,7 @@ pub fn dummy(c: Client, m: &[u8], q: usize, l: usize) -> Found
 // of the cursor have been gone over.
 pub fn unread(c: Client, m: &[u8], q: usize, sources: usize) -> Spot
     requires { ⌜ Room c (now m) × (q < c .shape .p) × (sources ≡ sourcesOf (shapeOf (c .shape)) (stateOf c (now m) .counter q)) × (sources ≤ c .shape .l) × (c .cursor ≤ 65536) ⌝ }
-    ensures { λ r. ⌜ spotOf r ≡ unreadOf (stateOf c (now (m .entry))) q ⌝ }
+    ensures { λ r. ⌜ foundSpot r ≡ unreadOf (stateOf c (now (m .entry))) q ⌝ }
 {
     let cursor = c.cursor;
     let from = bits::level_of(cursor);

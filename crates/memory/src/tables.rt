@@ -267,7 +267,7 @@ pub fn set_mark(h: Shape, m: &mut [u8], c: usize, v: usize)
     set(h, m, Table::Mark, c, v);
 }
 
-// Of the n slots from cell c on: the bytes of their order, of what they hold, of their marks. A loop over these has one index to go by.
+// Of the n cells from cell c on: the bytes of the items' slots, of what the slots hold, of their marks. A loop over these has one index to go by.
 pub fn order_bytes(h: Shape, m: &[u8], c: usize, n: usize) -> &[u8]
     requires { ⌜ Fits (shapeOf h) (length (now m)) × (c + n ≤ h .p * slots (h .l)) ⌝ }
     ensures { λ r. ⌜ Numbers (now r) n (λ i. tablesOf (shapeOf h) (now (m .entry)) .order (c + i)) ⌝ }

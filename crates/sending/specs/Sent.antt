@@ -33,7 +33,7 @@ use Rattle.client.specs.Moves.{atLevel, withRequest, withCursor, withSent, with
 use Rattle.tape.specs.Tape.{wordsOf}
 use Rattle.ready.specs.Usable.{Usable}
 use Rattle.contract.specs.declared.Answer.{Answer}
-use Rattle.contract.specs.Answers.{refusedWith, answerOf}
+use Rattle.contract.specs.Answers.{refusedWith, acceptedWith}
 use Rattle.contract.specs.Buffers.{filled}
 use Rattle.contract.specs.Meets.{callOf, handedTo, commandOf, Meets, meets-no, meets-yes}
 use Rattle.rebuild.specs.Target.{rebuilt, rebuild-is}
@@ -219,9 +219,9 @@ module _ (c : Client) (m tape b : List ℕ) (x : Step) (d : Due c m x) where
 
   -- a read
   pub read-meets : (e : Client) (m′ : List ℕ) (q l i : ℕ) → command x ≡ cmd 1 q l i → sends x ≡ true → possible (stateOf c m) x ≡ true → length (stepBounds x) ≡ 0
-      → Left c e m m′ (doStep x (drawn c m tape b x d) (stateOf c m)) → Meets c (stateOf c m) turn m tape b (answerOf e 0 1 q l i) m′ b
+      → Left c e m m′ (doStep x (drawn c m tape b x d) (stateOf c m)) → Meets c (stateOf c m) turn m tape b (acceptedWith e 0 1 q l i) m′ b
   unfolding firstNo
-  read-meets e m′ q l i k g p n f = accepts c m tape b x d (answerOf e 0 1 q l i) m′ b
+  read-meets e m′ q l i k g p n f = accepts c m tape b x d (acceptedWith e 0 1 q l i) m′ b
       (rw (g, k, p, n, le-leb 0 (length (wordsOf tape)) (omega arith)))
       (omega arith) refl (sym n) (sym k) f (rw k (handed-read b (doStep x (drawn c m tape b x d) (stateOf c m)) q l i))
 
@@ -241,9 +241,9 @@ module _ (c : Client) (m tape b : List ℕ) (x : Step) (d : Due c m x) where
 
     pub write-meets : (e : Client) (m′ b′ : List ℕ) (n : ℕ) → possible (stateOf c m) x ≡ true → length b ≡ c .shape .b → n ≡ length (stepBounds x) → n ≤ length (wordsOf tape)
         → Left c e m m′ (doStep x (drawn c m tape b x d) (stateOf c m)) → 1 ≤ length b′ → b′ ≡ slotBytes (stateOf e m′) (holder (stateOf e m′) q l i)
-        → Meets c (stateOf c m) turn m tape b (answerOf e n 2 q l i) m′ b′
+        → Meets c (stateOf c m) turn m tape b (acceptedWith e n 2 q l i) m′ b′
     unfolding firstNo
-    write-meets e m′ b′ n p h t w f o z = accepts c m tape b x d (answerOf e n 2 q l i) m′ b′
+    write-meets e m′ b′ n p h t w f o z = accepts c m tape b x d (acceptedWith e n 2 q l i) m′ b′
         (rw (g, k, eq-eqb (length b) (c .shape .b) h, le-leb (length (stepBounds x)) (length (wordsOf tape)) (omega arith), p))
         (omega arith) refl t (sym k) f (rw k (handed-write b b′ (doStep x (drawn c m tape b x d) (stateOf c m)) q l i o (z ∙ ap (λ s. slotBytes s (holder s q l i)) (f .stands .state))))
 

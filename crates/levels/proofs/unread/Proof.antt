@@ -7,7 +7,7 @@ use Rattle.rules.specs.Laws.Levels.{two-slots}
 use Rattle.memory.specs.Fits.{shapeOf}
 use Rattle.client.specs.View.{stateOf}
 use Rattle.levels.specs.declared.Spot.the-variants.{Nothing}
-use Rattle.levels.specs.Next.{spotOf}
+use Rattle.levels.specs.Next.{foundSpot}
 use Rattle.levels.specs.Slots.{cell-lt}
 use Rattle.levels.specs.Unread.{fromLevel, fromSlot, levels-all, levels-passed, levels-done, level-enter, level-done, slot-hit, slot-miss}
 use Rattle.levels.proofs.unread.Statement.{statement}
@@ -94,7 +94,7 @@ levels-again c =
 returns : tie.Need-returns Inv-loop μ-loop Inv-levels μ-levels
 returns c =
     let l = c .before .levels in
-    ap spotOf (l .inv .0) ∙ sym (levels-done _ _ _ (l .l) (c .levels-test .left)) ∙ l .inv .1
+    ap foundSpot (l .inv .0) ∙ sym (levels-done _ _ _ (l .l) (c .levels-test .left)) ∙ l .inv .1
 
 returns-2 : tie.Need-returns-2 Inv-loop μ-loop Inv-levels μ-levels
 returns-2 c =
