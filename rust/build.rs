@@ -10,6 +10,9 @@ use std::path::{Path, PathBuf};
 const FOLDER: &str = "RINWOLFEDD_LIB_DIR";
 const UNLINKED: &str = "RINWOLFEDD_UNLINKED";
 
+/// What the library is for.
+const TARGET: [&str; 2] = ["x86_64", "linux"];
+
 /// The folder that is asked for, from the package's if it is relative, or the
 /// repository's.
 pub(crate) fn folder(package: &Path, asked: Option<OsString>) -> PathBuf {
@@ -17,14 +20,18 @@ pub(crate) fn folder(package: &Path, asked: Option<OsString>) -> PathBuf {
     package.join(asked.unwrap_or_else(|| "../target/staticlib".into()))
 }
 
-/// What cargo is told of a library in this folder.
+/// What cargo is told of the package and a library in this folder, for this
+/// architecture and system.
 pub(crate) fn told(
+    package: &Path,
     folder: &Path,
     exists: impl Fn(&Path) -> bool,
-    may_be_missing: bool,
+    target: [&str; 2],
+    unlinked: bool,
 ) -> Vec<String> {
     let library = folder.join("librinwolfedd.a");
-    let (folder, path) = (folder.display(), library.display());
+    let (header, folder) = (package.join("c"), folder.display());
+    let path = library.display();
     let mut lines = vec![
         "rerun-if-changed=build.rs".into(),
         format!("rerun-if-changed={path}"),
@@ -32,24 +39,36 @@ pub(crate) fn told(
         format!("rerun-if-env-changed={UNLINKED}"),
         // for the test that links it from C
         format!("rustc-env=RINWOLFEDD_LIBRARY={path}"),
+        // the C header, for the build scripts of packages that depend on this one
+        format!("metadata=include={}", header.display()),
     ];
-    if exists(&library) {
+    if target != TARGET {
+        let ([wants, wants_os], [is, is_os]) = (TARGET, target);
+        lines.push(format!(
+            "error=the library is for {wants} {wants_os}, and the target is {is} {is_os}"
+        ));
+    } else if exists(&library) {
         lines.push(format!("rustc-link-search=native={folder}"));
         lines.push("rustc-link-lib=static=rinwolfedd".into());
-    } else if !may_be_missing {
+    } else {
         lines.push(format!(
             "error={path} is missing: run `scripts/library` in the repository, \
-             or set {FOLDER} to the folder that has it"
+             or set {FOLDER} to the folder that has it (an absolute path), \
+             or {UNLINKED}=1 where nothing is linked"
         ));
     }
+    lines.retain(|line| !(unlinked && line.starts_with("error=")));
     lines
 }
 
 fn main() {
+    let variable = |name| env::var(name).unwrap_or_default();
     let package = PathBuf::from(env::var_os("CARGO_MANIFEST_DIR").unwrap_or_default());
     let folder = folder(&package, env::var_os(FOLDER));
-    let may_be_missing = env::var_os(UNLINKED).is_some();
-    for line in told(&folder, Path::exists, may_be_missing) {
+    let target = ["CARGO_CFG_TARGET_ARCH", "CARGO_CFG_TARGET_OS"].map(variable);
+    let target = [&target[0][..], &target[1][..]];
+    let unlinked = env::var_os(UNLINKED).is_some();
+    for line in told(&package, &folder, Path::exists, target, unlinked) {
         println!("cargo::{line}");
     }
 }
