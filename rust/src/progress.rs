@@ -19,7 +19,7 @@ use std::io::{self, IsTerminal, Write};
 /// }
 /// ```
 #[derive(Debug)]
-pub struct Progress<W = io::Stderr> {
+pub struct Progress<W: Write = io::Stderr> {
     out: W,
     what: String,
     total: usize,
@@ -28,7 +28,9 @@ pub struct Progress<W = io::Stderr> {
     /// Written over at each percent, or a new line at each quarter.
     over: bool,
     /// The steps of it that have been shown.
-    step: Option<usize>,
+    step: Option<u128>,
+    /// Whether a line that is written over has begun and not ended.
+    begun: bool,
 }
 
 impl Progress {
@@ -54,19 +56,22 @@ impl<W: Write> Progress<W> {
             shown: true,
             over: false,
             step: None,
+            begun: false,
         }
     }
 
     /// Whether it is one line that is written over, as suits a terminal.
     #[must_use]
-    pub fn written_over(self, over: bool) -> Progress<W> {
-        Progress { over, ..self }
+    pub fn written_over(mut self, over: bool) -> Progress<W> {
+        self.over = over;
+        self
     }
 
     /// Whether it is shown at all.
     #[must_use]
-    pub fn shown(self, shown: bool) -> Progress<W> {
-        Progress { shown, ..self }
+    pub fn shown(mut self, shown: bool) -> Progress<W> {
+        self.shown = shown;
+        self
     }
 
     /// The callback of work that says how many parts are done, such as
@@ -78,7 +83,7 @@ impl<W: Write> Progress<W> {
     /// So many parts are done.
     pub fn at(&mut self, done: usize) {
         let steps = if self.over { 100 } else { 4 };
-        let step = done * steps / self.total.max(1);
+        let step = done as u128 * steps / self.total.max(1) as u128;
         if !self.shown || self.step == Some(step) {
             return;
         }
@@ -86,11 +91,21 @@ impl<W: Write> Progress<W> {
         let Progress { what, total, .. } = self;
         let line = format!("{what}: {done} of {total}");
         let end = done >= *total;
+        self.begun = self.over && !end;
         let _ = match (self.over, end) {
             (true, false) => write!(self.out, "\r{line}").and_then(|()| self.out.flush()),
             (true, true) => writeln!(self.out, "\r{line}"),
             (false, _) => writeln!(self.out, "{line}"),
         };
+    }
+}
+
+/// Work that stopped leaves no half line for the next output to go on with.
+impl<W: Write> Drop for Progress<W> {
+    fn drop(&mut self) {
+        if self.begun {
+            let _ = writeln!(self.out);
+        }
     }
 }
 
@@ -119,6 +134,34 @@ mod tests {
         assert_eq!(text.matches('\r').count(), 101);
         assert!(text.ends_with("\rstoring: 1000 of 1000\n"));
         assert_eq!(text.lines().count(), 1);
+    }
+
+    #[test]
+    fn a_line_ends_where_the_work_stops() {
+        for (over, wanted) in [
+            (true, "\rstoring: 1 of 40\n"),
+            (false, "storing: 1 of 40\n"),
+        ] {
+            let mut out = Vec::new();
+            let mut progress = Progress::new(&mut out, "storing", 40).written_over(over);
+            progress.at(1);
+            drop(progress);
+            assert_eq!(String::from_utf8(out).unwrap(), wanted);
+        }
+        let mut out = Vec::new();
+        drop(Progress::new(&mut out, "storing", 40).written_over(true));
+        assert!(out.is_empty(), "nothing was begun");
+    }
+
+    #[test]
+    fn parts_as_many_as_can_be_counted() {
+        let mut out = Vec::new();
+        let mut progress = Progress::new(&mut out, "storing", usize::MAX);
+        for done in [1, usize::MAX / 2 + 1, usize::MAX] {
+            progress.at(done);
+        }
+        drop(progress);
+        assert_eq!(String::from_utf8(out).unwrap().lines().count(), 3);
     }
 
     #[test]

@@ -5,7 +5,7 @@ use rinwolfedd::calls::Answer;
 use rinwolfedd::{Command, Error, FileHost, Host, Kind, MemoryHost, Progress};
 use rinwolfedd::{Reader, Recorded, Refusal, Request, Shape, Store, Tape};
 use std::fs::File;
-use std::io;
+use std::io::{self, Write};
 
 /// Each is a compile error for a type that is not.
 const fn send<T: Send>() {}
@@ -37,6 +37,10 @@ fn as_their_parts<S: Send, Y: Sync>() {
     sync::<Reader<Y, Y>>();
     send::<Recorded<S>>();
     sync::<Recorded<Y>>();
+}
+
+#[allow(dead_code)] // to compile is enough
+fn as_its_output<S: Send + Write, Y: Sync + Write>() {
     send::<Progress<S>>();
     sync::<Progress<Y>>();
 }
