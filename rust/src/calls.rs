@@ -2,36 +2,34 @@
 //! asked of the caller: each value of each number is answered.
 //!
 //! ```
-//! use rinwolfedd::Shape;
 //! use rinwolfedd::calls::{self, STATE, WRITE};
 //!
-//! let shape = Shape::from_numbers(1, 1, 1, 1, 1, 1); // N P L B E W
+//! let numbers = [1; 6]; // N P L B E W; only E = N hides the block
 //! let mut state = [0; STATE];
-//! let mut memory = vec![0; shape.needed().unwrap_or(0)];
+//! let mut memory = vec![0; 416]; // as the shape needs (docs/MEMORY.md)
 //! let mut tape = &[0; 6][..]; // three words; a tape that hides is random
 //!
-//! let answer = calls::open(&mut state, &mut memory, shape, tape);
+//! let answer = calls::open(&mut state, &mut memory, numbers, tape);
 //! assert_eq!((answer.number(), answer.taken()), (0, 1));
 //! tape = &tape[2 * usize::from(answer.taken())..];
 //!
-//! let answer = calls::request(&mut state, &mut memory, WRITE.into(), 0, &[7], tape);
+//! let answer = calls::request(&mut state, &mut memory, WRITE, 0, &[7], tape);
 //! assert_eq!((answer.number(), answer.taken()), (0, 2));
-//! let answer = calls::request(&mut state, &mut memory, WRITE.into(), 0, &[7], tape);
+//! let answer = calls::request(&mut state, &mut memory, WRITE, 0, &[7], tape);
 //! assert_eq!(answer.number(), 4); // a request is in hand
 //! ```
 
 use crate::command::{Command, Kind};
 use crate::refusal::Refusal;
-use crate::shape::Shape;
 use std::fmt;
 
 /// The bytes of a client's state.
 pub const STATE: usize = 64;
 
 /// The kind of a read.
-pub const READ: u8 = Kind::Read.number();
+pub const READ: usize = Kind::Read.number() as usize;
 /// The kind of a write.
-pub const WRITE: u8 = Kind::Write.number();
+pub const WRITE: usize = Kind::Write.number() as usize;
 
 /// What a call reports, in the 64 bits that the library answers.
 #[derive(Clone, Copy, PartialEq, Eq)]
@@ -79,14 +77,17 @@ impl Answer {
     ///
     /// # Errors
     ///
-    /// The [`Refusal`] with the number, unless it is 0. Every number is at most
-    /// 15 (theorem `number-le`), so nothing else comes to
-    /// [`Refusal::NotReady`].
+    /// The [`Refusal`] with the number, unless it is 0.
+    ///
+    /// # Panics
+    ///
+    /// If the number is above 15, which a call of the proved library never
+    /// answers (theorem `number-le`): another library is linked.
     #[inline]
     pub fn accepted(self) -> Result<(), Refusal> {
         match self.number() {
             0 => Ok(()),
-            number => Err(Refusal::try_from(number).unwrap_or(Refusal::NotReady)),
+            number => Err(Refusal::try_from(number).expect("the library is the proved one")),
         }
     }
 }
@@ -162,23 +163,29 @@ mod raw {
     }
 }
 
-/// Opens a store. The tape is pairs of bytes, low byte first; N words are taken.
+/// Opens a store of six numbers in the document's order, N P L B E W
+/// ([`Shape::numbers`](crate::Shape::numbers)). The tape is pairs of bytes, low
+/// byte first; N words are taken.
 #[inline]
-pub fn open(state: &mut [u8], memory: &mut [u8], shape: Shape, tape: &[u8]) -> Answer {
-    // Safety: each pointer comes from a slice with its length, and the proved
-    // call touches nothing outside of them.
+pub fn open(state: &mut [u8], memory: &mut [u8], numbers: [usize; 6], tape: &[u8]) -> Answer {
+    let [n, p, l, b, e, w] = numbers;
+    // Safety: the linked library is taken to be the proved one. Each pointer
+    // comes from a slice, with its length, and is not null even for an empty
+    // one. Slices that the call changes come from `&mut`, so they overlap no
+    // other; those that are shared it only reads. It touches nothing outside of
+    // them, keeps no pointer after it returns, and does not unwind.
     Answer(unsafe {
         raw::rinwolfedd_open(
             state.as_mut_ptr(),
             state.len(),
             memory.as_mut_ptr(),
             memory.len(),
-            shape.blocks(),
-            shape.partitions(),
-            shape.levels(),
-            shape.bytes(),
-            shape.places(),
-            shape.window(),
+            n,
+            p,
+            l,
+            b,
+            e,
+            w,
             tape.as_ptr(),
             tape.len(),
         )
@@ -302,5 +309,11 @@ mod tests {
         assert_eq!(Answer(8).accepted(), Err(Refusal::CacheFull));
         assert_eq!(Answer(15).accepted(), Err(Refusal::BufferLength));
         assert_eq!((Answer(8).taken(), Answer(8).command()), (0, None));
+    }
+
+    #[test]
+    #[should_panic(expected = "the library is the proved one: UnknownNumber(16)")]
+    fn a_number_that_no_call_answers_is_not_lost() {
+        let _ = Answer(16).accepted();
     }
 }

@@ -1,5 +1,6 @@
 //! What the host is asked to do.
 
+use crate::refusal::UnknownNumber;
 use crate::shape::Shape;
 use std::fmt;
 
@@ -23,21 +24,23 @@ impl Kind {
 }
 
 impl TryFrom<u8> for Kind {
-    type Error = u8;
+    type Error = UnknownNumber;
 
-    /// The kind with this number; others than 1 and 2 are handed back.
+    /// The kind with this number, 1 or 2.
     #[inline]
-    fn try_from(number: u8) -> Result<Kind, u8> {
+    fn try_from(number: u8) -> Result<Kind, UnknownNumber> {
         match number {
             1 => Ok(Kind::Read),
             2 => Ok(Kind::Write),
-            _ => Err(number),
+            _ => Err(UnknownNumber::new(number)),
         }
     }
 }
 
 /// One command for the host: to read or write one slot of a level of a
-/// partition. It is all that the host learns; it prints as `r 3 0 1`.
+/// partition. It prints as `r 3 0 1`. Commands are all that the host learns but
+/// for the bytes beside them, which hide nothing until they are
+/// [sealed](crate::Host#sealing).
 #[derive(Clone, Copy, Debug, PartialEq, Eq, Hash, PartialOrd, Ord)]
 pub struct Command {
     /// Read or write.
@@ -56,9 +59,16 @@ impl Command {
     /// slot.
     #[must_use]
     pub fn index(&self, shape: Shape) -> Option<usize> {
+        let within = shape.is_within_bounds();
+        within.then(|| self.index_within(shape)).flatten()
+    }
+
+    /// The index in a shape that is known to be within bounds: to ask costs a
+    /// call, which a host would make at each command.
+    pub(crate) fn index_within(&self, shape: Shape) -> Option<usize> {
         let (partition, level) = (usize::from(self.partition), usize::from(self.level));
         let slot = usize::from(self.slot);
-        if !shape.is_within_bounds() || partition >= shape.partitions() || level >= shape.levels() {
+        if partition >= shape.partitions() || level >= shape.levels() {
             return None;
         }
         let first = (2 << level) - 2; // the slots of the levels below
@@ -92,7 +102,7 @@ mod tests {
         for number in 0..=255 {
             match Kind::try_from(number) {
                 Ok(kind) => assert_eq!(kind.number(), number),
-                Err(other) => assert!(other == number && ![1, 2].contains(&number)),
+                Err(other) => assert!(other.number() == number && ![1, 2].contains(&number)),
             }
         }
         assert_eq!(Kind::try_from(1), Ok(Kind::Read));
@@ -111,11 +121,26 @@ mod tests {
                         slot,
                     };
                     let exists = partition < 2 && level < 3 && slot < 2 << level;
-                    assert_eq!(command.index(SHAPE), exists.then_some(next), "{command}");
+                    let wanted = exists.then_some(next);
+                    assert_eq!(command.index(SHAPE), wanted, "{command}");
+                    assert_eq!(command.index_within(SHAPE), wanted, "{command}");
                     next += usize::from(exists);
                 }
             }
         }
         assert_eq!(SHAPE.slots(), Some(next));
+    }
+
+    #[test]
+    fn a_shape_out_of_bounds_has_no_index() {
+        let command = Command {
+            kind: Kind::Read,
+            partition: 0,
+            level: 0,
+            slot: 0,
+        };
+        for shape in [Shape::new(8, 3, 3, 1), Shape::new(8, 2, usize::MAX, 1)] {
+            assert_eq!(command.index(shape), None);
+        }
     }
 }

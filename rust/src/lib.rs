@@ -58,7 +58,7 @@ pub use host::{Host, Recorded};
 pub use memory_host::MemoryHost;
 pub use progress::Progress;
 pub use reader::{Error, Reader};
-pub use refusal::Refusal;
+pub use refusal::{Refusal, UnknownNumber};
 pub use shape::Shape;
 pub use store::{Request, Store};
 pub use tape::Tape;

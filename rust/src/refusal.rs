@@ -11,7 +11,8 @@ use std::fmt;
 pub enum Refusal {
     /// Open: is the shape within bounds?
     ShapeOutOfBounds = 1,
-    /// Is the memory long enough, is each number of the state in its range?
+    /// Is the memory long enough, is each number of the state, and the kind, in
+    /// its range? In a closed state they are not.
     NotReady = 2,
     /// Are enough words of the tape left?
     TooFewWords = 3,
@@ -19,11 +20,12 @@ pub enum Refusal {
     RequestInHand = 4,
     /// Request: is the block below N?
     NoSuchBlock = 5,
-    /// Request: has a write contents of B bytes?
+    /// Request: has a write contents of B bytes, and a read none?
     ContentsLength = 6,
     /// Request: are at most 62 jobs queued?
     QueueFull = 7,
-    /// Request: has the eviction cache a place for the block?
+    /// Request: has the eviction cache a place for the block, or does the block
+    /// wait there?
     CacheFull = 8,
     /// Turn: are fewer than W commands outstanding?
     WindowFull = 9,
@@ -37,7 +39,7 @@ pub enum Refusal {
     NoRequest = 13,
     /// Collect: is the request finished?
     NotFinished = 14,
-    /// Has the buffer B bytes?
+    /// Turn that writes, collect: has the buffer B bytes?
     BufferLength = 15,
 }
 
@@ -70,17 +72,19 @@ impl Refusal {
     fn text(self) -> &'static str {
         match self {
             Refusal::ShapeOutOfBounds => "the shape is out of bounds",
-            Refusal::NotReady => "the store is closed, or a number of its state is out of range",
+            Refusal::NotReady => {
+                "the memory is too short, or a number of the state or the kind is out of its range"
+            }
             Refusal::TooFewWords => "too few random words are left",
             Refusal::RequestInHand => "a request is in hand",
             Refusal::NoSuchBlock => "there is no such block",
-            Refusal::ContentsLength => "the contents are not as long as a block",
+            Refusal::ContentsLength => "a write has a block's bytes for contents, a read none",
             Refusal::QueueFull => "the queue of jobs is full",
             Refusal::CacheFull => "the eviction cache is full",
             Refusal::WindowFull => "as many commands are outstanding as may be",
             Refusal::NothingToSend => "there is no command to send",
             Refusal::NotOutstanding => "no such command is outstanding",
-            Refusal::CompletionLength => "the completed bytes are not as long as a block",
+            Refusal::CompletionLength => "a read completes with a block's bytes, a write with none",
             Refusal::NoRequest => "no request is in hand",
             Refusal::NotFinished => "the request is not finished",
             Refusal::BufferLength => "the buffer is not as long as a block",
@@ -90,21 +94,47 @@ impl Refusal {
 
 impl fmt::Display for Refusal {
     fn fmt(&self, f: &mut fmt::Formatter<'_>) -> fmt::Result {
-        write!(f, "{} (number {})", self.text(), self.number())
+        write!(f, "refusal {}: {}", self.number(), self.text())
     }
 }
 
 impl std::error::Error for Refusal {}
 
 impl TryFrom<u8> for Refusal {
-    type Error = u8;
+    type Error = UnknownNumber;
 
-    /// The refusal with this number; 0 and numbers above 15 are handed back.
-    fn try_from(number: u8) -> Result<Refusal, u8> {
+    /// The refusal with this number, 1 to 15.
+    fn try_from(number: u8) -> Result<Refusal, UnknownNumber> {
         let index = usize::from(number).wrapping_sub(1);
-        Refusal::ALL.get(index).copied().ok_or(number)
+        let refusal = Refusal::ALL.get(index).copied();
+        refusal.ok_or(UnknownNumber::new(number))
     }
 }
+
+/// A number that is none of those asked for: of no [`Refusal`], or of no
+/// [`Kind`](crate::Kind).
+#[derive(Clone, Copy, Debug, PartialEq, Eq, Hash)]
+pub struct UnknownNumber(u8);
+
+impl UnknownNumber {
+    pub(crate) const fn new(number: u8) -> UnknownNumber {
+        UnknownNumber(number)
+    }
+
+    /// The number.
+    #[must_use]
+    pub const fn number(self) -> u8 {
+        self.0
+    }
+}
+
+impl fmt::Display for UnknownNumber {
+    fn fmt(&self, f: &mut fmt::Formatter<'_>) -> fmt::Result {
+        write!(f, "nothing has the number {}", self.0)
+    }
+}
+
+impl std::error::Error for UnknownNumber {}
 
 #[cfg(test)]
 mod tests {
@@ -115,7 +145,13 @@ mod tests {
         for number in 0..=255 {
             match Refusal::try_from(number) {
                 Ok(refusal) => assert_eq!(refusal.number(), number),
-                Err(other) => assert!(other == number && !(1..=15).contains(&number)),
+                Err(other) => {
+                    assert!(other.number() == number && !(1..=15).contains(&number));
+                    assert_eq!(
+                        other.to_string(),
+                        format!("nothing has the number {number}")
+                    );
+                }
             }
         }
         assert_eq!(Refusal::try_from(8), Ok(Refusal::CacheFull));
@@ -124,7 +160,14 @@ mod tests {
 
     #[test]
     fn a_refusal_says_its_number() {
-        let text = Refusal::CacheFull.to_string();
-        assert_eq!(text, "the eviction cache is full (number 8)");
+        for refusal in Refusal::ALL {
+            let (text, number) = (refusal.to_string(), refusal.number());
+            let said = text.strip_prefix(&format!("refusal {number}: "));
+            assert!(said.is_some_and(|said| !said.is_empty()), "{text}");
+        }
+        let text = Refusal::NoSuchBlock.to_string();
+        assert_eq!(text, "refusal 5: there is no such block");
+        let text = Refusal::CompletionLength.to_string();
+        assert!(text.ends_with("a read completes with a block's bytes, a write with none"));
     }
 }

@@ -72,20 +72,13 @@ impl Shape {
     /// (E = N), and W = 32.
     #[must_use]
     pub const fn new(blocks: usize, partitions: usize, levels: usize, bytes: usize) -> Shape {
-        Shape::from_numbers(blocks, partitions, levels, bytes, blocks, WINDOW)
-    }
-
-    /// Six numbers in the document's order, N P L B E W, of which nothing is
-    /// asked: for the calls of [`calls`], which answer every number.
-    #[must_use]
-    pub const fn from_numbers(n: usize, p: usize, l: usize, b: usize, e: usize, w: usize) -> Shape {
         Shape {
-            blocks: n,
-            partitions: p,
-            levels: l,
-            bytes: b,
-            places: e,
-            window: w,
+            blocks,
+            partitions,
+            levels,
+            bytes,
+            places: blocks,
+            window: WINDOW,
         }
     }
 
@@ -109,6 +102,7 @@ impl Shape {
     /// let hiding = Shape::hiding(1024, 256)?;
     /// let shape = hiding.with_smaller_cache(200);
     /// assert_eq!((shape.blocks(), shape.places()), (1024, 200));
+    /// assert!(hiding.hides() && !shape.hides());
     /// assert_eq!(shape.needed(), hiding.needed());
     /// # Ok::<(), rinwolfedd::Refusal>(())
     /// ```
@@ -153,12 +147,33 @@ impl Shape {
         self.window
     }
 
+    /// The six numbers in the document's order, N P L B E W, as
+    /// [`calls::open`] takes them.
+    #[must_use]
+    pub const fn numbers(&self) -> [usize; 6] {
+        [
+            self.blocks,
+            self.partitions,
+            self.levels,
+            self.bytes,
+            self.places,
+            self.window,
+        ]
+    }
+
+    /// Whether the commands hide the block over every list of look-ups: the
+    /// cache has a place for every block (E = N).
+    #[must_use]
+    pub const fn hides(&self) -> bool {
+        self.places == self.blocks
+    }
+
     /// Whether the shape is within bounds. The bounds stand in the proved open
     /// alone: it asks for them first, and then for memory, of which none is
     /// lent here.
     #[must_use]
     pub fn is_within_bounds(&self) -> bool {
-        calls::open(&mut [0; STATE], &mut [], *self, &[]).number() != 1
+        calls::open(&mut [0; STATE], &mut [], self.numbers(), &[]).number() != 1
     }
 
     /// The slots that a host keeps for the store, P × (2^(L+1) − 2), or none
@@ -170,14 +185,13 @@ impl Shape {
     }
 
     /// The bytes of memory that the shape needs (docs/MEMORY.md), or none for
-    /// numbers far out of bounds.
+    /// a shape out of bounds.
     #[must_use]
     pub fn needed(&self) -> Option<usize> {
-        let levels = u32::try_from(self.levels).ok()?.checked_add(1)?;
-        let cells = 2usize.checked_pow(levels)?.checked_mul(self.partitions)?;
-        let tables = self.blocks.checked_add(cells)?.checked_mul(6)?;
-        let contents = self.blocks.checked_add(1)?.checked_mul(self.bytes)?;
-        tables.checked_add(contents)?.checked_add(384)
+        self.is_within_bounds().then(|| {
+            let cells = self.partitions * (2 << self.levels);
+            384 + 6 * (self.blocks + cells) + (self.blocks + 1) * self.bytes
+        })
     }
 }
 
@@ -189,8 +203,13 @@ impl fmt::Display for Shape {
     }
 }
 
-/// The fields are out of reach, so that a smaller cache has a name wherever it
-/// is asked for. Of these two programs only the second compiles.
+/// The fields are out of reach, and no constructor takes E, so that a smaller
+/// cache has a name wherever it is asked for. Of these programs only the last
+/// compiles.
+///
+/// ```compile_fail
+/// let shape = rinwolfedd::Shape::from_numbers(64, 8, 5, 8, 8, 32);
+/// ```
 ///
 /// ```compile_fail
 /// let mut shape = rinwolfedd::Shape::new(64, 8, 5, 8);
@@ -200,7 +219,7 @@ impl fmt::Display for Shape {
 /// ```
 /// let mut shape = rinwolfedd::Shape::new(64, 8, 5, 8);
 /// shape = shape.with_smaller_cache(8);
-/// # assert_eq!(shape.places(), 8);
+/// # assert_eq!((shape.places(), shape.hides()), (8, false));
 /// ```
 #[cfg(doctest)]
 struct OutOfReach;

@@ -8,7 +8,7 @@ use crate::tape::Tape;
 use std::fmt;
 
 /// What is asked for.
-#[derive(Clone, Copy, Debug, PartialEq, Eq)]
+#[derive(Clone, Copy, PartialEq, Eq)]
 pub enum Request<'a> {
     /// The contents of a block.
     Read {
@@ -22,6 +22,17 @@ pub enum Request<'a> {
         /// B bytes.
         contents: &'a [u8],
     },
+}
+
+/// Neither the block nor the contents, so that no log has them.
+impl fmt::Debug for Request<'_> {
+    fn fmt(&self, f: &mut fmt::Formatter<'_>) -> fmt::Result {
+        let name = match self {
+            Request::Read { .. } => "Read",
+            Request::Write { .. } => "Write",
+        };
+        f.debug_struct(name).finish_non_exhaustive()
+    }
 }
 
 /// The client of one store: its state, and the memory and the buffer that its
@@ -74,16 +85,15 @@ impl Store {
     /// [`Refusal::ShapeOutOfBounds`], or [`Refusal::TooFewWords`] for a tape
     /// with fewer than N.
     pub fn open(shape: Shape, tape: &mut Tape<'_>) -> Result<Store, Refusal> {
-        // A shape out of bounds is refused whatever it is lent.
-        let within = shape.is_within_bounds();
-        let memory = shape.needed().filter(|_| within).unwrap_or(0);
+        let memory = shape.needed().ok_or(Refusal::ShapeOutOfBounds)?;
         let mut store = Store {
             shape,
             state: [0; STATE],
             memory: vec![0; memory],
-            buffer: vec![0; if within { shape.bytes() } else { 0 }],
+            buffer: vec![0; shape.bytes()],
         };
-        let answer = calls::open(&mut store.state, &mut store.memory, shape, tape.rest());
+        let (state, memory) = (&mut store.state, &mut store.memory);
+        let answer = calls::open(state, memory, shape.numbers(), tape.rest());
         answer.accepted()?;
         tape.take(answer.taken());
         Ok(store)
@@ -109,14 +119,16 @@ impl Store {
             Request::Write { block, contents } => (calls::WRITE, block, contents),
         };
         let (state, memory) = (&mut self.state, &mut self.memory);
-        let answer = calls::request(state, memory, kind.into(), block, contents, tape.rest());
+        let answer = calls::request(state, memory, kind, block, contents, tape.rest());
         answer.accepted()?;
         tape.take(answer.taken());
         Ok(())
     }
 
     /// Sends one command, with the bytes of a write; those of a read are
-    /// empty. A turn that draws an order takes up to 255 words.
+    /// empty. A turn that draws an order takes up to 255 words. The bytes are
+    /// those of a block, or zeros: whoever seals them seals all of them, each
+    /// time anew ([`Host`](crate::Host#sealing)).
     ///
     /// # Errors
     ///
@@ -127,8 +139,7 @@ impl Store {
         let answer = calls::turn(state, memory, tape.rest(), &mut self.buffer);
         answer.accepted()?;
         tape.take(answer.taken());
-        // an accepted turn has sent one
-        let command = answer.command().ok_or(Refusal::NotReady)?;
+        let command = answer.command().expect("an accepted turn has sent one");
         let bytes = match command.kind {
             Kind::Read => &[],
             Kind::Write => &self.buffer[..],

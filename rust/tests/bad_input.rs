@@ -16,7 +16,7 @@ const LENGTH: u64 = 112;
 const OUT_OF_BOUNDS: Shape = Shape::new(8, 3, 3, 4);
 
 const FAR: usize = usize::MAX;
-const FAR_OUT: Shape = Shape::from_numbers(FAR, FAR, FAR, FAR, FAR, FAR);
+const FAR_OUT: Shape = Shape::new(FAR, FAR, FAR, FAR).with_window(FAR);
 
 /// A folder of its own, removed in the end.
 struct Folder(PathBuf);

@@ -66,11 +66,11 @@ impl Lending {
         };
         match which {
             0 => {
-                let shape = match rng.chance(30) {
-                    true => Shape::from_numbers(3, number(rng), 2, 4, number(rng), 2),
-                    false => SHAPE,
+                let numbers = match rng.chance(30) {
+                    true => [3, number(rng), 2, 4, number(rng), 2],
+                    false => SHAPE.numbers(),
                 };
-                calls::open(state, memory, shape, &tape)
+                calls::open(state, memory, numbers, &tape)
             }
             1 => calls::request(state, memory, number(rng), number(rng), &contents, &tape),
             2 => calls::turn(state, memory, &tape, self.buffer.lend()),

@@ -4,6 +4,7 @@
 use rinwolfedd::calls::Answer;
 use rinwolfedd::{Command, Error, FileHost, Host, Kind, MemoryHost, Progress};
 use rinwolfedd::{Reader, Recorded, Refusal, Request, Shape, Store, Tape};
+use rinwolfedd::{UnknownNumber, calls};
 use std::fs::File;
 use std::io::{self, Write};
 
@@ -14,6 +15,7 @@ const fn both<T: Send + Sync>() {}
 
 const _: () = {
     both::<Shape>();
+    both::<UnknownNumber>();
     both::<Command>();
     both::<Kind>();
     both::<Answer>();
@@ -96,7 +98,7 @@ fn errors_have_sources() {
     let refused = Error::from(Refusal::NoSuchBlock);
     assert_eq!(
         refused.to_string(),
-        "refused: there is no such block (number 5)"
+        "refused: refusal 5: there is no such block"
     );
     let source = refused.source().unwrap().downcast_ref::<Refusal>();
     assert_eq!(source, Some(&Refusal::NoSuchBlock));
@@ -104,6 +106,18 @@ fn errors_have_sources() {
     assert_eq!(host.to_string(), "the host: the wire is cut");
     assert!(host.source().unwrap().is::<io::Error>());
     assert!(Error::Unfinished.source().is_none());
+}
+
+/// A number without a name is an error like any other.
+#[test]
+fn numbers_without_a_name() {
+    let kind: Result<Kind, Box<dyn std::error::Error>> = Kind::try_from(3).map_err(Into::into);
+    assert_eq!(kind.unwrap_err().to_string(), "nothing has the number 3");
+    assert_eq!(
+        Refusal::try_from(16).map_err(UnknownNumber::number),
+        Err(16)
+    );
+    assert_eq!([calls::READ, calls::WRITE], [1, 2]);
 }
 
 /// The host below one that notes commands, as it is and given back.

@@ -4,8 +4,8 @@
 use rinwolfedd::{MemoryHost, Reader, Refusal, Shape};
 
 fn in_bounds_by_the_plain_rules(h: Shape) -> bool {
-    let (n, p, l, b) = (h.blocks(), h.partitions(), h.levels(), h.bytes());
-    plain::shape::Shape::new(n, p, l, b, h.places(), h.window()).in_bounds()
+    let [n, p, l, b, e, w] = h.numbers();
+    plain::shape::Shape::new(n, p, l, b, e, w).in_bounds()
 }
 
 #[test]
@@ -53,31 +53,64 @@ fn a_hiding_store_holds_every_block() {
     }
 }
 
-fn numbers(h: Shape) -> [usize; 6] {
-    [
-        h.blocks(),
-        h.partitions(),
-        h.levels(),
-        h.bytes(),
-        h.places(),
-        h.window(),
-    ]
-}
-
 #[test]
 fn each_constructor_keeps_its_numbers() {
     let shape = Shape::new(64, 4, 5, 8);
-    assert_eq!(numbers(shape), [64, 4, 5, 8, 64, 32]);
-    assert_eq!(numbers(shape.with_window(7)), [64, 4, 5, 8, 64, 7]);
+    assert_eq!(shape.numbers(), [64, 4, 5, 8, 64, 32]);
+    assert_eq!(shape.with_window(7).numbers(), [64, 4, 5, 8, 64, 7]);
     let small = shape.with_window(7).with_smaller_cache(9);
-    assert_eq!(numbers(small), [64, 4, 5, 8, 9, 7]);
-    assert_eq!(small, Shape::from_numbers(64, 4, 5, 8, 9, 7));
+    assert_eq!(small.numbers(), [64, 4, 5, 8, 9, 7]);
+    let (n, p, l, b) = (
+        small.blocks(),
+        small.partitions(),
+        small.levels(),
+        small.bytes(),
+    );
     assert_eq!(
-        numbers(Shape::from_numbers(1, 2, 3, 4, 5, 6)),
-        [1, 2, 3, 4, 5, 6]
+        small.numbers(),
+        [n, p, l, b, small.places(), small.window()]
     );
     assert!(small.is_within_bounds());
     assert!(!shape.with_window(33).is_within_bounds());
     assert!(!shape.with_smaller_cache(0).is_within_bounds());
     assert!(!shape.with_smaller_cache(65).is_within_bounds());
+}
+
+/// Only a shape whose cache has a place for every block hides; one with fewer
+/// has been asked for by name.
+#[test]
+fn only_a_place_for_every_block_hides() {
+    let shape = Shape::new(64, 4, 5, 8);
+    assert!(shape.hides() && shape.with_window(1).hides());
+    assert!(Shape::hiding(1000, 8).unwrap().hides());
+    assert!(!shape.with_smaller_cache(63).hides());
+    assert!(shape.with_smaller_cache(63).with_smaller_cache(64).hides());
+}
+
+/// The memory needed is that of the formula within bounds, and none elsewhere,
+/// as the slots are.
+#[test]
+fn only_a_shape_within_bounds_needs_memory() {
+    assert_eq!(Shape::new(1, 1, 1, 1).needed(), Some(416));
+    assert_eq!(Shape::new(64, 4, 5, 64).needed(), Some(6464));
+    let mut within = 0;
+    for (n, p, l) in (0..10).flat_map(|n| (0..5).flat_map(move |p| (0..10).map(move |l| (n, p, l))))
+    {
+        for (e, w, b) in [
+            (n, 32, 4),
+            (1, 1, 512),
+            (n + 1, 1, 1),
+            (n, 33, 1),
+            (n, 1, 0),
+        ] {
+            let shape = Shape::new(n, p, l, b).with_window(w).with_smaller_cache(e);
+            let there = in_bounds_by_the_plain_rules(shape);
+            assert_eq!(shape.needed().is_some(), there, "{shape}");
+            assert_eq!(shape.slots().is_some(), there, "{shape}");
+            within += usize::from(there);
+        }
+    }
+    assert!(within > 100);
+    let far = usize::MAX;
+    assert_eq!(Shape::new(far, far, far, far).needed(), None);
 }

@@ -5,12 +5,8 @@ use rinwolfedd::Shape;
 use rinwolfedd::calls::{self, READ, STATE, WRITE};
 
 /// N, P, L, B, E and W of the store.
-const NUMBERS: [usize; 6] = [8, 2, 3, 4, 8, 4];
-
-fn shape(numbers: [usize; 6]) -> Shape {
-    let [n, p, l, b, e, w] = numbers;
-    Shape::from_numbers(n, p, l, b, e, w)
-}
+const SHAPE: Shape = Shape::new(8, 2, 3, 4).with_window(4);
+const NUMBERS: [usize; 6] = SHAPE.numbers();
 
 /// Numbers that agree with a small one in their low 8, 16 or 32 bits.
 fn wide(small: usize) -> [usize; 5] {
@@ -18,10 +14,9 @@ fn wide(small: usize) -> [usize; 5] {
 }
 
 fn opened() -> ([u8; STATE], Vec<u8>) {
-    let shape = shape(NUMBERS);
     let mut state = [0; STATE];
-    let mut memory = vec![0; shape.needed().expect("a shape within bounds")];
-    let answer = calls::open(&mut state, &mut memory, shape, &[0; 16]);
+    let mut memory = vec![0; SHAPE.needed().expect("a shape within bounds")];
+    let answer = calls::open(&mut state, &mut memory, NUMBERS, &[0; 16]);
     assert_eq!(answer.number(), 0);
     (state, memory)
 }
@@ -33,13 +28,9 @@ fn requests() {
     let mut number =
         |kind, block| calls::request(&mut state, &mut memory, kind, block, &[], &[0; 4]).number();
     for block in wide(3) {
-        assert_eq!(number(READ.into(), block), 5, "block {block}");
+        assert_eq!(number(READ, block), 5, "block {block}");
     }
-    for kind in [0, 3, 9]
-        .into_iter()
-        .chain(wide(READ.into()))
-        .chain(wide(WRITE.into()))
-    {
+    for kind in [0, 3, 9].into_iter().chain(wide(READ)).chain(wide(WRITE)) {
         assert_eq!(number(kind, 3), 2, "kind {kind}");
     }
     assert_eq!((state, memory), before);
@@ -49,7 +40,7 @@ fn requests() {
 fn completions() {
     let (mut state, mut memory) = opened();
     // a request, collected at once, queues two jobs; the first writes two slots of level 0
-    let asked = calls::request(&mut state, &mut memory, READ.into(), 3, &[], &[0; 4]);
+    let asked = calls::request(&mut state, &mut memory, READ, 3, &[], &[0; 4]);
     let collected = calls::collect(&mut state, &mut memory, &mut [0; 4]);
     let sent = calls::turn(&mut state, &mut memory, &[0; 2], &mut [0; 4]);
     assert_eq!([asked.number(), collected.number(), sent.number()], [0; 3]);
@@ -60,10 +51,10 @@ fn completions() {
         for value in wide(0) {
             let mut slot = [0; 3];
             slot[place] = value;
-            assert_eq!(number(WRITE.into(), slot), 11, "slot {slot:?}");
+            assert_eq!(number(WRITE, slot), 11, "slot {slot:?}");
         }
     }
-    for kind in wide(WRITE.into()) {
+    for kind in wide(WRITE) {
         assert_eq!(number(kind, [0; 3]), 2, "kind {kind}");
     }
     assert_eq!((state, memory), before);
@@ -76,7 +67,7 @@ fn opens() {
             let mut numbers = NUMBERS;
             numbers[place] = value;
             let mut state = [1; STATE];
-            let answer = calls::open(&mut state, &mut [0; 4096], shape(numbers), &[0; 16]);
+            let answer = calls::open(&mut state, &mut [0; 4096], numbers, &[0; 16]);
             assert_eq!((answer.number(), state), (1, [0; STATE]), "{numbers:?}");
         }
     }

@@ -40,7 +40,7 @@ impl Client for Proved {
             memory: vec![0; shape.needed()],
         };
         let (state, memory) = (&mut proved.state, &mut proved.memory);
-        let answer = calls::open(state, memory, convert::shape(shape), tape(words));
+        let answer = calls::open(state, memory, convert::numbers(shape), tape(words));
         match answer.number() {
             0 => Ok(proved),
             number => Err(number),

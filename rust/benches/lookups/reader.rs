@@ -2,11 +2,17 @@
 //! and W commands outstanding: microseconds each, with a host in memory and
 //! with one in a file.
 
-use crate::convert;
 use plain::rng::Rng;
 use plain::shape::Shape;
 use rinwolfedd::{Error, FileHost, Host, MemoryHost, Reader};
 use std::time::Instant;
+
+/// The shape as readers and hosts take it.
+fn linked(h: Shape) -> rinwolfedd::Shape {
+    rinwolfedd::Shape::new(h.blocks, h.partitions, h.levels, h.bytes)
+        .with_smaller_cache(h.places)
+        .with_window(h.window)
+}
 
 /// Microseconds of a look-up.
 pub struct Look {
@@ -20,7 +26,7 @@ pub struct Look {
 fn time(shape: Shape, host: impl Host) -> Result<f64, Error> {
     const PARTS: usize = 8;
     const LOOK_UPS: usize = 256;
-    let mut reader = Reader::open(convert::shape(shape), host)?;
+    let mut reader = Reader::open(linked(shape), host)?;
     let contents = vec![1; shape.bytes];
     reader.write_all((0..shape.blocks).map(|_| &contents))?;
     let mut rng = Rng::new(1);
@@ -36,11 +42,10 @@ fn time(shape: Shape, host: impl Host) -> Result<f64, Error> {
 }
 
 pub fn look(shape: Shape) -> Result<Look, Error> {
-    let linked = convert::shape(shape);
-    let memory = time(shape, MemoryHost::new(linked, 1)?)?;
+    let memory = time(shape, MemoryHost::new(linked(shape), 1)?)?;
     let name = format!("rinwolfedd-bench-{}", std::process::id());
     let path = std::env::temp_dir().join(name);
-    let host = FileHost::create(&path, linked).map_err(Error::Host)?;
+    let host = FileHost::create(&path, linked(shape)).map_err(Error::Host)?;
     let file = time(shape, host);
     let _ = std::fs::remove_file(&path);
     Ok(Look {

@@ -2,16 +2,16 @@
 
 use plain::shape::Shape;
 
-pub fn shape(h: Shape) -> rinwolfedd::Shape {
-    let Shape {
-        blocks,
-        partitions,
-        levels,
-        bytes,
-        places,
-        window,
-    } = h;
-    rinwolfedd::Shape::from_numbers(blocks, partitions, levels, bytes, places, window)
+/// The six numbers in the document's order.
+pub fn numbers(h: Shape) -> [usize; 6] {
+    [
+        h.blocks,
+        h.partitions,
+        h.levels,
+        h.bytes,
+        h.places,
+        h.window,
+    ]
 }
 
 /// A tape as it lies in memory, which on a little-endian machine is low byte

@@ -33,7 +33,7 @@ impl Linked {
         let state = self.state.lend();
         let memory = self.memory.lend_first(call.memory);
         let answer = match &call.ask {
-            Ask::Open(h) => calls::open(state, memory, convert::shape(*h), words),
+            Ask::Open(h) => calls::open(state, memory, convert::numbers(*h), words),
             Ask::Request {
                 kind,
                 block,
