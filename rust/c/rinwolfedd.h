@@ -1,18 +1,50 @@
 /* The five calls of the library that `scripts/library` writes to
- * target/staticlib/librinwolfedd.a. A slice is a pointer and a length; a slice
- * of length 0 may have any pointer that is not null. The slices of one call
- * must not overlap. Lengths and layout: docs/MEMORY.md. */
+ * target/staticlib/librinwolfedd.a, for Linux on x86-64. A slice is a pointer
+ * and a length. NULL is not allowed, not even with length 0: a slice of length
+ * 0 may have any other pointer. The slices of one call must not overlap. No
+ * pointer is kept. Lengths and layout: docs/MEMORY.md.
+ *
+ * The commands that turns send hide which block is asked for only if the cache
+ * has a place for every block (E = N). The bytes of a write are a block's, or
+ * zeros, and are not sealed: whoever may see them must see them sealed, every
+ * one and each time anew. */
 #ifndef RINWOLFEDD_H
 #define RINWOLFEDD_H
 
 #include <stddef.h>
 #include <stdint.h>
 
+#ifdef __cplusplus
+extern "C" {
+#endif
+
 /* The bytes of a state, and the kinds of requests and commands. */
 enum { RINWOLFEDD_STATE = 64, RINWOLFEDD_READ = 1, RINWOLFEDD_WRITE = 2 };
 
-/* Each call answers one number of 64 bits: the number (0 accepted, 1 to 15 a
- * refusal), the command that a turn sent, and the words taken from the tape. */
+/* The number of an answer. A refused call takes no word and changes no lent
+ * byte, but a refused open leaves zeros in the state: it is closed. */
+enum {
+    RINWOLFEDD_ACCEPTED = 0,
+    RINWOLFEDD_SHAPE_OUT_OF_BOUNDS = 1, /* open */
+    RINWOLFEDD_NOT_READY = 2,           /* memory too short, or a number of the
+                                           state or the kind out of its range */
+    RINWOLFEDD_TOO_FEW_WORDS = 3,       /* of the tape */
+    RINWOLFEDD_REQUEST_IN_HAND = 4,     /* request */
+    RINWOLFEDD_NO_SUCH_BLOCK = 5,       /* request */
+    RINWOLFEDD_CONTENTS_LENGTH = 6,     /* request: B for a write, 0 for a read */
+    RINWOLFEDD_QUEUE_FULL = 7,          /* request: more than 62 jobs queued */
+    RINWOLFEDD_CACHE_FULL = 8,          /* request: never with E = N */
+    RINWOLFEDD_WINDOW_FULL = 9,         /* turn: W commands are outstanding */
+    RINWOLFEDD_NOTHING_TO_SEND = 10,    /* turn */
+    RINWOLFEDD_NOT_OUTSTANDING = 11,    /* completion: no such command */
+    RINWOLFEDD_COMPLETION_LENGTH = 12,  /* completion: B for a read, 0 for a write */
+    RINWOLFEDD_NO_REQUEST = 13,         /* collect */
+    RINWOLFEDD_NOT_FINISHED = 14,       /* collect: reads have not completed */
+    RINWOLFEDD_BUFFER_LENGTH = 15       /* turn that writes, collect: exactly B */
+};
+
+/* Each call answers one number of 64 bits: the number, the command that a turn
+ * sent, and the words taken from the tape. */
 static inline unsigned rinwolfedd_number(uint64_t a) { return a & 255; }
 static inline unsigned rinwolfedd_kind(uint64_t a) { return a >> 8 & 255; }
 static inline unsigned rinwolfedd_partition(uint64_t a) { return a >> 16 & 255; }
@@ -28,34 +60,43 @@ static inline size_t rinwolfedd_needed(size_t n, size_t p, size_t l, size_t b)
 
 /* Opens a store of N blocks, P partitions, L levels, B bytes a block, E places
  * in the eviction cache, W commands outstanding at most. The tape is random
- * words of two bytes, low byte first; N of them are taken. */
+ * words of two bytes, low byte first; N of them are taken, and none of them may
+ * be lent again. Only E = N hides the block. */
 uint64_t rinwolfedd_open(uint8_t *state, size_t state_len,
                          uint8_t *memory, size_t memory_len,
                          size_t n, size_t p, size_t l, size_t b, size_t e, size_t w,
                          const uint8_t *tape, size_t tape_len);
 
-/* Takes a request in hand; contents of B bytes for a write, of 0 for a read. */
+/* Takes a request in hand; contents of exactly B bytes for a write, of 0 for a
+ * read. Two words are taken. */
 uint64_t rinwolfedd_request(uint8_t *state, size_t state_len,
                             uint8_t *memory, size_t memory_len,
                             size_t kind, size_t block,
                             const uint8_t *contents, size_t contents_len,
                             const uint8_t *tape, size_t tape_len);
 
-/* Sends one command; a write's B bytes go into the buffer. */
+/* Sends one command; a write's bytes go into the buffer, which has exactly B. A
+ * turn that begins to write a level of 2^k slots takes 2^k - 1 words, at most
+ * 255; others take none. */
 uint64_t rinwolfedd_turn(uint8_t *state, size_t state_len,
                          uint8_t *memory, size_t memory_len,
                          const uint8_t *tape, size_t tape_len,
                          uint8_t *buffer, size_t buffer_len);
 
-/* Says that a command has completed; B bytes for a read, 0 for a write. */
+/* Says that a command has completed; B bytes for a read, 0 for a write. Its
+ * answer is to be looked at, too. */
 uint64_t rinwolfedd_completion(uint8_t *state, size_t state_len,
                                uint8_t *memory, size_t memory_len,
                                size_t kind, size_t partition, size_t level, size_t slot,
                                const uint8_t *bytes, size_t bytes_len);
 
-/* Hands out the contents before the request into a buffer of B bytes. */
+/* Hands out the contents before the request, into a buffer of exactly B bytes. */
 uint64_t rinwolfedd_collect(uint8_t *state, size_t state_len,
                             uint8_t *memory, size_t memory_len,
                             uint8_t *buffer, size_t buffer_len);
+
+#ifdef __cplusplus
+}
+#endif
 
 #endif

@@ -5,6 +5,7 @@
  */
 #include "rinwolfedd.h"
 #include <stdio.h>
+#include <stdlib.h>
 
 static uint8_t state[RINWOLFEDD_STATE];
 static uint8_t memory[416]; /* rinwolfedd_needed(1, 1, 1, 1) */
@@ -34,10 +35,24 @@ static void collect(void)
     uint8_t byte = 0;
     unsigned number = rinwolfedd_number(
         rinwolfedd_collect(state, sizeof state, memory, sizeof memory, &byte, 1));
-    if (number != 0)
+    if (number != RINWOLFEDD_ACCEPTED)
         printf("%u\n", number);
     else
         printf("0 %02x\n", byte);
+}
+
+/* A refused completion would mean that host and store no longer agree. */
+static void complete(uint64_t sent, const uint8_t *byte)
+{
+    unsigned kind = rinwolfedd_kind(sent);
+    unsigned number = rinwolfedd_number(
+        rinwolfedd_completion(state, sizeof state, memory, sizeof memory, kind,
+                              rinwolfedd_partition(sent), rinwolfedd_level(sent),
+                              rinwolfedd_slot(sent), byte, kind == RINWOLFEDD_READ ? 1 : 0));
+    if (number != RINWOLFEDD_ACCEPTED) {
+        fprintf(stderr, "a completion is refused with %u\n", number);
+        exit(EXIT_FAILURE);
+    }
 }
 
 /* A turn, and the completion of its command by the host. */
@@ -47,15 +62,13 @@ static void turn(void)
     uint64_t sent = rinwolfedd_turn(state, sizeof state, memory, sizeof memory,
                                     tape, left(), &byte, 1);
     unsigned kind = rinwolfedd_kind(sent), slot = rinwolfedd_slot(sent);
-    if (moved(sent) != 0) {
+    if (moved(sent) != RINWOLFEDD_ACCEPTED) {
         printf("%u\n", rinwolfedd_number(sent));
         return;
     }
     if (kind == RINWOLFEDD_WRITE)
         host[slot] = byte;
-    rinwolfedd_completion(state, sizeof state, memory, sizeof memory, kind,
-                          rinwolfedd_partition(sent), rinwolfedd_level(sent), slot,
-                          &host[slot], kind == RINWOLFEDD_READ ? 1 : 0);
+    complete(sent, &host[slot]);
     printf("0 %c %u %u %u\n", kind == RINWOLFEDD_READ ? 'r' : 'w',
            rinwolfedd_partition(sent), rinwolfedd_level(sent), slot);
 }
