@@ -145,6 +145,16 @@ pub fn run(path: &Path, out: &mut impl Write) -> Result<(), Box<dyn Error>> {
     Ok(())
 }
 
+/// What failed, and why.
+pub fn told(error: &dyn Error) -> String {
+    let (mut told, mut cause) = (error.to_string(), error.source());
+    while let Some(error) = cause {
+        told = format!("{told}: {error}");
+        cause = error.source();
+    }
+    told
+}
+
 fn main() -> ExitCode {
     let asked = std::env::args_os().nth(1).map(PathBuf::from);
     let name = format!("rinwolfedd-genotypes-{}", std::process::id());
@@ -158,7 +168,7 @@ fn main() -> ExitCode {
     match result {
         Ok(()) => ExitCode::SUCCESS,
         Err(error) => {
-            eprintln!("{error}");
+            eprintln!("{}", told(&*error));
             ExitCode::FAILURE
         }
     }

@@ -42,6 +42,7 @@
 
 pub mod calls;
 mod command;
+mod error;
 mod file_host;
 mod host;
 mod memory_host;
@@ -53,11 +54,12 @@ mod store;
 mod tape;
 
 pub use command::{Command, Kind};
+pub use error::Error;
 pub use file_host::FileHost;
 pub use host::{Host, Recorded};
 pub use memory_host::MemoryHost;
 pub use progress::Progress;
-pub use reader::{Error, Reader};
+pub use reader::Reader;
 pub use refusal::{Refusal, UnknownNumber};
 pub use shape::Shape;
 pub use store::{Request, Store};

@@ -1,6 +1,7 @@
 //! Whole look-ups: a store, its host and its tape.
 
 use crate::command::Kind;
+use crate::error::Error;
 use crate::host::Host;
 use crate::refusal::Refusal;
 use crate::shape::Shape;
@@ -8,56 +9,10 @@ use crate::store::{Request, Store};
 use crate::tape::Supply;
 use std::fmt;
 use std::fs::File;
-use std::io::{self, Read};
+use std::io::Read;
 
 /// Where the operating system hands out random bytes.
 const RANDOM: &str = "/dev/urandom";
-
-/// The most words that a turn takes: an order of 256 slots.
-const TURN_WORDS: usize = 255;
-
-/// Why a look-up came to nothing.
-#[derive(Debug)]
-#[non_exhaustive]
-pub enum Error {
-    /// A call was refused. A block or a length that is none of the store's is
-    /// refused before anything is sent; the reader goes on.
-    Refused(Refusal),
-    /// The host failed.
-    Host(io::Error),
-    /// The source of random words failed.
-    Words(io::Error),
-    /// An earlier look-up failed midway, and what the host has done of it is
-    /// not known: the reader makes no more.
-    Unfinished,
-}
-
-impl fmt::Display for Error {
-    fn fmt(&self, f: &mut fmt::Formatter<'_>) -> fmt::Result {
-        match self {
-            Error::Refused(refusal) => write!(f, "refused: {refusal}"),
-            Error::Host(error) => write!(f, "the host: {error}"),
-            Error::Words(error) => write!(f, "the random words: {error}"),
-            Error::Unfinished => write!(f, "an earlier look-up failed midway"),
-        }
-    }
-}
-
-impl std::error::Error for Error {
-    fn source(&self) -> Option<&(dyn std::error::Error + 'static)> {
-        match self {
-            Error::Refused(refusal) => Some(refusal),
-            Error::Host(error) | Error::Words(error) => Some(error),
-            Error::Unfinished => None,
-        }
-    }
-}
-
-impl From<Refusal> for Error {
-    fn from(refusal: Refusal) -> Error {
-        Error::Refused(refusal)
-    }
-}
 
 /// Reads and writes blocks by whole look-ups. Each is a request, its reads,
 /// the collect, and both its jobs to the end, with up to W commands
@@ -65,12 +20,14 @@ impl From<Refusal> for Error {
 ///
 /// With E = N the commands do not tell which block was looked up, nor whether
 /// it was read or written. With a smaller cache a look-up may be refused with
-/// [`Refusal::CacheFull`], and that does depend on the blocks: then only those
-/// that wait in the cache can be looked up, until a job has taken one of them.
+/// [`Refusal::CacheFull`], and that does depend on the blocks. To ask again is
+/// of no use: the same block is refused until another one, which waits in the
+/// cache, has been looked up, and its jobs have made room.
 ///
 /// Words come from `/dev/urandom`, or from any other source with
-/// [`with_words`](Reader::with_words). If a look-up fails midway, all later
-/// ones answer [`Error::Unfinished`].
+/// [`with_words`](Reader::with_words). All that a look-up can take are there
+/// before it begins, so that only the host can fail midway. Then all later
+/// look-ups answer [`Error::Unfinished`].
 pub struct Reader<H, R = File> {
     store: Store,
     host: H,
@@ -112,17 +69,15 @@ impl<H: Host, R: Read> Reader<H, R> {
     ///
     /// # Errors
     ///
-    /// [`Error::Refused`] for a shape out of bounds or a source with fewer than
-    /// N words, [`Error::Words`] if it fails.
+    /// [`Error::Refused`] for a shape out of bounds, [`Error::Words`] for a
+    /// source that fails or has fewer than N words.
     pub fn with_words(shape: Shape, host: H, words: R) -> Result<Reader<H, R>, Error> {
+        if !shape.is_within_bounds() {
+            return Err(Refusal::ShapeOutOfBounds.into());
+        }
         let mut words = Supply::new(words);
-        // A shape with more blocks is out of bounds, for which no word is read.
-        let wanted = if shape.is_within_bounds() {
-            shape.blocks()
-        } else {
-            0
-        };
-        let mut tape = words.lend(wanted).map_err(Error::Words)?;
+        words.ready(shape.blocks()).map_err(Error::Words)?;
+        let mut tape = words.tape();
         let store = Store::open(shape, &mut tape)?;
         let taken = tape.taken();
         words.take(taken);
@@ -172,10 +127,11 @@ impl<H: Host, R: Read> Reader<H, R> {
     ///
     /// # Errors
     ///
-    /// [`Error::Refused`] for a block that is none of the store's, for want of
-    /// words or of a place in a cache with fewer than N, or for a host that
-    /// completes what it was not sent; [`Error::Host`] and [`Error::Words`] if
-    /// one of them fails; [`Error::Unfinished`] after a failure midway.
+    /// [`Error::Refused`] for a block that is none of the store's, or for want
+    /// of a place in a cache with fewer than N; [`Error::Words`] if fewer words
+    /// are left than a look-up can take, 2^(L+1). Nothing was sent then, and the
+    /// reader goes on. [`Error::Host`] if the host fails or completes what it
+    /// was not sent, which ends the reader: [`Error::Unfinished`] from then on.
     pub fn read(&mut self, block: usize) -> Result<Vec<u8>, Error> {
         let mut contents = vec![0; self.shape().bytes()];
         self.read_into(block, &mut contents)?;
@@ -210,13 +166,12 @@ impl<H: Host, R: Read> Reader<H, R> {
     ///
     /// # Errors
     ///
-    /// Those of [`write`](Reader::write) at the first block that has one; the
-    /// blocks before it are stored.
+    /// Those of [`write_from`](Reader::write_from).
     pub fn write_all<C: AsRef<[u8]>>(
         &mut self,
         contents: impl IntoIterator<Item = C>,
     ) -> Result<usize, Error> {
-        self.write_all_with(contents, |_| ())
+        self.write_from(0, contents)
     }
 
     /// As [`write_all`](Reader::write_all), and says after each block how many
@@ -233,15 +188,46 @@ impl<H: Host, R: Read> Reader<H, R> {
     ///
     /// # Errors
     ///
-    /// Those of [`write_all`](Reader::write_all).
+    /// Those of [`write_from`](Reader::write_from).
     pub fn write_all_with<C: AsRef<[u8]>>(
         &mut self,
+        contents: impl IntoIterator<Item = C>,
+        stored: impl FnMut(usize),
+    ) -> Result<usize, Error> {
+        self.write_from_with(0, contents, stored)
+    }
+
+    /// As [`write_all`](Reader::write_all), from block `first` on: to go on
+    /// after an error, or to store in parts.
+    ///
+    /// # Errors
+    ///
+    /// Those of [`write`](Reader::write) at the first block that has one; the
+    /// blocks before it are stored.
+    pub fn write_from<C: AsRef<[u8]>>(
+        &mut self,
+        first: usize,
+        contents: impl IntoIterator<Item = C>,
+    ) -> Result<usize, Error> {
+        self.write_from_with(first, contents, |_| ())
+    }
+
+    /// As [`write_from`](Reader::write_from), and says after each block how many
+    /// are stored, the first one as 1.
+    ///
+    /// # Errors
+    ///
+    /// Those of [`write_from`](Reader::write_from).
+    pub fn write_from_with<C: AsRef<[u8]>>(
+        &mut self,
+        first: usize,
         contents: impl IntoIterator<Item = C>,
         mut stored: impl FnMut(usize),
     ) -> Result<usize, Error> {
         let mut count = 0;
         for contents in contents {
-            self.write(count, contents.as_ref())?;
+            // no overflow: a first block of N or more is refused at once
+            self.write(first + count, contents.as_ref())?;
             count += 1;
             stored(count);
         }
@@ -256,13 +242,17 @@ impl<H: Host, R: Read> Reader<H, R> {
         if before.len() != self.shape().bytes() {
             return Err(Refusal::BufferLength.into());
         }
-        let mut tape = self.words.lend(2).map_err(Error::Words)?;
+        // two for the request, and an order of at most 2^L slots for each job
+        let most = 2 << self.shape().levels();
+        self.words.ready(most).map_err(Error::Words)?;
+        let mut tape = self.words.tape();
         self.store.request(request, &mut tape)?;
         let taken = tape.taken();
         self.words.take(taken);
         self.unfinished = true;
         self.run()?;
-        before.copy_from_slice(self.store.collect()?);
+        let contents = self.store.collect().map_err(Error::midway)?;
+        before.copy_from_slice(contents);
         self.run()?;
         self.unfinished = false;
         Ok(())
@@ -272,7 +262,7 @@ impl<H: Host, R: Read> Reader<H, R> {
     /// waits for the host only where no command can be sent.
     fn run(&mut self) -> Result<(), Error> {
         loop {
-            let mut tape = self.words.lend(TURN_WORDS).map_err(Error::Words)?;
+            let mut tape = self.words.tape();
             let sent = self.store.turn(&mut tape);
             let taken = tape.taken();
             self.words.take(taken);
@@ -285,7 +275,7 @@ impl<H: Host, R: Read> Reader<H, R> {
                     self.complete()?;
                 }
                 Err(Refusal::NothingToSend) => return Ok(()),
-                Err(refusal) => return Err(refusal.into()),
+                Err(refusal) => return Err(Error::midway(refusal)),
             }
         }
     }
@@ -297,7 +287,8 @@ impl<H: Host, R: Read> Reader<H, R> {
             Kind::Read => &self.arrived[..],
             Kind::Write => &[],
         };
-        self.store.completion(command, bytes)?;
+        let completed = self.store.completion(command, bytes);
+        completed.map_err(Error::midway)?;
         self.outstanding -= 1;
         Ok(())
     }

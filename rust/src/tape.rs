@@ -1,14 +1,24 @@
 //! The tape: random words from which the calls draw.
 
+use std::fmt;
 use std::io::{self, Read};
 
 /// Random words lent to a call: pairs of bytes, low byte first. A call takes
 /// words from the front, and the tape moves on, so that no word is drawn from
 /// twice. A refused call takes none.
-#[derive(Debug)]
 pub struct Tape<'a> {
     bytes: &'a [u8],
     taken: usize,
+}
+
+/// How many words, and none of them: who knows them knows the blocks.
+impl fmt::Debug for Tape<'_> {
+    fn fmt(&self, f: &mut fmt::Formatter<'_>) -> fmt::Result {
+        f.debug_struct("Tape")
+            .field("taken", &self.taken)
+            .field("left", &self.left())
+            .finish_non_exhaustive()
+    }
 }
 
 impl<'a> Tape<'a> {
@@ -59,17 +69,29 @@ impl<R: Read> Supply<R> {
         }
     }
 
-    /// A tape of at least so many words, or of all that the source has left.
-    pub(crate) fn lend(&mut self, words: usize) -> io::Result<Tape<'_>> {
-        if self.bytes.len() - self.at < 2 * words {
-            self.bytes.drain(..self.at);
-            self.at = 0;
-            let more = AHEAD.max(2 * words) - self.bytes.len();
-            // on an error, too, what came before it is kept
-            let mut some = self.source.by_ref().take(more as u64);
-            some.read_to_end(&mut self.bytes)?;
+    /// Has at least so many words ready, or says why not: a source that ends is
+    /// an `UnexpectedEof`. What came before an error is kept, and an error
+    /// after enough words is left for later.
+    pub(crate) fn ready(&mut self, words: usize) -> io::Result<()> {
+        if self.tape().left() >= words {
+            return Ok(());
         }
-        Ok(Tape::new(&self.bytes[self.at..]))
+        self.bytes.drain(..self.at);
+        self.at = 0;
+        let more = AHEAD.max(2 * words) - self.bytes.len();
+        let mut some = self.source.by_ref().take(more as u64);
+        let read = some.read_to_end(&mut self.bytes);
+        if self.tape().left() >= words {
+            return Ok(());
+        }
+        read?;
+        let few = format!("the words end: {} are left of {words}", self.tape().left());
+        Err(io::Error::new(io::ErrorKind::UnexpectedEof, few))
+    }
+
+    /// The words that are ready.
+    pub(crate) fn tape(&self) -> Tape<'_> {
+        Tape::new(&self.bytes[self.at..])
     }
 
     /// So many words of the lent tape have been taken.
@@ -110,7 +132,9 @@ mod tests {
         let mut supply = Supply::new(Slow(&all));
         let mut seen = Vec::new();
         for words in (1..).map(|i| i * 37 % 256) {
-            let tape = supply.lend(words).unwrap();
+            let ready = supply.ready(words);
+            let tape = supply.tape();
+            assert_eq!(ready.is_ok(), tape.left() >= words);
             let taken = words.min(tape.left());
             seen.extend_from_slice(&tape.rest()[..2 * taken]);
             supply.take(taken);
@@ -124,6 +148,35 @@ mod tests {
     #[test]
     fn an_open_of_the_largest_store_is_lent_its_words() {
         let mut supply = Supply::new(io::repeat(1));
-        assert!(supply.lend(4096).unwrap().left() >= 4096);
+        supply.ready(4096).unwrap();
+        assert!(supply.tape().left() >= 4096);
+    }
+
+    #[test]
+    fn an_error_is_told_only_for_want_of_words() {
+        struct Fails;
+        impl Read for Fails {
+            fn read(&mut self, _: &mut [u8]) -> io::Result<usize> {
+                Err(io::Error::other("no more"))
+            }
+        }
+        let mut supply = Supply::new([7; 9].chain(Fails));
+        for words in [1, 4, 4] {
+            supply.ready(words).unwrap();
+        }
+        assert_eq!(supply.ready(5).unwrap_err().to_string(), "no more");
+        supply.take(1);
+        supply.ready(3).unwrap();
+        let mut supply = Supply::new(&[7; 9][..]);
+        let ended = supply.ready(5).unwrap_err();
+        assert_eq!(ended.kind(), io::ErrorKind::UnexpectedEof);
+        assert_eq!(ended.to_string(), "the words end: 4 are left of 5");
+    }
+
+    #[test]
+    fn a_printed_tape_has_no_words() {
+        let mut tape = Tape::new(&[201, 202, 203, 204]);
+        tape.take(1);
+        assert_eq!(format!("{tape:?}"), "Tape { taken: 1, left: 1, .. }");
     }
 }

@@ -1,83 +1,23 @@
-//! Bad input: files that are missing, short or not to be written, lengths and
-//! blocks that are none of the store's, hosts and words that fail. Each is an
-//! error that says what is wrong; none is a panic.
+//! Bad input to a reader and a store: lengths and blocks that are none of the
+//! store's, hosts and words that fail. Each is an error that says what is wrong;
+//! none is a panic.
 
+#[path = "common/folder.rs"]
+mod folder;
+
+use folder::Folder;
 use rinwolfedd::{Command, Error, FileHost, Host, Kind, MemoryHost};
-use rinwolfedd::{Reader, Refusal, Request, Shape, Store, Tape};
+use rinwolfedd::{Reader, Recorded, Refusal, Request, Shape, Store, Tape};
+use std::error::Error as _;
 use std::fs::File;
-use std::io::{self, ErrorKind};
-use std::path::PathBuf;
+use std::io::{self, ErrorKind, Read};
 
 const SHAPE: Shape = Shape::new(8, 2, 3, 4).with_window(4);
-
-/// The bytes of the shape's 2 × 14 slots.
-const LENGTH: u64 = 112;
 
 const OUT_OF_BOUNDS: Shape = Shape::new(8, 3, 3, 4);
 
 const FAR: usize = usize::MAX;
 const FAR_OUT: Shape = Shape::new(FAR, FAR, FAR, FAR).with_window(FAR);
-
-/// A folder of its own, removed in the end.
-struct Folder(PathBuf);
-
-impl Folder {
-    fn new(name: &str) -> Folder {
-        let name = format!("rinwolfedd-{}-{name}", std::process::id());
-        let folder = std::env::temp_dir().join(name);
-        std::fs::create_dir(&folder).unwrap();
-        Folder(folder)
-    }
-
-    /// A file of so many bytes.
-    fn file(&self, name: &str, length: u64) -> PathBuf {
-        let path = self.0.join(name);
-        File::create(&path).unwrap().set_len(length).unwrap();
-        path
-    }
-}
-
-impl Drop for Folder {
-    fn drop(&mut self) {
-        let _ = std::fs::remove_dir_all(&self.0);
-    }
-}
-
-fn kind(result: io::Result<FileHost>) -> ErrorKind {
-    result.unwrap_err().kind()
-}
-
-#[test]
-fn files_that_cannot_hold_the_slots() {
-    let folder = Folder::new("files");
-    let missing = folder.0.join("missing");
-    assert_eq!(kind(FileHost::open(&missing, SHAPE)), ErrorKind::NotFound);
-    assert!(!missing.exists(), "opening creates nothing");
-    let nowhere = folder.0.join("no folder/file");
-    assert_eq!(kind(FileHost::create(nowhere, SHAPE)), ErrorKind::NotFound);
-    assert!(FileHost::open(&folder.0, SHAPE).is_err(), "a folder");
-
-    let short = FileHost::open(folder.file("short", LENGTH - 1), SHAPE).unwrap_err();
-    assert_eq!(short.kind(), ErrorKind::UnexpectedEof);
-    let text = "the file has 111 bytes, the slots take 112";
-    assert_eq!(short.to_string(), text);
-    assert!(FileHost::open(folder.file("long", LENGTH + 1), SHAPE).is_ok());
-
-    let there = folder.file("there", 3);
-    assert_eq!(
-        kind(FileHost::create(&there, SHAPE)),
-        ErrorKind::AlreadyExists
-    );
-    assert_eq!(there.metadata().unwrap().len(), 3, "it is as it was");
-    for shape in [OUT_OF_BOUNDS, FAR_OUT] {
-        let path = folder.0.join("out of bounds");
-        assert_eq!(
-            kind(FileHost::create(&path, shape)),
-            ErrorKind::InvalidInput
-        );
-        assert!(!path.exists());
-    }
-}
 
 /// Looks up until the host fails, which comes with the first jobs; then the
 /// reader makes no more look-ups.
@@ -95,11 +35,11 @@ fn fails<H: Host>(host: H) -> io::Error {
 #[test]
 fn files_that_fail_later() {
     let folder = Folder::new("later");
-    let path = folder.file("read only", LENGTH);
+    let path = folder.path("file");
+    drop(FileHost::create(&path, SHAPE).unwrap());
     let read_only = FileHost::from_file(File::open(&path).unwrap(), SHAPE).unwrap();
     fails(read_only);
 
-    let path = folder.file("cut", LENGTH);
     let host = FileHost::open(&path, SHAPE).unwrap();
     let mut reader = Reader::open(SHAPE, host).unwrap();
     reader.write(0, &[1, 2, 3, 4]).unwrap();
@@ -161,36 +101,83 @@ fn shapes_out_of_bounds() {
     }
 }
 
-#[test]
-fn words_that_end_or_fail() {
-    let host = || MemoryHost::new(SHAPE, 1).unwrap();
-    let open =
-        |words: usize| Reader::with_words(SHAPE, host(), io::repeat(5).take(2 * words as u64));
-    use std::io::Read;
-    let few = open(7).err();
-    assert!(matches!(few, Some(Error::Refused(Refusal::TooFewWords))));
-    let mut reader = open(9).unwrap();
-    let one_left = reader.read(0);
-    assert!(matches!(
-        one_left,
-        Err(Error::Refused(Refusal::TooFewWords))
-    ));
-    let mut reader = open(10).unwrap();
-    let in_a_job = reader.read(0);
-    assert!(matches!(
-        in_a_job,
-        Err(Error::Refused(Refusal::TooFewWords))
-    ));
-    assert!(matches!(reader.read(0), Err(Error::Unfinished)));
+/// A reader with a source of so many words, and then what follows.
+fn with_words<R: Read>(
+    words: usize,
+    then: R,
+) -> Result<Reader<Recorded<MemoryHost>, impl Read>, Error> {
+    let host = Recorded::new(MemoryHost::new(SHAPE, 1).unwrap());
+    let some = io::repeat(5).take(2 * words as u64);
+    Reader::with_words(SHAPE, host, some.chain(then))
+}
 
-    struct Fails;
-    impl Read for Fails {
-        fn read(&mut self, _: &mut [u8]) -> io::Result<usize> {
-            Err(io::Error::other("no more randomness"))
-        }
+fn words_kind<T>(result: Result<T, Error>) -> ErrorKind {
+    match result {
+        Err(Error::Words(error)) => error.kind(),
+        _ => panic!("there are words"),
     }
-    let failed = Reader::with_words(SHAPE, host(), Fails).err().unwrap();
-    assert_eq!(failed.to_string(), "the random words: no more randomness");
+}
+
+/// The open takes 8 words and a look-up at most 16. Where there are fewer,
+/// nothing is sent, and the reader is not ended.
+#[test]
+fn words_that_end() {
+    let ended = ErrorKind::UnexpectedEof;
+    assert_eq!(words_kind(with_words(7, io::empty())), ended);
+    for words in 8..24 {
+        let mut reader = with_words(words, io::empty()).unwrap();
+        assert_eq!(words_kind(reader.read(0)), ended);
+        assert_eq!(words_kind(reader.write(0, &[1; 4])), ended);
+        assert!(reader.host().commands().is_empty() && !reader.is_unfinished());
+    }
+    // however the words fall, they never end midway
+    for words in 24..400 {
+        let mut reader = with_words(words, io::empty()).unwrap();
+        let ends = (0..8).cycle().find_map(|block| reader.read(block).err());
+        assert_eq!(words_kind(ends.map_or(Ok(()), Err)), ended);
+        assert!(!reader.is_unfinished() && !reader.host().commands().is_empty());
+    }
+}
+
+/// A source that fails every other time that it is asked, and else has few
+/// bytes.
+#[derive(Default)]
+struct Falters(usize);
+
+impl Read for Falters {
+    fn read(&mut self, buffer: &mut [u8]) -> io::Result<usize> {
+        self.0 += 1;
+        if self.0 % 2 == 1 {
+            return Err(io::Error::other("no randomness now"));
+        }
+        let few = buffer.len().min(8);
+        buffer[..few].fill(self.0 as u8);
+        Ok(few)
+    }
+}
+
+/// A source that fails costs only the look-up that would have begun.
+#[test]
+fn words_that_fail() {
+    let host = MemoryHost::new(SHAPE, 1).unwrap();
+    let failed = Reader::with_words(SHAPE, host, Falters::default()).err();
+    let source = failed.as_ref().and_then(|error| error.source()).unwrap();
+    assert_eq!(source.to_string(), "no randomness now");
+
+    let mut reader = with_words(8, Falters::default()).unwrap();
+    let (mut failures, mut stored) = (0, [0; 4]);
+    for tag in 0..100 {
+        match reader.write(3, &[tag; 4]) {
+            Ok(before) => {
+                assert_eq!(before, stored);
+                stored = [tag; 4];
+            }
+            Err(Error::Words(_)) => failures += 1,
+            Err(error) => panic!("{error:?}"),
+        }
+        assert!(!reader.is_unfinished());
+    }
+    assert!((10..90).contains(&failures), "{failures} failures");
 }
 
 /// A host that completes commands which were never submitted.
@@ -213,55 +200,10 @@ impl Host for Liar {
 
 #[test]
 fn hosts_that_misbehave() {
-    let mut reader = Reader::open(SHAPE, Liar).unwrap();
-    let refused = reader.read(0);
-    assert!(matches!(
-        refused,
-        Err(Error::Refused(Refusal::NotOutstanding))
-    ));
-    assert!(matches!(reader.read(0), Err(Error::Unfinished)));
-
-    // a host of a smaller shape than the store's
-    let small = Shape::new(1, 1, 1, 1);
-    fails(MemoryHost::new(small, 1).unwrap());
-    let folder = Folder::new("small");
-    fails(FileHost::create(folder.0.join("file"), small).unwrap());
-}
-
-#[test]
-fn hosts_asked_for_what_they_have_not() {
-    let folder = Folder::new("asked");
-    let mut memory = MemoryHost::new(SHAPE, 1).unwrap();
-    let mut file = FileHost::create(folder.0.join("file"), SHAPE).unwrap();
-    let hosts: [&mut dyn Host; 2] = [&mut memory, &mut file];
-    for host in hosts {
-        assert!(
-            host.next_completed(&mut [0; 4]).is_err(),
-            "none outstanding"
-        );
-        let command = Command {
-            kind: Kind::Write,
-            partition: 1,
-            level: 2,
-            slot: 7,
-        };
-        assert!(host.submit(command, &[0; 3]).is_err(), "too few bytes");
-        assert!(
-            host.submit(Command { slot: 8, ..command }, &[0; 4])
-                .is_err()
-        );
-        host.submit(command, &[1, 2, 3, 4]).unwrap();
-        assert_eq!(host.next_completed(&mut [0; 4]).unwrap(), command);
-        let read = Command {
-            kind: Kind::Read,
-            ..command
-        };
-        host.submit(read, &[]).unwrap();
-        assert!(
-            host.next_completed(&mut [0; 5]).is_err(),
-            "no block's length"
-        );
-    }
+    let error = fails(Liar);
+    assert_eq!(error.kind(), ErrorKind::InvalidData);
+    let refusal = error.get_ref().and_then(|inner| inner.downcast_ref());
+    assert_eq!(refusal, Some(&Refusal::NotOutstanding));
 }
 
 #[test]

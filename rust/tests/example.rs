@@ -26,3 +26,10 @@ fn the_example_stores_fish_and_shows_two_look_ups() {
         .unwrap();
     assert_eq!(first.matches("read  partition").count(), 2, "{first}");
 }
+
+#[test]
+fn an_error_is_told_with_its_causes() {
+    let error = rinwolfedd::Error::from(rinwolfedd::Refusal::NoSuchBlock);
+    let text = "the store refused: refusal 5: there is no such block";
+    assert_eq!(genotypes::told(&error), text);
+}

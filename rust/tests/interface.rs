@@ -91,20 +91,21 @@ fn errors_may_grow() {
     );
 }
 
-/// An error has a source, by which a program can tell what is behind it.
+/// An error says what failed and its source why: what prints both, one after
+/// the other, says nothing twice.
 #[test]
 fn errors_have_sources() {
     use std::error::Error as _;
     let refused = Error::from(Refusal::NoSuchBlock);
-    assert_eq!(
-        refused.to_string(),
-        "refused: refusal 5: there is no such block"
-    );
+    assert_eq!(refused.to_string(), "the store refused");
     let source = refused.source().unwrap().downcast_ref::<Refusal>();
     assert_eq!(source, Some(&Refusal::NoSuchBlock));
-    let host = Error::Host(io::Error::other("the wire is cut"));
-    assert_eq!(host.to_string(), "the host: the wire is cut");
-    assert!(host.source().unwrap().is::<io::Error>());
+    let cut = || io::Error::other("the wire is cut");
+    for error in [Error::Host(cut()), Error::Words(cut())] {
+        assert!(!error.to_string().contains("wire"), "{error}");
+        let source = error.source().unwrap();
+        assert!(source.is::<io::Error>() && source.to_string() == "the wire is cut");
+    }
     assert!(Error::Unfinished.source().is_none());
 }
 

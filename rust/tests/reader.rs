@@ -217,6 +217,20 @@ fn write_all_says_how_many_are_stored() {
     assert_eq!(reader.read(49).unwrap(), [49, 1]);
     assert_eq!(reader.read(50).unwrap(), [0, 0]);
 
+    // from another block on
+    said = Vec::new();
+    let stored = reader.write_from_with(60, [[9; 2]; 4], |stored| said.push(stored));
+    assert_eq!((stored.unwrap(), &said[..]), (4, &[1, 2, 3, 4][..]));
+    assert_eq!(reader.write_from(10, [[8; 2]; 2]).unwrap(), 2);
+    let all = [9, 10, 11, 12, 59, 60, 63].map(|block| reader.read(block).unwrap()[0]);
+    assert_eq!(all, [9, 8, 8, 12, 0, 9, 9]);
+    // at the end there is no block more; the last one is stored
+    let past = reader.write_from(63, [[7; 2]; 2]);
+    assert!(matches!(past, Err(Error::Refused(Refusal::NoSuchBlock))));
+    assert_eq!(reader.read(63).unwrap(), [7, 7]);
+    let past = reader.write_from(usize::MAX, [[7; 2]; 2]);
+    assert!(matches!(past, Err(Error::Refused(Refusal::NoSuchBlock))));
+
     // without a callback, and with a line of progress
     assert_eq!(reader.write_all([[2; 2]; 5]).unwrap(), 5);
     assert_eq!(reader.read(4).unwrap(), [2, 2]);
@@ -247,7 +261,8 @@ fn an_array_with_a_host_behind_a_pointer() {
 }
 
 /// With E below N a request may be refused for want of a place in the cache;
-/// nothing is sent for it, and the reader goes on.
+/// nothing is sent for it, and the reader goes on. The same block is refused
+/// again until another one has been looked up.
 #[test]
 fn a_small_cache_refuses_and_goes_on() {
     let shape = shape(64, 16, 4, 4, 8).with_smaller_cache(2);
@@ -265,10 +280,12 @@ fn a_small_cache_refuses_and_goes_on() {
                 stored[block] = tag.to_le_bytes();
             }
             Err(Error::Refused(Refusal::CacheFull)) => {
+                let again = reader.read(block);
+                assert!(matches!(again, Err(Error::Refused(Refusal::CacheFull))));
                 assert_eq!(reader.host().commands().len(), before);
                 full += 1;
             }
-            Err(error) => panic!("{error}"),
+            Err(error) => panic!("{error:?}"),
         }
     }
     assert!((100..1980).contains(&full), "{full} of 2000 refused");

@@ -1,0 +1,62 @@
+//! Why a look-up came to nothing.
+
+use crate::refusal::Refusal;
+use std::fmt;
+use std::io;
+
+/// Why a look-up came to nothing. Only [`Error::Host`] can come midway, with
+/// commands sent; after it a reader makes no more look-ups.
+///
+/// It prints what failed; why is in its [`source`](std::error::Error::source).
+#[derive(Debug)]
+#[non_exhaustive]
+pub enum Error {
+    /// A call was refused, such as one for a block or a length that is none of
+    /// the store's. Nothing was sent, and the reader goes on.
+    Refused(Refusal),
+    /// The host failed, or completed what it was not sent: then its kind is
+    /// `InvalidData`, with the [`Refusal`] inside.
+    Host(io::Error),
+    /// The source of random words failed, or ended (`UnexpectedEof`). Nothing
+    /// was sent, and the reader goes on if there are words again.
+    Words(io::Error),
+    /// An earlier look-up failed midway, and what the host has done of it is
+    /// not known: the reader makes no more.
+    Unfinished,
+}
+
+impl Error {
+    /// A refusal after commands were sent. The reader has asked for all that a
+    /// look-up needs before it, so what is left is a completion of something
+    /// that is not outstanding.
+    pub(crate) fn midway(refusal: Refusal) -> Error {
+        Error::Host(io::Error::new(io::ErrorKind::InvalidData, refusal))
+    }
+}
+
+impl fmt::Display for Error {
+    fn fmt(&self, f: &mut fmt::Formatter<'_>) -> fmt::Result {
+        f.write_str(match self {
+            Error::Refused(_) => "the store refused",
+            Error::Host(_) => "the host failed",
+            Error::Words(_) => "there are no random words",
+            Error::Unfinished => "an earlier look-up failed midway",
+        })
+    }
+}
+
+impl std::error::Error for Error {
+    fn source(&self) -> Option<&(dyn std::error::Error + 'static)> {
+        match self {
+            Error::Refused(refusal) => Some(refusal),
+            Error::Host(error) | Error::Words(error) => Some(error),
+            Error::Unfinished => None,
+        }
+    }
+}
+
+impl From<Refusal> for Error {
+    fn from(refusal: Refusal) -> Error {
+        Error::Refused(refusal)
+    }
+}
