@@ -3,7 +3,12 @@
 //!
 //! Each block is the record of one fish: who it is, and its genotypes at 1,904
 //! SNPs, two bits each. The example stores them, looks two fish up, and shows
-//! side by side what the host saw of either look-up.
+//! side by side the commands that the host saw of either look-up.
+//!
+//! The commands hide the fish; the bytes do not. This example does not seal
+//! them, so whoever reads the file sees the records, and where each one goes. A
+//! program that stores real ones puts a host that seals every write between the
+//! reader and the file (see `rinwolfedd::Host`).
 //!
 //! ```text
 //! cargo run --offline --example genotypes            in a temporary file
@@ -102,12 +107,12 @@ fn beside(left: Option<&Command>, right: Option<&Command>) -> String {
         .into()
 }
 
-/// Shows what the host saw of two look-ups, the long ones cut.
+/// Shows the commands that the host saw of two look-ups, the long ones cut.
 fn show(out: &mut impl Write, fish: [usize; 2], seen: &[Vec<Command>; 2]) -> io::Result<()> {
     const MOST: usize = 24;
     let [left, right] = seen;
     let title = |i: usize| format!("look-up of fish {} ({} commands)", fish[i], seen[i].len());
-    writeln!(out, "\nWhat the host saw:\n")?;
+    writeln!(out, "\nThe commands that the host saw:\n")?;
     writeln!(out, "  {:<40}{}", title(0), title(1))?;
     let lines = left.len().max(right.len());
     for line in 0..lines.min(MOST) {

@@ -14,8 +14,9 @@ pub enum Error {
     /// A call was refused, such as one for a block or a length that is none of
     /// the store's. Nothing was sent, and the reader goes on.
     Refused(Refusal),
-    /// The host failed, or completed what it was not sent: then its kind is
-    /// `InvalidData`, with the [`Refusal`] inside.
+    /// The host failed, or does not fit the store's shape, or completed what it
+    /// was not sent: then its kind is `InvalidData`, with the [`Refusal`]
+    /// inside.
     Host(io::Error),
     /// The source of random words failed, or ended (`UnexpectedEof`). Nothing
     /// was sent, and the reader goes on if there are words again.

@@ -1,22 +1,50 @@
 //! The host that keeps the slots.
 
 use crate::command::Command;
+use crate::slots::Slots;
 use std::io;
 
 /// Who keeps the slots: a file, a machine across a network, a test. It is not
 /// trusted with what is looked up, only with bringing back what was written.
 ///
 /// Commands are submitted, at most W at a time before one completes, and may
-/// complete in any order: a slot never has two commands outstanding. The bytes
-/// are as the store has them; to seal them is up to the host's owner.
+/// complete in any order: a slot never has two commands outstanding.
+///
+/// # Sealing
+///
+/// The commands hide the block; the bytes beside them do not. A host is handed
+/// what the store has: at each rebuild the same bytes of a block again, for
+/// another slot, and zeros for a slot without a block (a dummy). Contents that
+/// are sealed before [`Reader::write`](crate::Reader::write) can still be
+/// followed from slot to slot, and told from zeros.
+///
+/// Who sees the bytes must therefore see them sealed by a host in between: in
+/// [`submit`](Host::submit) it seals every write, dummies too, each time with
+/// fresh randomness and to the same length; in
+/// [`next_completed`](Host::next_completed) it opens what a read brought.
+/// Below it [`FileHost`](crate::FileHost) and
+/// [`MemoryHost`](crate::MemoryHost) keep the longer slots that it says
+/// ([`Slots::with_bytes`]).
 pub trait Host {
+    /// Whether it keeps these slots. [`Reader`](crate::Reader) asks it once, for
+    /// slots of B bytes, before anything is sent; one that seals asks the host
+    /// below for its longer ones. Unless a host says otherwise, it does.
+    ///
+    /// # Errors
+    ///
+    /// That it does not, and why.
+    fn fits(&self, slots: Slots) -> io::Result<()> {
+        let _ = slots;
+        Ok(())
+    }
+
     /// Takes a command. A write comes with the bytes of one block, a read with
     /// none.
     ///
     /// # Errors
     ///
-    /// Whatever keeps the host from taking it. A reader makes no more look-ups
-    /// then.
+    /// Whatever keeps the host from taking it. It is midway in a look-up, and
+    /// any error ends the reader: to try again is up to the host.
     fn submit(&mut self, command: Command, bytes: &[u8]) -> io::Result<()>;
 
     /// Waits until one of the submitted commands has completed, and says
@@ -26,11 +54,15 @@ pub trait Host {
     /// # Errors
     ///
     /// Whatever keeps a submitted command from completing, and that none is
-    /// outstanding. A reader makes no more look-ups then.
+    /// outstanding. As in [`submit`](Host::submit) it ends the reader.
     fn next_completed(&mut self, buffer: &mut [u8]) -> io::Result<Command>;
 }
 
 impl<H: Host + ?Sized> Host for &mut H {
+    fn fits(&self, slots: Slots) -> io::Result<()> {
+        (**self).fits(slots)
+    }
+
     fn submit(&mut self, command: Command, bytes: &[u8]) -> io::Result<()> {
         (**self).submit(command, bytes)
     }
@@ -42,6 +74,10 @@ impl<H: Host + ?Sized> Host for &mut H {
 
 /// A `Box<dyn Host>` is for a host that is chosen when the program runs.
 impl<H: Host + ?Sized> Host for Box<H> {
+    fn fits(&self, slots: Slots) -> io::Result<()> {
+        (**self).fits(slots)
+    }
+
     fn submit(&mut self, command: Command, bytes: &[u8]) -> io::Result<()> {
         (**self).submit(command, bytes)
     }
@@ -51,8 +87,8 @@ impl<H: Host + ?Sized> Host for Box<H> {
     }
 }
 
-/// A host that notes what it sees: every command, in the order in which they
-/// were submitted.
+/// A host that notes the commands that it sees, in the order in which they
+/// were submitted, and not the bytes.
 #[derive(Clone, Debug, Default)]
 pub struct Recorded<H> {
     host: H,
@@ -60,7 +96,7 @@ pub struct Recorded<H> {
 }
 
 impl<H> Recorded<H> {
-    /// Notes what this host sees.
+    /// Notes the commands that this host sees.
     #[must_use]
     pub fn new(host: H) -> Recorded<H> {
         Recorded {
@@ -94,6 +130,10 @@ impl<H> Recorded<H> {
 }
 
 impl<H: Host> Host for Recorded<H> {
+    fn fits(&self, slots: Slots) -> io::Result<()> {
+        self.host.fits(slots)
+    }
+
     fn submit(&mut self, command: Command, bytes: &[u8]) -> io::Result<()> {
         self.commands.push(command);
         self.host.submit(command, bytes)

@@ -3,8 +3,11 @@
 //! A [`Reader`] looks blocks up at a [`Host`] that must not learn which: with a
 //! place in the eviction cache for every block (E = N), the slots that the host
 //! sees read and written, their order and their number do not tell which block
-//! was asked for, nor whether it was read or written. The bytes are not sealed
-//! here, and time is not hidden.
+//! was asked for, nor whether it was read or written. That is said of the
+//! commands: the bytes are not sealed here, and time is not hidden. Whoever
+//! needs the bytes sealed does it in the host, at every write and each time
+//! anew; to seal contents before they are written is not enough
+//! ([`Host`](Host#sealing) says why).
 //!
 //! ```
 //! use rinwolfedd::{Error, MemoryHost, Reader, Recorded, Shape};
@@ -18,13 +21,14 @@
 //! assert_eq!(reader.read(7)?, [0; 8]); // never written
 //!
 //! for command in reader.host().commands() {
-//!     println!("{command}"); // all that the host saw, such as "w 3 0 1"
+//!     println!("{command}"); // each command that the host saw, such as "w 3 0 1"
 //! }
 //! # Ok::<(), Error>(())
 //! ```
 //!
 //! Slots are kept in a file ([`FileHost`]), in memory ([`MemoryHost`]), or by
-//! whatever implements [`Host`]; [`Recorded`] notes what a host sees.
+//! whatever implements [`Host`]; [`Recorded`] notes the commands that a host
+//! sees.
 //!
 //! Below the reader are the five calls: [`Store`] owns what they need, [`calls`]
 //! has them as the proved library exports them, over lent bytes and with the
@@ -35,7 +39,14 @@
 //! The calls are in the library `librinwolfedd.a`, which `scripts/library`
 //! writes to the repository's `target/staticlib`. It is linked from there, or
 //! from the folder that the environment variable `RINWOLFEDD_LIB_DIR` names
-//! when this crate is built.
+//! when this crate is built. The folder should be an absolute path: a relative
+//! one is taken from this crate's folder, wherever cargo is run.
+//!
+//! The library is for Linux on x86-64, and a build for anything else is an
+//! error. Where nothing is linked, as under clippy and rustdoc,
+//! `RINWOLFEDD_UNLINKED=1` lets both pass: a missing library, and another
+//! target. A build script of a package that depends on this one finds the C
+//! header in the folder `DEP_RINWOLFEDD_INCLUDE`.
 
 #![deny(missing_docs)]
 #![warn(clippy::missing_errors_doc, clippy::must_use_candidate)]
@@ -50,6 +61,7 @@ mod progress;
 mod reader;
 mod refusal;
 mod shape;
+mod slots;
 mod store;
 mod tape;
 
@@ -62,5 +74,6 @@ pub use progress::Progress;
 pub use reader::Reader;
 pub use refusal::{Refusal, UnknownNumber};
 pub use shape::Shape;
+pub use slots::Slots;
 pub use store::{Request, Store};
 pub use tape::Tape;

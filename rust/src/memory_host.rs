@@ -1,45 +1,52 @@
 //! A host in memory.
 
 use crate::command::{Command, Kind};
-use crate::host::{Host, none_outstanding, wrong};
+use crate::host::{Host, none_outstanding};
 use crate::refusal::Refusal;
-use crate::shape::Shape;
+use crate::slots::Slots;
+use std::fmt;
 use std::io;
 
 /// A host in memory that completes the submitted commands in random order. A
 /// write's bytes are in their slot only when it completes. The seed decides
 /// the order; it has no part in what is hidden.
-#[derive(Clone, Debug)]
+#[derive(Clone)]
 pub struct MemoryHost {
-    shape: Shape,
-    slots: Vec<u8>,
+    slots: Slots,
+    /// The bytes of all slots.
+    kept: Vec<u8>,
     /// The commands submitted and not completed, with the bytes of writes.
     outstanding: Vec<(Command, Vec<u8>)>,
     seed: u64,
 }
 
+/// Not the bytes, which are many, and may be those of blocks.
+impl fmt::Debug for MemoryHost {
+    fn fmt(&self, f: &mut fmt::Formatter<'_>) -> fmt::Result {
+        f.debug_struct("MemoryHost")
+            .field("slots", &self.slots)
+            .field("outstanding", &self.outstanding.len())
+            .finish_non_exhaustive()
+    }
+}
+
 impl MemoryHost {
-    /// A host for stores of this shape. All slots are zeros.
+    /// A host for stores of this shape, or for these [slots](Slots). All of
+    /// them are zeros.
     ///
     /// # Errors
     ///
-    /// [`Refusal::ShapeOutOfBounds`] if the shape is.
-    pub fn new(shape: Shape, seed: u64) -> Result<MemoryHost, Refusal> {
-        let slots = shape.slots().ok_or(Refusal::ShapeOutOfBounds)?;
+    /// [`Refusal::ShapeOutOfBounds`] if the shape is, or if the slots have more
+    /// bytes than can be addressed.
+    pub fn new(slots: impl Into<Slots>, seed: u64) -> Result<MemoryHost, Refusal> {
+        let slots = slots.into();
+        let length = slots.length().ok_or(Refusal::ShapeOutOfBounds)?;
         Ok(MemoryHost {
-            shape,
-            slots: vec![0; slots * shape.bytes()],
+            slots,
+            kept: vec![0; length],
             outstanding: Vec::new(),
             seed,
         })
-    }
-
-    fn slot(&mut self, command: Command) -> io::Result<&mut [u8]> {
-        let length = self.shape.bytes();
-        let index = command.index(self.shape);
-        index
-            .and_then(|index| self.slots.get_mut(index * length..(index + 1) * length))
-            .ok_or_else(|| wrong(format!("the host has no slot for {command}")))
     }
 
     /// A number below m, by the generator splitmix64.
@@ -53,12 +60,12 @@ impl MemoryHost {
 }
 
 impl Host for MemoryHost {
+    fn fits(&self, slots: Slots) -> io::Result<()> {
+        self.slots.hold(slots)
+    }
+
     fn submit(&mut self, command: Command, bytes: &[u8]) -> io::Result<()> {
-        self.slot(command)?;
-        if command.kind == Kind::Write && bytes.len() != self.shape.bytes() {
-            let length = bytes.len();
-            return Err(wrong(format!("{command} has {length} bytes")));
-        }
+        self.slots.submitted(command, bytes.len())?;
         self.outstanding.push((command, bytes.to_vec()));
         Ok(())
     }
@@ -67,14 +74,21 @@ impl Host for MemoryHost {
         if self.outstanding.is_empty() {
             return Err(none_outstanding());
         }
-        let index = self.below(self.outstanding.len());
-        let (command, bytes) = self.outstanding.swap_remove(index);
-        let slot = self.slot(command)?;
+        let chosen = self.below(self.outstanding.len());
+        let (command, bytes) = &self.outstanding[chosen];
+        let command = *command;
         match command.kind {
-            Kind::Write => slot.copy_from_slice(&bytes),
-            Kind::Read if buffer.len() == slot.len() => buffer.copy_from_slice(slot),
-            Kind::Read => return Err(wrong(format!("{command} has no room"))),
+            Kind::Write => {
+                let at = self.slots.submitted(command, bytes.len())?;
+                self.kept[at..at + bytes.len()].copy_from_slice(bytes);
+            }
+            // with a buffer of another length the command stays outstanding
+            Kind::Read => {
+                let at = self.slots.read(command, buffer.len())?;
+                buffer.copy_from_slice(&self.kept[at..at + buffer.len()]);
+            }
         }
+        self.outstanding.swap_remove(chosen);
         Ok(command)
     }
 }

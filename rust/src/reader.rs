@@ -19,7 +19,8 @@ const RANDOM: &str = "/dev/urandom";
 /// outstanding; so the next look-up finds nothing in its way.
 ///
 /// With E = N the commands do not tell which block was looked up, nor whether
-/// it was read or written. With a smaller cache a look-up may be refused with
+/// it was read or written; the bytes beside them do, unless the host
+/// [seals](Host#sealing) them. With a smaller cache a look-up may be refused with
 /// [`Refusal::CacheFull`], and that does depend on the blocks. To ask again is
 /// of no use: the same block is refused until another one, which waits in the
 /// cache, has been looked up, and its jobs have made room.
@@ -54,8 +55,9 @@ impl<H: Host> Reader<H> {
     ///
     /// # Errors
     ///
-    /// [`Error::Refused`] for a shape out of bounds, [`Error::Words`] if the
-    /// system has no random words.
+    /// [`Error::Refused`] for a shape out of bounds, [`Error::Host`] for a host
+    /// that it does not [fit](Host::fits), [`Error::Words`] if the system has no
+    /// random words.
     pub fn open(shape: Shape, host: H) -> Result<Reader<H>, Error> {
         let random = File::open(RANDOM).map_err(Error::Words)?;
         Reader::with_words(shape, host, random)
@@ -69,12 +71,14 @@ impl<H: Host, R: Read> Reader<H, R> {
     ///
     /// # Errors
     ///
-    /// [`Error::Refused`] for a shape out of bounds, [`Error::Words`] for a
-    /// source that fails or has fewer than N words.
+    /// [`Error::Refused`] for a shape out of bounds, [`Error::Host`] for a host
+    /// that it does not [fit](Host::fits), [`Error::Words`] for a source that
+    /// fails or has fewer than N words.
     pub fn with_words(shape: Shape, host: H, words: R) -> Result<Reader<H, R>, Error> {
         if !shape.is_within_bounds() {
             return Err(Refusal::ShapeOutOfBounds.into());
         }
+        host.fits(shape.into()).map_err(Error::Host)?;
         let mut words = Supply::new(words);
         words.ready(shape.blocks()).map_err(Error::Words)?;
         let mut tape = words.tape();

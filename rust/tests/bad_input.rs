@@ -40,7 +40,7 @@ fn files_that_fail_later() {
     let read_only = FileHost::from_file(File::open(&path).unwrap(), SHAPE).unwrap();
     fails(read_only);
 
-    let host = FileHost::open(&path, SHAPE).unwrap();
+    let host = FileHost::reuse(&path, SHAPE).unwrap();
     let mut reader = Reader::open(SHAPE, host).unwrap();
     reader.write(0, &[1, 2, 3, 4]).unwrap();
     let mut error = None;

@@ -18,7 +18,10 @@ fn the_example_stores_fish_and_shows_two_look_ups() {
     assert!(text.starts_with("4096 fish stored with "));
     assert!(text.contains("\nfish 1234: SSA-2023-01234, female, family 77, call rate 98.8 %"));
     assert!(text.contains("\nfish 17: SSA-2022-00017, male, family 1, "));
-    let seen = text.split("What the host saw:").nth(1).unwrap();
+    let seen = text
+        .split("The commands that the host saw:")
+        .nth(1)
+        .unwrap();
     // each look-up begins with reads, one to each filled level
     let first = seen
         .lines()

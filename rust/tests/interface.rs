@@ -3,7 +3,7 @@
 
 use rinwolfedd::calls::Answer;
 use rinwolfedd::{Command, Error, FileHost, Host, Kind, MemoryHost, Progress};
-use rinwolfedd::{Reader, Recorded, Refusal, Request, Shape, Store, Tape};
+use rinwolfedd::{Reader, Recorded, Refusal, Request, Shape, Slots, Store, Tape};
 use rinwolfedd::{UnknownNumber, calls};
 use std::fs::File;
 use std::io::{self, Write};
@@ -15,6 +15,7 @@ const fn both<T: Send + Sync>() {}
 
 const _: () = {
     both::<Shape>();
+    both::<Slots>();
     both::<UnknownNumber>();
     both::<Command>();
     both::<Kind>();
@@ -121,6 +122,31 @@ fn numbers_without_a_name() {
     assert_eq!([calls::READ, calls::WRITE], [1, 2]);
 }
 
+/// What is printed for a log has neither blocks nor contents nor words.
+#[test]
+fn nothing_secret_is_printed() {
+    let contents = &[222, 223];
+    let write = Request::Write {
+        block: 4011,
+        contents,
+    };
+    assert_eq!(format!("{write:?}"), "Write { .. }");
+    assert_eq!(
+        format!("{:?}", Request::Read { block: 4011 }),
+        "Read { .. }"
+    );
+    let tape = format!("{:?}", Tape::new(&[222; 6]));
+    assert_eq!(tape, "Tape { taken: 0, left: 3, .. }");
+    let shape = Shape::new(4, 2, 2, 2);
+    let mut reader = Reader::open(shape, MemoryHost::new(shape, 1).unwrap()).unwrap();
+    reader.write_all([contents; 4]).unwrap();
+    let text = format!("{reader:?}");
+    assert!(
+        text.contains("MemoryHost") && !text.contains("222"),
+        "{text}"
+    );
+}
+
 /// The host below one that notes commands, as it is and given back.
 #[test]
 fn a_recorded_host_is_reached_and_given_back() {
@@ -128,6 +154,7 @@ fn a_recorded_host_is_reached_and_given_back() {
     let host = Recorded::new(MemoryHost::new(shape, 1).unwrap());
     let mut reader = Reader::open(shape, host).unwrap();
     reader.write(1, &[1, 2]).unwrap();
-    let below = format!("{:?}", reader.host().host());
-    assert_eq!(format!("{:?}", reader.into_host().into_host()), below);
+    assert!(reader.host().host().fits(shape.into()).is_ok());
+    let mut below = reader.into_host().into_host();
+    assert!(below.next_completed(&mut [0; 2]).is_err(), "all completed");
 }

@@ -185,7 +185,7 @@ fn an_array_with_a_host_in_a_file() {
         drop(host);
         let length = shape.slots().unwrap() * shape.bytes();
         assert_eq!(std::fs::metadata(&file.0).unwrap().len(), length as u64);
-        look_ups(shape, FileHost::open(&file.0, shape).unwrap(), 1, 100);
+        look_ups(shape, FileHost::reuse(&file.0, shape).unwrap(), 1, 100);
     }
 }
 
