@@ -74,10 +74,15 @@ fn slots_that_cannot_be() {
     }
 }
 
-/// The room is taken when the file is created, not when slots are written.
+/// The room is taken when the file is created, not when slots are written. A
+/// file system that keeps zeros without taking room is not asked for it.
 #[test]
 fn a_created_file_has_its_room() {
     let folder = Folder::new("room");
+    let zeros = folder.path("zeros");
+    std::fs::write(&zeros, [0; 65536]).unwrap();
+    File::open(&zeros).unwrap().sync_all().unwrap();
+    let takes_room = zeros.metadata().unwrap().blocks() * 512 >= 65536;
     let shape = Shape::new(1024, 16, 7, 256);
     let path = folder.path("file");
     for (slots, each) in [
@@ -87,7 +92,8 @@ fn a_created_file_has_its_room() {
         drop(FileHost::create(&path, slots).unwrap());
         let created = path.metadata().unwrap();
         assert_eq!(created.len(), 16 * 254 * each);
-        assert!(created.blocks() * 512 >= created.len(), "it has holes");
+        let full = created.blocks() * 512 >= created.len();
+        assert!(full || !takes_room, "it has holes");
         std::fs::remove_file(&path).unwrap();
     }
 }
