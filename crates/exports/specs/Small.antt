@@ -30,7 +30,7 @@ use Rattle.memory.specs.Fits.{shapeOf, parts-le, fit}
 use Rattle.memory.specs.Tables.{tablesOf}
 use Rattle.client.specs.declared.Client.{Client}
 use Rattle.client.specs.declared.Request.{Request}
-use Rattle.client.specs.View.{stateOf, view, handBy, requestOf, commandOf}
+use Rattle.client.specs.View.{stateOf, view, handBy, requestOf, commandBy}
 use Rattle.client.specs.Rows.{length-rows}
 use Rattle.memory.specs.declared.Shape as M
 use Rattle.codec.specs.Codec.{lowShape, lowRequest, lowClient}
@@ -143,7 +143,7 @@ low-client c m f =
     let y : (c .shape .b ≤ 512) × (c .shape .e ≤ c .shape .n) × (c .shape .w ≤ 32) = others-le h (f .shape) in
     let jobs : c .jobs ≤ 64 = omega (arith, jobs-le (stateOf c m .queue) (stateOf c m .request) (f .jobs), length-rows (λ i. fit (h .P) (tablesOf h m .queue i)) (c .jobs)) in
     let waiting : c .waiting ≤ c .shape .e = omega (arith, waits-le (h .E) (stateOf c m .waiting) (stateOf c m .request) (f .cache), length-rows (λ i. fit (h .N) (tablesOf h m .waiting i)) (c .waiting)) in
-    let out : c .out ≤ c .shape .w = omega (arith, f .free, length-rows (λ i. commandOf h (tablesOf h m .kinds i) (tablesOf h m .spots i)) (c .out)) in
+    let out : c .out ≤ c .shape .w = omega (arith, f .free, length-rows (λ i. commandBy h (tablesOf h m .kinds i) (tablesOf h m .spots i)) (c .out)) in
     let cells : slots (c .shape .l) ≤ 512 = pow-mono {i = c .shape .l + 1} {j = 9} (omega arith) in
     let writes : 2 ^ c .shape .l ≤ 256 = pow-mono {i = c .shape .l} {j = 8} (omega arith) in
     let cursor : c .cursor ≤ slots (c .shape .l) - 2 = f .cursor in
