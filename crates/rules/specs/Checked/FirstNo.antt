@@ -6,7 +6,7 @@ use Prim.Native.Nat.{ℕ}
 use lib.ListN.{replicate}
 use lib.Dec.{eqb}
 use Rattle.lists.specs.Tests.{if_then_else_}
-use Rattle.rules.specs.Shape.{Shape}
+use Rattle.rules.specs.Shape.{Shape, cell}
 use Rattle.rules.specs.State.{State, cmd, read, write, closed}
 use Rattle.rules.specs.Setters.{_▷_, setQueue, setWaiting, setSent, setOutstanding, setCounter, setHolds}
 use Rattle.rules.specs.Open.{fresh}
@@ -53,9 +53,13 @@ waits = store ▷ setWaiting (1 ∷ [])
 outstanding : State
 outstanding = store ▷ setOutstanding (cmd read 0 1 0 ∷ [])
 
+-- two blocks, two partitions of one level
+pair : Shape
+pair = shape 2 2 1 1 1 1
+
 -- a level of two slots, both of which hold a block: its rebuild would gather two for a level that holds one. No call leaves such a state
 crowded : State
-crowded = fresh (shape 2 2 1 1 1 1) (0 ∷ 0 ∷ []) ▷ setCounter (λ q. 1) ▷ setHolds (λ c. if eqb c 2 then 1 else (if eqb c 3 then 2 else 0)) ▷ setQueue (0 ∷ [])
+crowded = fresh pair (0 ∷ 0 ∷ []) ▷ setCounter (λ q. 1) ▷ setHolds (λ c. if eqb c (cell pair 0 0 0) then 1 else (if eqb c (cell pair 0 0 1) then 2 else 0)) ▷ setQueue (0 ∷ [])
 
 -- a read of a block, with so many bytes of contents, and no word
 reads : State → ℕ → ℕ → ℕ → ℕ
@@ -96,5 +100,5 @@ unfolding model opens store asked waits reads collects completes numbers
 first-no = refl
 
 pub first-no-turn : turning ≡ 2 ∷ 9 ∷ 9 ∷ 10 ∷ 15 ∷ 3 ∷ 2 ∷ []
-unfolding model store queued writing outstanding crowded turns turning
+unfolding model store queued writing outstanding pair crowded turns turning
 first-no-turn = refl
