@@ -29,7 +29,8 @@ shapes =
     ∷ bounds 1 64 1 1 1 ∷ bounds 1 128 1 1 1 ∷ bounds 1 0 1 1 1  -- P up to 64
     ∷ bounds 1 1 0 1 1 ∷ bounds 1 1 512 1 1 ∷ bounds 1 1 513 1 1  -- B 1 to 512
     ∷ bounds 2 1 1 0 1 ∷ bounds 2 1 1 2 1 ∷ bounds 2 1 1 3 1  -- E 1 to N
-    ∷ bounds 1 1 1 1 0 ∷ bounds 1 1 1 1 32 ∷ bounds 1 1 1 1 33 ∷ []  -- W 1 to 32
+    ∷ bounds 1 1 1 1 0 ∷ bounds 1 1 1 1 32 ∷ bounds 1 1 1 1 33  -- W 1 to 32
+    ∷ opens (shape 1 1 0 1 1 1) 100000000 ∷ opens (shape 1 1 1 1 1 1) 100000000 ∷ []  -- L from 1 on
 
 -- ---- The other four
 
@@ -91,7 +92,7 @@ turning =
     turns outstanding 0 0 0 ∷ turns outstanding 1000000 0 0 ∷ turns writing 1000000 0 0 ∷ turns store 1000000 0 0  -- 2 before 9; 9 before 10; 9 before 15; 10
     ∷ turns queued 1000000 0 0 ∷ turns crowded 1000000 0 1 ∷ turns crowded 1000000 1 1 ∷ []  -- 15 before 3; 3 before the last 2; 2
 
-pub bounds-hold : shapes ≡ 3 ∷ 1 ∷ 3 ∷ 1 ∷ 1 ∷ 1 ∷ 3 ∷ 1 ∷ 1 ∷ 3 ∷ 1 ∷ 1 ∷ 3 ∷ 1 ∷ []
+pub bounds-hold : shapes ≡ 3 ∷ 1 ∷ 3 ∷ 1 ∷ 1 ∷ 1 ∷ 3 ∷ 1 ∷ 1 ∷ 3 ∷ 1 ∷ 1 ∷ 3 ∷ 1 ∷ 1 ∷ 3 ∷ []
 unfolding model opens bounds shapes
 bounds-hold = refl
 
