@@ -8,7 +8,7 @@ TOP = Path(__file__).resolve().parent.parent
 FILES = {
     'lists': ('Rattle.lists.specs', 'Tests Search Tables'),
     'rules': ('Rattle.rules.specs', '''
-        Shape State Ranges Memory Draws Levels Blocks Open Request Rebuild Turn Completion Collect Questions Run'''),
+        Shape State Ranges Memory Draws Levels Blocks Open Request Rebuild Turn Completion Collect Questions Run Figures'''),
 }
 
 HEAD = '''-- One name under which all definitions unfold: a proof by computation says `unfolding model`. Written by gen/unfold.py.

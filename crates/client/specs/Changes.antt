@@ -15,6 +15,7 @@ use Rattle.lists.specs.Tests.{if_then_else_}
 use Rattle.lists.specs.Tables.{put, put-same, put-other}
 use Rattle.rules.specs.Shape.{Shape, slots, cell}
 use Rattle.rules.specs.State.{nowhere, stored}
+use Rattle.rules.specs.Blocks.{isNowhere}
 use Rattle.rules.specs.Setters.{setPartition, setPlace, setBytes, setCounter, setOrder, setMark, setHolds, setRequest}
 use Rattle.rules.specs.Laws.Levels.{two-slots}
 use Rattle.rules.specs.Laws.Layout.{offset-lt}
@@ -54,9 +55,16 @@ place-is n ℓ i h k =
     let d : slots ℓ + i - slots ℓ ≡ i = omega arith in
     rw (le-ltb (slots ℓ + i) 2 (omega (arith, two-slots ℓ)), e, d)
 
-pub place-nowhere : (n : ℕ) → placeOf n 0 ≡ nowhere
+pub nowhere-is : (n x : ℕ) → x < 2 → placeOf n x ≡ nowhere
 unfolding placeOf
-place-nowhere n = refl
+nowhere-is n x l = rw (lt-ltb x 2 l)
+
+pub stored-not : (n x : ℕ) → 2 ≤ x → isNowhere (placeOf n x) ≡ false
+unfolding isNowhere placeOf
+stored-not n x l = rw (le-ltb x 2 l)
+
+pub place-nowhere : (n : ℕ) → placeOf n 0 ≡ nowhere
+place-nowhere n = nowhere-is n 0 (omega arith)
 
 mod-of : (x q m : ℕ) → x < m → (x + q * m) % m ≡ x
 mod-of x q m h = add-mul-mod-self-right x q m ∙ mod-eq-of-lt h

@@ -1,7 +1,7 @@
 -- A list that lies in a table: pushing an entry, taking one out.
 use mathlib.Core.Path.{_≡_, refl, ap, sym, _∙_, fun-ext}
 use mathlib.Core.Bool.{Bool, true, false}
-use mathlib.Core.List.{List, [], _∷_, _++_, map, append-nil}
+use mathlib.Core.List.{List, [], _∷_, _++_, map, append-nil, map-append}
 use mathlib.Core.Option.{none, some}
 use Prim.Native.Nat.{ℕ, zero, suc, _+_, _-_, _≤_, _<_}
 use native.Mathlib.Omega.{arith}
@@ -9,7 +9,7 @@ use native.Mathlib.Decide.{ℕ-discrete}
 use lib.ListN.{length, getD, length-map}
 use Rattle.lists.specs.Tests.{or-left, or-right}
 use Rattle.lists.specs.Search.{find, any, keep, without, below, count, find-yes, find-no, without-yes, without-no, keep-yes, keep-no}
-use Rattle.lists.specs.Lengths.{length-below}
+use Rattle.lists.specs.Lengths.{length-below, below-last}
 use Rattle.lists.specs.Tables.{put, put-same, put-other}
 use Rattle.client.specs.View.{rows}
 
@@ -36,18 +36,10 @@ module _ {A : Type 0} where
   unfolding rows
   length-rows g n = simp length-map (length-below n)
 
-  map-snoc : (g : ℕ → A) (a n : ℕ) → map g (count a (suc n)) ≡ map g (count a n) ++ (g (a + n) ∷ [])
-  unfolding count
-  map-snoc g a zero = ap (λ x. g x ∷ []) (omega arith)
-  map-snoc g a (suc n) = ap (λ r. g a ∷ r) (map-snoc g (suc a) n ∙ ap (λ x. map g (count (suc a) n) ++ (g x ∷ [])) (omega arith))
-
   -- one entry more
   pub rows-snoc : (g : ℕ → A) (n : ℕ) → rows g (n + 1) ≡ rows g n ++ (g n ∷ [])
-  unfolding rows below
-  rows-snoc g n =
-      let e : n + 1 ≡ suc n = omega arith in
-      let z : 0 + n ≡ n = omega arith in
-      rw e (map-snoc g 0 n ∙ ap (λ x. map g (count 0 n) ++ (g x ∷ [])) z)
+  unfolding rows
+  rows-snoc g n = ap (map g) (below-last n) ∙ map-append g (below n) (n ∷ [])
 
   map-shift : (g : ℕ → A) (a n : ℕ) → map g (count (suc a) n) ≡ map (λ i. g (suc i)) (count a n)
   unfolding count

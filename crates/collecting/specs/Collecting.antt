@@ -8,7 +8,7 @@ use native.Mathlib.Omega.{arith}
 use lib.ListN.{length, replicate}
 use lib.Dec.{eqb}
 use lib.Pow.{pow-pos}
-use borrow.Author.Tests.{ne-eqb, lt-ltb, le-ltb, eqb-true}
+use borrow.Author.Tests.{ne-eqb, le-ltb, eqb-true}
 use Rattle.lists.specs.Tests.{if_then_else_}
 use Rattle.lists.specs.Search.{any, member, keep, count}
 use Rattle.lists.specs.Tables.{put}
@@ -29,7 +29,7 @@ use Rattle.memory.specs.Fits.{shapeOf}
 use Rattle.client.specs.declared.Client.{Client}
 use Rattle.client.specs.View.{stateOf, view, requestOf, placeOf, levelOf}
 use Rattle.client.specs.Readings.{handOf, hand-none, hand-some}
-use Rattle.client.specs.Changes.{view-bytes, view-holds, view-place, view-partition, place-nowhere, level-le}
+use Rattle.client.specs.Changes.{view-bytes, view-holds, view-place, view-partition, place-nowhere, level-le, nowhere-is}
 use Rattle.client.specs.Ready.{Asked}
 use Rattle.client.specs.Moves.{noRequest, withRequest, withWaiting, withJobs, Room, Stands, stands, then as next}
 use Rattle.tape.specs.Tape.{wordsOf}
@@ -142,14 +142,6 @@ module _ (s : State) (r : R.Request) (p : ℕ) (e : s .partition (r .block) ≡ 
     finished-sent f = rw (e, h, left-is, f)
 
 -- ---- What is handed out
-
-pub stored-not : (n x : ℕ) → 2 ≤ x → isNowhere (placeOf n x) ≡ false
-unfolding isNowhere placeOf
-stored-not n x l = rw (le-ltb x 2 l)
-
-pub nowhere-is : (n x : ℕ) → x < 2 → placeOf n x ≡ nowhere
-unfolding placeOf
-nowhere-is n x l = rw (lt-ltb x 2 l)
 
 module _ (s : State) (b : ℕ) where
   pub contents-zeros : (isNowhere (s .place b) && not (member b (s .waiting))) ≡ true → contents s b ≡ replicate (s .shape .B) 0

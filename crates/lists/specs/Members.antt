@@ -1,7 +1,7 @@
 -- Members of lists, and of lists that are searched, kept from or added to.
 use mathlib.Core.Path.{_≡_, refl, ap, sym, _∙_, subst}
 use mathlib.Core.Logic.{_⊎_, inl, inr, ⊎-elim, ite}
-use mathlib.Core.Bool.{Bool, true, false, true≢false}
+use mathlib.Core.Bool.{Bool, true, false, _||_, true≢false}
 use mathlib.Core.List.{List, [], _∷_, _++_, map}
 use mathlib.Core.Option.{none, some}
 use Prim.Native.Nat.{ℕ, zero, suc, _+_, _≤_, _<_}
@@ -11,7 +11,7 @@ use native.Mathlib.Decide.{ℕ-discrete}
 use lib.Dec.{eqb}
 use borrow.Author.Tests.{eqb-true, eqb-false, eq-eqb, ne-eqb}
 use Rattle.lists.specs.Search.{find, keep, any, without, below, count, member, keep-yes, keep-no, find-yes, find-no, without-yes, without-no, indexOf, indexFrom}
-use Rattle.lists.specs.All.{All, nil, cons}
+use Rattle.lists.specs.All.{All, nil, cons, any-last}
 use Rattle.lists.specs.Distinct.{Mem, NoDup, index}
 use Rattle.lists.specs.Tests.{or-true, or-left, or-right}
 use Rattle.lists.specs.Lengths.{length-count}
@@ -109,6 +109,16 @@ without-gone b (x ∷ xs) u m = go (eqb b x) refl (without-gone b xs (u .1))
     go : (t : Bool) → eqb b x ≡ t → ¬ Mem b (without (eqb b) xs) → ⊥
     go true e ih = u .0 (rw (eqb-true b x e) at (rw (without-yes (eqb b) x xs e) at m))
     go false e ih = ⊎-elim (eqb-false b x e) ih (rw (without-no (eqb b) x xs e) at m)
+
+-- a list with one element more, at the end
+pub member-end-same : (x : ℕ) (xs : List ℕ) → member x (xs ++ (x ∷ [])) ≡ true
+unfolding member
+member-end-same x xs = any-last (eqb x) xs x (eq-eqb x x refl)
+
+pub member-end-other : (x y : ℕ) (xs : List ℕ) → ¬ (x ≡ y) → member x (xs ++ (y ∷ [])) ≡ member x xs
+unfolding member any
+member-end-other x y [] n = rw (ne-eqb x y n)
+member-end-other x y (z ∷ xs) n = ap (λ t. eqb x z || t) (member-end-other x y xs n)
 
 pub nodup-snoc : (xs : List ℕ) (b : ℕ) → NoDup xs → ¬ Mem b xs → NoDup (xs ++ (b ∷ []))
 nodup-snoc [] b u n = ((λ m. m), tt)

@@ -1,29 +1,14 @@
 -- Words that the theorems use: nothing of the invariant.
 use mathlib.Core.Path.{_≡_}
-use mathlib.Core.Bool.{not, _&&_}
+use mathlib.Core.Bool.{_&&_}
 use mathlib.Core.List.{List, [], _∷_}
 use Prim.Native.Nat.{ℕ, _^_, _≤_, _<_}
 use lib.Dec.{eqb, ltb}
 use Rattle.lists.specs.All.{All}
-use Rattle.lists.specs.Search.{keep, below, member}
 use Rattle.lists.specs.Tests.{if_then_else_}
-use Rattle.rules.specs.Blocks.{isNowhere}
 use Rattle.rules.specs.Run.{Outcome}
 use Rattle.rules.specs.Shape.{Shape, cell, slots}
-use Rattle.rules.specs.State.{State, Command, cmd, read, write}
-
--- ---- Blocks by their place
-
--- "Per block: its place: nowhere, waiting in the cache, or in a level as an item": the blocks that are nowhere, those that are stored in a
--- level, and those that wait
-unfoldable pub nowhereBlocks : State → List ℕ
-nowhereBlocks s = keep (λ b. isNowhere (s .place b) && not (member b (s .waiting))) (below (s .shape .N))
-
-unfoldable pub storedBlocks : State → List ℕ
-storedBlocks s = keep (λ b. not (isNowhere (s .place b))) (below (s .shape .N))
-
-unfoldable pub waitingBlocks : State → List ℕ
-waitingBlocks s = keep (λ b. member b (s .waiting)) (below (s .shape .N))
+use Rattle.rules.specs.State.{Command, cmd, read, write}
 
 -- ---- Slots and commands
 

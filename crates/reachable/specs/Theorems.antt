@@ -12,9 +12,12 @@ use lib.ListN.{length}
 use borrow.Author.Tests.{leb-false}
 use Rattle.lists.specs.All.{All}
 use Rattle.lists.specs.Search.{find, any, orElse}
+use Rattle.lists.specs.Totals.{total}
 use Rattle.rules.specs.Blocks.{isUnread}
 use Rattle.rules.specs.Completion.{isCommand}
+use Rattle.rules.specs.Figures.{nowhereBlocks, storedBlocks, waitingBlocks, inPartition, jobsFor}
 use Rattle.rules.specs.Laws.Answers.{opens}
+use Rattle.rules.specs.Laws.Figures.{places-add, stored-adds, waiting-adds, jobs-add, front-counts}
 use Rattle.rules.specs.Levels.{filled, sources}
 use Rattle.rules.specs.Memory.{needed}
 use Rattle.rules.specs.Questions
@@ -27,14 +30,14 @@ use Rattle.rules.specs.State.{State, Command, cmd, read, write, Request, closed
 use Rattle.rules.specs.Turn
 use Rattle.rules.specs.Turn.{idle, Step, noDummy, readForRequest, readForJob, rebuild, decide, command}
 use Rattle.rules.specs.Unfold.{model}
-use Rattle.reachable.specs.Counts.{places-add, waiting-all}
+use Rattle.reachable.specs.Counts.{waiting-all, begun-front}
 use Rattle.reachable.specs.Decided.{Rebuilds, decided, JobReads}
 use Rattle.reachable.specs.Found.{request-decides, scan-all, lower-read, lowest-dummy, decided-filled, sent-turn}
 use Rattle.reachable.specs.Never.{always-possible, never-many, late-two, never-full, full-ready}
 use Rattle.reachable.specs.Reached.{Was, reachable, live, shut, ready-memory, was-reached}
 use Rattle.reachable.specs.Sends.{write-within, reads-after-writes, behind, read-is}
 use Rattle.reachable.specs.Slots.{front-in}
-use Rattle.reachable.specs.Terms.{nowhereBlocks, storedBlocks, waitingBlocks, Apart, none-apart, Numbered, LowestDummy, EachAfterWrite}
+use Rattle.reachable.specs.Terms.{Apart, none-apart, Numbered, LowestDummy, EachAfterWrite}
 
 -- a closed state sends nothing
 closed-idle : decide closed ≡ idle
@@ -115,11 +118,7 @@ module _ (s : State) (c : Call) (h : Shape) (first : c .ask ≡ opening h) (cs :
 
   -- ---- "Per block: its place: nowhere, waiting in the cache, or in a level": all blocks are counted, once
   pub three-counts : length (nowhereBlocks left) + length (storedBlocks left) + length (waitingBlocks left) ≡ left .shape .N
-  three-counts = go was
-    where
-      go : Was left → length (nowhereBlocks left) + length (storedBlocks left) + length (waitingBlocks left) ≡ left .shape .N
-      go (live f) = places-add left f
-      go (shut w) = rw w (unfold nowhereBlocks storedBlocks waitingBlocks model in refl)
+  three-counts = places-add left
 
   -- those that wait are the list of the waiting blocks, each once
   pub waiting-count : length (waitingBlocks left) ≡ length (left .waiting)
@@ -128,6 +127,40 @@ module _ (s : State) (c : Call) (h : Shape) (first : c .ask ≡ opening h) (cs :
       go : Was left → length (waitingBlocks left) ≡ length (left .waiting)
       go (live f) = waiting-all left f
       go (shut w) = rw w (unfold waitingBlocks model in refl)
+
+  -- ---- Document 02, P1: the columns of the page add up: blocks stored, blocks waiting, and all jobs of the queue
+  pub stored-column : total (left .shape .P) (λ q. inPartition left q (storedBlocks left)) ≡ length (storedBlocks left)
+  stored-column = go was
+    where
+      go : Was left → total (left .shape .P) (λ q. inPartition left q (storedBlocks left)) ≡ length (storedBlocks left)
+      go (live f) = stored-adds left (f .range)
+      go (shut w) = rw w (unfold total model in refl)
+
+  pub waiting-column : total (left .shape .P) (λ q. inPartition left q (waitingBlocks left)) ≡ length (waitingBlocks left)
+  waiting-column = go was
+    where
+      go : Was left → total (left .shape .P) (λ q. inPartition left q (waitingBlocks left)) ≡ length (waitingBlocks left)
+      go (live f) = waiting-adds left (f .range)
+      go (shut w) = rw w (unfold total model in refl)
+
+  pub jobs-column : total (left .shape .P) (jobsFor left) ≡ length (left .queue)
+  jobs-column = go was
+    where
+      go : Was left → total (left .shape .P) (jobsFor left) ≡ length (left .queue)
+      go (live f) = jobs-add left (f .range)
+      go (shut w) = rw w (unfold total model in refl)
+
+  -- "A begun job counts as queued": one that has gone over slots or sent a write is the front of the queue, and counts for its partition
+  pub begun-counts : ((left .cursor ≡ 0 → ⊥) ⊎ (left .sent ≡ 0 → ⊥)) → (q : ℕ) × ((rest : List ℕ) × ((left .queue ≡ q ∷ rest) × (1 ≤ jobsFor left q)))
+  begun-counts n = go was
+    where
+      idle-closed : (left .cursor ≡ 0) × (left .sent ≡ 0) → ((left .cursor ≡ 0 → ⊥) ⊎ (left .sent ≡ 0 → ⊥)) → ⊥
+      idle-closed z (inl m) = m (z .0)
+      idle-closed z (inr m) = m (z .1)
+
+      go : Was left → (q : ℕ) × ((rest : List ℕ) × ((left .queue ≡ q ∷ rest) × (1 ≤ jobsFor left q)))
+      go (live f) = let w = begun-front left f n in (w .0, (w .1 .0, (w .1 .1, front-counts left (w .0) (w .1 .0) (w .1 .1))))
+      go (shut w) = absurd (idle-closed (rw w (unfold closed in (refl, refl))) n)
 
   -- ---- "A slot never has two commands outstanding"
   pub one-command : Apart (left .outstanding)

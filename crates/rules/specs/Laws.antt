@@ -11,3 +11,4 @@ pub mod Kept
 pub mod Shapes
 pub mod Asked
 pub mod Lengths
+pub mod Figures

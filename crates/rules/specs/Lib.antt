@@ -15,6 +15,8 @@ pub mod Completion
 pub mod Collect
 pub mod Questions
 pub mod Run
+-- Document 02: the figures of a page
+pub mod Figures
 -- Theorems: sessions and edges that the checker computes, and laws
 pub mod Unfold
 pub mod Checked

@@ -19,13 +19,14 @@ use Rattle.rules.specs.Completion.{isCommand, completed, gatherBytes, co
 use Rattle.rules.specs.Collect.{finished, emptied, finish, collected, answer}
 use Rattle.rules.specs.Questions.{bounds, ready, sends, possible, inHand, questions, firstNo, number}
 use Rattle.rules.specs.Run.{act, refuse, sentCommand, written, handed, numbersOf, takenOf, refused, accepted, step, run, after}
+use Rattle.rules.specs.Figures.{nowhereBlocks, storedBlocks, waitingBlocks, inPartition, jobsFor, figures, allFigures}
 use Rattle.rules.specs.Shape.{Shape}
 use Rattle.rules.specs.State.{Command}
 use Rattle.rules.specs.Questions.{Ask, Call}
 use Rattle.rules.specs.Run.{Outcome}
 
 unfoldable pub model : Unit {0}
-unfolding every between find keep any all without isNone orElse count below member indexFrom indexOf put putAll within cell offset closed isKind bytesOf rangePlace rangeCommand rangeRequest queueFits others cacheFits eachCell ranges inRange needed draw drawnFirst draws exchange shuffle newOrder orderBounds filled trailingOnes sources target grown named holder entries blocksIn isUnread zeros isNowhere contents slotBytes fresh accept held levelsLeft slotIn dummy passLevel places unread chosen isChosen gathered itemPlace newPlace itemHolds newHolds cleared leave doRebuild readStep firstRead requestStep gatherStep rebuildStep writeStep jobStep decide command stepBounds send markRead doStep isCommand completed gatherBytes completeRead jobDone endJob finishJob completeWrite complete finished emptied finish collected answer bounds ready sends possible inHand questions firstNo number act refuse sentCommand written handed numbersOf takenOf refused accepted step run after
+unfolding every between find keep any all without isNone orElse count below member indexFrom indexOf put putAll within cell offset closed isKind bytesOf rangePlace rangeCommand rangeRequest queueFits others cacheFits eachCell ranges inRange needed draw drawnFirst draws exchange shuffle newOrder orderBounds filled trailingOnes sources target grown named holder entries blocksIn isUnread zeros isNowhere contents slotBytes fresh accept held levelsLeft slotIn dummy passLevel places unread chosen isChosen gathered itemPlace newPlace itemHolds newHolds cleared leave doRebuild readStep firstRead requestStep gatherStep rebuildStep writeStep jobStep decide command stepBounds send markRead doStep isCommand completed gatherBytes completeRead jobDone endJob finishJob completeWrite complete finished emptied finish collected answer bounds ready sends possible inHand questions firstNo number act refuse sentCommand written handed numbersOf takenOf refused accepted step run after nowhereBlocks storedBlocks waitingBlocks inPartition jobsFor figures allFigures
 model = tt
 
 -- short forms, for sessions and the table of edges

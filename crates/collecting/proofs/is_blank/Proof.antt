@@ -3,7 +3,7 @@ use mathlib.Core.Bool.{not}
 use native.Mathlib.Omega.{arith}
 use Rattle.rules.specs.Blocks.{isNowhere}
 use Rattle.client.specs.Readings.{place-as}
-use Rattle.collecting.specs.Collecting.{stored-not, nowhere-is}
+use Rattle.client.specs.Changes.{stored-not, nowhere-is}
 use Rattle.collecting.proofs.is_blank.Statement.{statement}
 use Rattle.collecting.proofs.is_blank.Tie as tie
 

@@ -76,7 +76,7 @@ pub refused-outcome : (s : State) (c : Call) → (number s c ≡ 0 → ⊥) → 
 refused-outcome s c h = ap (λ (r : State × Outcome). r .1) (step-refused s c h)
 
 -- "A closed state, to which the other four reply 2"
-closed-unready : (m : ℕ) → ready closed m ≡ false
+pub closed-unready : (m : ℕ) → ready closed m ≡ false
 unfolding ready inRange ranges within closed between every
 closed-unready m = and-false (leb (needed (closed .shape)) m)
   where
