@@ -67,10 +67,6 @@ pub decimal-le : (n : ℕ) → length (decimal n) ≤ 5
 unfolding decimal
 decimal-le n = digits-le 5 n
 
--- room for one digit more
-pub decimal-room : (n : ℕ) → 10 ≤ n → n < 100000 → length (decimal (n / 10)) ≤ 4
-decimal-room n l h = omega (arith, decimal-le n, ap length (decimal-more n l h), length-append (decimal (n / 10)) (digitOf (n % 10) ∷ []))
-
 pub hexadecimal-length : (xs : List ℕ) → length (hexadecimal xs) ≡ 2 * length xs
 unfolding hexadecimal
 hexadecimal-length [] = refl

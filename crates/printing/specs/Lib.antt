@@ -1,4 +1,6 @@
 pub mod Text
+pub mod Columns
 pub mod Written
 pub mod Laws
+pub mod Widths
 pub mod Checked

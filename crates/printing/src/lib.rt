@@ -1,4 +1,6 @@
 // The text of an answer, put into a buffer from a place on. Each function returns the place behind it.
+pub mod columns;
+
 ghost use mathlib.Core.Path.{_≡_};
 ghost use mathlib.Core.List.{[], _∷_};
 ghost use Prim.Native.Nat.{_+_, _*_, _/_, _%_, _≤_, _<_};
@@ -30,7 +32,7 @@ pub const TEXT: usize = 1027;
 
 // The digits before the last are those of a tenth of the number: five calls at most.
 fn digits(out: &mut [u8], at: usize, n: usize) -> usize
-    requires { ⌜ (n < 65536) × (at + 5 ≤ length (now out)) ⌝ }
+    requires { ⌜ (n < 65536) × (at + length (decimal n) ≤ length (now out)) ⌝ }
     ensures { λ r. ⌜ Written (now (out .entry)) at (decimal n) (now (out .exit)) r ⌝ }
 {
     if n < 10 {

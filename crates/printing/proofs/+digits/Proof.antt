@@ -5,7 +5,8 @@ use mathlib.Core.List.{[], _∷_, _++_}
 use Prim.Native.Nat.{ℕ, _/_, _<_}
 use native.Mathlib.Omega.{arith}
 use Rattle.printing.specs.Text.{decimal}
-use Rattle.printing.specs.Laws.{decimal-one, decimal-more, decimal-room}
+use Rattle.printing.specs.Laws.{decimal-one, decimal-more}
+use Rattle.printing.specs.Widths.{width-1, width-less}
 use Rattle.printing.specs.Written.{followed, same-text}
 use borrow.Fn.Kinds.{In}
 use borrow.Fn.PlainCycle.{Measures, is, falls, and}
@@ -34,7 +35,7 @@ digits-digit-requires : (t : ℕ) → digits-lts.Need-digit-requires (claims t) 
 digits-digit-requires t c κs = search needs
 
 digits-put-requires : (t : ℕ) → digits-lts.Need-put-requires (claims t) (digits-at t) digits.Post
-digits-put-requires t c κs = search needs
+digits-put-requires t c κs = let w = width-1 (c .before .before .before .before .args .n) (omega arith) in search needs
 
 digits-same-length : (t : ℕ) → digits-lts.Need-same-length (claims t) (digits-at t) digits.Post
 digits-same-length t c = search needs
@@ -46,7 +47,7 @@ digits-returns t c =
     (c .before .before .put .ensures)
 
 digits-digits-requires : (t : ℕ) → digits-lts.Need-digits-requires (claims t) (digits-at t) digits.Post
-digits-digits-requires t c κs = search needs
+digits-digits-requires t c κs = let w = width-less (c .before .before .before .args .n) (omega arith) (omega arith) in search needs
 
 digits-digit-requires-2 : (t : ℕ) → digits-lts.Need-digit-requires-2 (claims t) (digits-at t) digits.Post
 digits-digit-requires-2 t c κs = search needs
@@ -55,7 +56,7 @@ digits-put-requires-2 : (t : ℕ) → digits-lts.Need-put-requires-2 (claims t) 
 digits-put-requires-2 t c κs =
     omega (
       arith,
-      decimal-room (c .before .before .before .before .before .before .before .before .args .n) (c .before .before .before .before .before .before .if1 .left) (omega arith),
+      width-less (c .before .before .before .before .before .before .before .before .args .n) (c .before .before .before .before .before .before .if1 .left) (omega arith),
       c .before .before .before .before .digits .ensures .place,
       c .before .before .before .before .digits .ensures .size,
     )

@@ -1,4 +1,5 @@
 use borrow.Author.Needs.{needs}
+use Rattle.printing.specs.Laws.{decimal-le}
 use Rattle.printing.specs.Written.{followed}
 use Rattle.printing.proofs.field.Statement.{statement}
 use Rattle.printing.proofs.field.Tie as tie
@@ -7,7 +8,7 @@ put-requires : tie.Need-put-requires
 put-requires c κs = search needs
 
 digits-requires : tie.Need-digits-requires
-digits-requires c κs = search needs
+digits-requires c κs = let w = decimal-le (c .before .before .before .before .before .before .args .n) in search needs
 
 same-length : tie.Need-same-length
 same-length c = search needs

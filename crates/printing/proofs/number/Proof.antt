@@ -7,7 +7,7 @@ use Rattle.printing.proofs.number.Statement.{statement}
 use Rattle.printing.proofs.number.Tie as tie
 
 digits-requires : tie.Need-digits-requires
-digits-requires c κs = search needs
+digits-requires c κs = let w = decimal-le (c .before .before .args .n) in search needs
 
 put-requires : tie.Need-put-requires
 put-requires c κs = omega (arith, decimal-le (c .before .before .before .before .before .before .args .n), c .before .before .before .digits .ensures .place, c .before .before .before .digits .ensures .size)
