@@ -3,3 +3,4 @@ pub mod Progress
 pub mod Exported
 pub mod Idle
 pub mod Determined
+pub mod Paged

@@ -1,8 +1,10 @@
-// The five calls for a host program: numbers and byte slices. The state is 64 bytes, the tape pairs of bytes, low byte first; the answer is one
+// The five calls, and the page of a store, for a host program: numbers and byte slices. The state is 64 bytes, the tape pairs of bytes, low byte first; the answer is one
 // number (see codec::pack). Every value of every number is answered; nothing is required.
+use client::Client;
 use codec::STATE;
 use contract::Answer;
 use memory::Shape;
+use report::Shown;
 ghost use mathlib.Core.Path.{_≡_};
 ghost use mathlib.Core.List.{[]};
 ghost use lib.ListN.{length, replicate};
@@ -12,7 +14,10 @@ ghost use Rattle.rules.specs.State.{cmd};
 ghost use Rattle.rules.specs.Questions.{request, turn, completion as completionOf, collect};
 ghost use Rattle.memory.specs.Fits.{shapeOf};
 ghost use Rattle.codec.specs.Codec.{stateLength, withProgress, withRest};
+ghost use Rattle.codec.specs.Codec.{packed};
+ghost use Rattle.contract.specs.Answers.{refusedWith, acceptedWith};
 ghost use Rattle.exports.specs.Exported.{Opened, Exported, HandedBack, HandedBackOpened, numbers};
+ghost use Rattle.exports.specs.Paged.{Paged};
 
 // The next state is handed back where the call was accepted. No call but an open changes the shape.
 fn hand_back(state: &mut [u8], r: Answer) -> u64
@@ -146,4 +151,26 @@ pub extern "C" fn rinwolfedd_collect(state: &mut [u8], memory: &mut [u8], buffer
     let c = codec::decode(state);
     let r = collecting::collect(c, memory, buffer);
     hand_back(state, r)
+}
+
+// A page's answer has its length where a call's has the words taken.
+fn tell(r: Shown, c: Client) -> u64
+    ensures { λ u. ⌜ (r .number ≡ 0 → u ≡ packed (acceptedWith c (r .length) 0 0 0 0)) × ((r .number ≡ 0 → ⊥) → u ≡ packed (refusedWith (r .number) c)) ⌝ }
+{
+    if r.number != 0 {
+        return codec::pack(contract::refused(r.number, c));
+    }
+    codec::pack(contract::accepted(c, r.length))
+}
+
+// State and memory are only read, so a page may be asked for between any two calls.
+#[no_mangle]
+pub extern "C" fn rinwolfedd_page(state: &[u8], memory: &[u8], buffer: &mut [u8]) -> u64
+    ensures { λ u. ⌜ Paged (now (state .entry)) (now (memory .entry)) (now (buffer .entry)) u (now (buffer .exit)) ⌝ }
+{
+    if state.len() != STATE {
+        return 2;
+    }
+    let c = codec::decode(state);
+    tell(report::write(c, memory, buffer), c)
 }
