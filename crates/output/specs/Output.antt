@@ -24,6 +24,7 @@ totalMost = 18446744073709551615
 pub record Placed (o : Output) (out : List ℕ) (r : Output) (out′ : List ℕ) : Type 0 where
   pub room : r .at + textRoom ≤ outRoom
   pub all : total r ≡ total o
+  pub silent : r .silent ≡ o .silent
   pub same : 0 < r .at → (r .at ≡ o .at) × (out′ ≡ out)
 
 -- Of all that was printed so far, the first bytes have left, and the others are what the buffer holds

@@ -1,8 +1,12 @@
-// The output's buffer: how much it holds, and how much left it. The field `gone` is private to this crate, so that nothing but `flush` can raise it.
+// The output's buffer: how much it holds, and how much left it. The fields `gone` and `silent` are private to this crate, so that nothing but `flush` can
+// raise the one, and nothing can change the other.
 use printing::TEXT;
 ghost use mathlib.Core.Path.{_≡_};
+ghost use mathlib.Core.Bool.{false};
+ghost use lib.ListN.{length};
 ghost use Rattle.output.specs.Output.{total, Placed};
 ghost use Rattle.output.specs.Printed.{Due};
+ghost use Rattle.output.specs.Paged.{PageDue};
 
 const STDOUT: i32 = 1;
 
@@ -12,8 +16,10 @@ pub const OUT: usize = 65536;
 pub struct Output {
     // how many bytes of the buffer are filled
     pub at: usize,
-    // how many bytes were handed to the system's write before these
+    // how many bytes left it before these
     gone: u64,
+    // whether what leaves it is dropped, and not handed to the system's write: the answers of a session of which only the end is to be shown
+    silent: bool,
 }
 
 // After a flush, and whether the write took all.
@@ -23,26 +29,49 @@ pub struct Flushed {
 }
 
 // Nothing is filled, and nothing left.
-pub fn empty() -> Output
-    ensures { λ r. ⌜ (r .at ≡ 0) × (r .gone ≡ 0) ⌝ }
+pub fn empty(silent: bool) -> Output
+    ensures { λ r. ⌜ (r .at ≡ 0) × (r .gone ≡ 0) × (r .silent ≡ silent) ⌝ }
 {
-    Output { at: 0, gone: 0 }
+    Output {
+        at: 0,
+        gone: 0,
+        silent,
+    }
 }
 
-// Hands what the buffer holds to the system's write, and counts it. `Due` says that these bytes are what follows those that left before, so that all calls
-// together hand over all that the session prints, in order. The buffer is lent as `&mut`, and nothing is promised of what it holds then, so that nothing is
-// handed over twice. No contract can say which bytes the system writes.
+// Hands bytes to the system's write, and tells whether it took all. A silent output may not.
+fn hand(text: &[u8], o: Output) -> bool
+    requires { ⌜ o .silent ≡ false ⌝ }
+{
+    io::write_all(STDOUT, text)
+}
+
+// What leaves the buffer is handed over, or dropped if the output is silent; then all is well.
+fn leave(text: &[u8], o: Output) -> bool {
+    if o.silent {
+        return true;
+    }
+    hand(text, o)
+}
+
+// Hands over what the buffer holds, or drops it if the output is silent, and counts it. `Due` says that these bytes are what follows those that left before, so
+// that all calls together hand over all that the session prints, in order. The buffer is lent as `&mut`, and nothing is promised of what it holds then, so that
+// nothing is handed over twice. No contract can say which bytes the system writes.
 pub fn flush(out: &mut [u8; OUT], o: Output) -> Flushed
     requires { ⌜ Due (now out) o ⌝ }
-    ensures { λ r. ⌜ (r .output .at ≡ 0) × (r .output .gone ≡ total o) ⌝ }
+    ensures { λ r. ⌜ (r .output .at ≡ 0) × (r .output .gone ≡ total o) × (r .output .silent ≡ o .silent) ⌝ }
 {
     let all: &[u8] = out;
     let at = o.at;
     let text = &all[..at];
-    let well = io::write_all(STDOUT, text);
+    let well = leave(text, o);
     let gone = o.gone + text.len() as u64;
     Flushed {
-        output: Output { at: 0, gone },
+        output: Output {
+            at: 0,
+            gone,
+            silent: o.silent,
+        },
         well,
     }
 }
@@ -59,11 +88,21 @@ pub fn place(out: &mut [u8; OUT], o: Output) -> Output
     sent.output
 }
 
-// Hands over what is left, and tells how many bytes left in all.
+// Hands over what is left, and tells how many bytes left in all. The output is not silent, so that all of them were handed to the system's write.
 pub fn finish(out: &mut [u8; OUT], o: Output) -> u64
-    requires { ⌜ Due (now out) o ⌝ }
+    requires { ⌜ Due (now out) o × (o .silent ≡ false) ⌝ }
     ensures { λ r. ⌜ r ≡ total o ⌝ }
 {
     let last = flush(out, o);
     last.output.gone
+}
+
+// Hands a page over, and tells how many bytes it has. `PageDue` says that they are the page of the state that a session leaves, and that the output was silent
+// up to here, so that they are all that was handed to the system's write.
+pub fn show(text: &[u8], o: Output) -> u64
+    requires { ⌜ PageDue (now text) o ⌝ }
+    ensures { λ r. ⌜ r ≡ length (now (text .entry)) ⌝ }
+{
+    io::write_all(STDOUT, text);
+    text.len() as u64
 }

@@ -8,3 +8,4 @@ pub mod Slots
 pub mod OpenLine
 pub mod TurnLine
 pub mod Host
+pub mod Opened

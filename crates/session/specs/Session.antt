@@ -123,3 +123,15 @@ begun host words = record { state = closed; words = words; host = host }
 unfoldable pub session : List ℕ → List (List ℕ) → List ℕ
 session host [] = []
 session host (l ∷ ls) = elim (tapeOf l) [ none ↦ prints (begun host []) (l ∷ ls) | some ws ↦ prints (begun host ws) ls ]
+
+-- ---- What a session leaves
+
+-- the session after these lines; a malformed one ends it
+unfoldable pub leaves : Session → List (List ℕ) → Session
+leaves s [] = s
+leaves s (l ∷ ls) = if ends (lineOf l) then s else leaves (gives s (lineOf l) .0) ls
+
+-- ..from its start, where the first line may be the tape
+unfoldable pub left : List ℕ → List (List ℕ) → Session
+left host [] = begun host []
+left host (l ∷ ls) = elim (tapeOf l) [ none ↦ leaves (begun host []) (l ∷ ls) | some ws ↦ leaves (begun host ws) ls ]

@@ -74,11 +74,12 @@ abbrev pub Gives : Bool → Session → ℕ → Output → List ℕ → Buffers 
 Gives true s n o line b r e = (r .session ≡ s) × (r .output ≡ o) × (e ≡ b)
 Gives false s n o line b r e = (p : Output) × ((out : List ℕ) × (Placed o (b .out) p out × (r .output .gone ≡ p .gone) × Answers s (lineOf line) (b .memory) (take n (b .tape)) (b .host) out (p .at) (record { session = r .session; at = r .output .at }) (e .memory) (e .host) (e .out)))
 
--- the places of the bytes that wait, and the length of the line that has begun, are as they were
+-- the places of the bytes that wait, the length of the line that has begun, and whether the output is silent, are as they were
 pub record Stays (s r : State) : Type 0 where
   pub from : r .from ≡ s .from
   pub to : r .to ≡ s .to
   pub len : r .len ≡ s .len
+  pub silent : r .output .silent ≡ s .output .silent
 
 pub record Responds (s : State) (line : List ℕ) (b : Buffers) (r : State) (e : Buffers) : Type 0 where
   pub ready : Ready r (e .tape)
@@ -109,6 +110,7 @@ pub record Refilled (s r : State) : Type 0 where
   pub len : r .len ≡ s .len
   pub at : r .output .at ≡ 0
   pub gone : r .output .gone ≡ total (s .output)
+  pub silent : r .output .silent ≡ s .output .silent
   pub from : r .from ≡ 0
   pub to : r .to ≤ 65536
   pub done : r .done ≡ eqb (r .to) 0

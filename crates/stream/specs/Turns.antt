@@ -9,30 +9,28 @@ use lib.ListN.{length, take, drop, length-append, take-append-drop}
 use lib.Seq.{take-suc, getD-take, length-take-le}
 use lib.Dec.{eqb}
 use borrow.Author.Tests.{eqb-true}
+use Rattle.client.specs.View.{stateOf}
+use Rattle.report.specs.Page.{shown}
 use Rattle.lines.specs.Lines.{tapeRoom}
 use Rattle.session.specs.Session as S
-use Rattle.session.specs.Session.{ends, prints, session}
+use Rattle.session.specs.Session.{ends, prints, session, leaves, left, begun, memoryRoom}
 use Rattle.printing.specs.Laws.{textRoom}
-use Rattle.session.specs.Answers.{kept, Served}
+use Rattle.session.specs.Answers.{kept, fresh, fresh-kept, Served}
+use Rattle.session.specs.TurnLine.{no-words}
 use Rattle.stream.specs.declared.State.{State}
 use Rattle.stream.specs.declared.Brought.the-variants.{Whole, Part, TooLong}
 use Rattle.output.specs.Output.{outRoom, total, totalMost, holds-none}
 use Rattle.stream.specs.Stream.{lineRoom, Ready, Plain, Ended, Goes, Past, Buffers, buffers, Stays, Responds, Begun, Refilled}
 use Rattle.output.specs.Printed.{cut, printed, Due}
-use Rattle.stream.specs.History.{Follows, coming, keptIn, waiting, History, Turned, Prints}
+use Rattle.output.specs.Paged.{paged, PageDue}
+use Rattle.stream.specs.History.{given, behindText, Follows, coming, keptIn, waiting, History, Turned, Followed, Prints, Pages}
 use Rattle.stream.specs.Laws.{most, waits-behind}
-use Rattle.stream.specs.Steps.{cut-plain, line-prints, line-follows, part-prints, part-follows, until, Does, responds-does, begun-does}
+use Rattle.stream.specs.Steps.{cut-plain, nothing-follows, line-gives, line-follows, part-gives, part-follows, until, Does, responds-does, begun-does}
 use Rattle.stream.specs.Long.{long-line, long-tape}
 
--- ---- No line prints nothing
-
-coming-none : (first : Bool) (k : S.Session) → coming first k [] ≡ []
-unfolding prints session
-coming-none true k = refl
-coming-none false k = refl
-
-until-none : (done : Bool) (k : S.Session) → until done (prints k) [] ≡ []
-unfolding prints
+-- no line prints nothing, and leaves the session as it is
+until-none : (done : Bool) (k : S.Session) → until done k [] ≡ (k, [])
+unfolding prints leaves
 until-none true k = refl
 until-none false k = refl
 
@@ -40,24 +38,24 @@ until-none false k = refl
 first-plain : (n : ℕ) (bytes : List ℕ) → Plain n bytes → Plain (length (take n bytes)) (take n bytes)
 first-plain n bytes f j h e = let l : j < n = omega (arith, most n bytes) in f j l (sym (getD-take n bytes j 0 l) ∙ e)
 
--- ---- A line that does not fit prints nothing
+-- ---- A line that does not fit gives nothing, and nor do those behind it
 
-long-prints : (first : Bool) (k : S.Session) (l : List ℕ) (ls : List (List ℕ)) → lineRoom < length l → coming first k (l ∷ ls) ≡ []
-unfolding prints session ends
-long-prints true k l ls h = rw (long-tape l h, session, long-line l h)
-long-prints false k l ls h = rw (long-line l h)
+long-gives : (first : Bool) (k : S.Session) (l : List ℕ) (ls : List (List ℕ)) → lineRoom < length l → coming first k (l ∷ ls) ≡ coming first k []
+unfolding prints leaves session left ends
+long-gives true k l ls h = rw (long-tape l h, session, left, long-line l h)
+long-gives false k l ls h = rw (long-line l h)
 
-module _ (f : List (List ℕ) → List ℕ) (end : f [] ≡ []) (long : (l : List ℕ) (ls : List (List ℕ)) → lineRoom < length l → f (l ∷ ls) ≡ []) where
-  long-cut : (had bytes : List ℕ) → lineRoom < length had → f (cut had bytes) ≡ []
+module _ (f : List (List ℕ) → S.Given) (long : (l : List ℕ) (ls : List (List ℕ)) → lineRoom < length l → f (l ∷ ls) ≡ f []) where
+  long-cut : (had bytes : List ℕ) → lineRoom < length had → f (cut had bytes) ≡ f []
   unfolding cut
-  long-cut had [] h = end
+  long-cut had [] h = refl
   long-cut had (x ∷ bytes) h = go (eqb x 10) refl (long-cut (had ++ (x ∷ [])) bytes (omega (arith, length-append had (x ∷ []))))
     where
-      go : (t : Bool) → eqb x 10 ≡ t → f (cut (had ++ (x ∷ [])) bytes) ≡ [] → f (cut had (x ∷ bytes)) ≡ []
+      go : (t : Bool) → eqb x 10 ≡ t → f (cut (had ++ (x ∷ [])) bytes) ≡ f [] → f (cut had (x ∷ bytes)) ≡ f []
       go true e r = rw (e, cut) (long had (cut [] bytes) h)
       go false e r = rw (e, cut) r
 
-  past-cut : (bytes had : List ℕ) → Past bytes had → f (cut had bytes) ≡ []
+  past-cut : (bytes had : List ℕ) → Past bytes had → f (cut had bytes) ≡ f []
   past-cut bytes had w =
       let n = lineRoom + 1 - length had in
       let size : length (take n bytes) ≡ n = length-take-le n bytes (omega (arith, w .more)) in
@@ -81,7 +79,7 @@ withDone s = record { session = s .session; tape = s .tape; first = s .first; do
 module _ (host past : List ℕ) (s : State) (chunk line : List ℕ) (b : Buffers) (h : History host past s chunk line b) (going : s .done ≡ false) where
   -- a newline is found, and the line is answered
   module _ (k i : ℕ) (line′ : List ℕ) (w : Ended (waiting s chunk) (take (s .len) line) k i line′) (r : State) (chunk′ line″ : List ℕ) (e : Buffers)
-      (d : Does (coming (s .first) (keptIn s b)) (take k line′) (s .output) (b .out) (until (r .done) (prints (keptIn r e))) (r .output) (e .out)) (first : r .first ≡ false) (len : r .len ≡ 0) where
+      (d : Does (coming (s .first) (keptIn s b)) (take k line′) (s .output) (b .out) (until (r .done) (keptIn r e)) (r .output) (e .out)) (first : r .first ≡ false) (len : r .len ≡ 0) where
     p : List ℕ
     p = take i (waiting s chunk)
 
@@ -92,37 +90,42 @@ module _ (host past : List ℕ) (s : State) (chunk line : List ℕ) (b : Buffers
     pub whole-history : History host (past ++ take (i + 1) (waiting s chunk)) r chunk′ line″ e
     unfolding p
     whole-history = rw with-newline (record {
-      text = rw printed-is (d .holds (printed host past) (h .text));
-      goes = λ z more. next more ∙ ap (λ t. printed host (past ++ (p ++ (10 ∷ []))) ++ until t (prints (keptIn r e)) (cut [] more)) z ∙ (λ j. printed host (past ++ (p ++ (10 ∷ []))) ++ coming (sym first j) (keptIn r e) (cut (take (sym len j) line″) more));
-      over = λ z. next (waiting r chunk′) ∙ ap (λ t. printed host (past ++ (p ++ (10 ∷ []))) ++ until t (prints (keptIn r e)) (cut [] (waiting r chunk′))) z ∙ append-nil (printed host (past ++ (p ++ (10 ∷ []))));
+      text = rw (ap (λ (x : S.Given). x .1) now) (d .holds (printed host past) (h .text));
+      leaves = ap (λ (x : S.Given). x .0) now;
+      goes = λ z more. next more ∙ ap (λ t. behindText (printed host (past ++ (p ++ (10 ∷ [])))) (until t (keptIn r e) (cut [] more))) z ∙ (λ j. behindText (printed host (past ++ (p ++ (10 ∷ [])))) (coming (sym first j) (keptIn r e) (cut (take (sym len j) line″) more)));
+      over = λ z. nothing-follows host (past ++ (p ++ (10 ∷ []))) [] (until (r .done) (keptIn r e)) next (waiting r chunk′) (ended z (cut [] (waiting r chunk′)));
     })
       where
-        one : (ls : List (List ℕ)) → coming (s .first) (keptIn s b) ((take (s .len) line ++ p) ∷ ls) ≡ d .text ++ until (r .done) (prints (keptIn r e)) ls
-        one ls = ap (λ l. coming (s .first) (keptIn s b) (l ∷ ls)) (sym (w .text)) ∙ d .prints ls
+        one : (ls : List (List ℕ)) → coming (s .first) (keptIn s b) ((take (s .len) line ++ p) ∷ ls) ≡ behindText (d .text) (until (r .done) (keptIn r e) ls)
+        one ls = ap (λ l. coming (s .first) (keptIn s b) (l ∷ ls)) (sym (w .text)) ∙ d .gives ls
 
         plain : Plain (length p) p
         plain = first-plain i (waiting s chunk) (w .plain)
 
-        printed-is : printed host (past ++ (p ++ (10 ∷ []))) ≡ printed host past ++ d .text
-        printed-is = line-prints host past (take (s .len) line) (coming (s .first) (keptIn s b)) (h .goes going) p plain (until (r .done) (prints (keptIn r e))) (d .text) one (until-none (r .done) (keptIn r e))
+        now : given host (past ++ (p ++ (10 ∷ []))) ≡ (keptIn r e, printed host past ++ d .text)
+        now = line-gives host past (take (s .len) line) (coming (s .first) (keptIn s b)) (h .goes going) p plain (until (r .done) (keptIn r e)) (d .text) one (keptIn r e) (until-none (r .done) (keptIn r e))
 
-        next : Follows host (past ++ (p ++ (10 ∷ []))) (until (r .done) (prints (keptIn r e))) []
-        next = line-follows host past (take (s .len) line) (coming (s .first) (keptIn s b)) (h .goes going) p plain (until (r .done) (prints (keptIn r e))) (d .text) one (until-none (r .done) (keptIn r e))
+        next : Follows host (past ++ (p ++ (10 ∷ []))) (until (r .done) (keptIn r e)) []
+        next = line-follows host past (take (s .len) line) (coming (s .first) (keptIn s b)) (h .goes going) p plain (until (r .done) (keptIn r e)) (d .text) one (keptIn r e) (until-none (r .done) (keptIn r e))
+
+        ended : r .done ≡ true → (ls : List (List ℕ)) → until (r .done) (keptIn r e) ls ≡ until (r .done) (keptIn r e) []
+        ended z ls = ap (λ t. until t (keptIn r e) ls) z ∙ sym (ap (λ t. until t (keptIn r e) []) z)
 
   -- none is found, and more is read
   module _ (k : ℕ) (line′ : List ℕ) (w : Goes (waiting s chunk) (take (s .len) line) k line′) (r : State) (chunk′ out′ : List ℕ) (f : Refilled (withLen k s) r) where
     pub part-history : History host (past ++ waiting s chunk) r chunk′ line′ (buffers (b .tape) (b .memory) (b .host) out′)
     part-history = record {
-      text = rw printed-is (holds-none (printed host past) (b .out) out′ (s .output) (r .output) (h .text) (omega (arith, f .at, f .gone)) (f .at));
-      goes = λ z more. next more ∙ (λ i. printed host (past ++ waiting s chunk) ++ coming (sym (f .first) i) (keptNow i) (cut (sym text i) more));
-      over = λ z. ap (λ l. printed host ((past ++ waiting s chunk) ++ l)) (nothing z) ∙ ap (printed host) (append-nil (past ++ waiting s chunk));
+      text = rw (ap (λ (x : S.Given). x .1) now) (holds-none (printed host past) (b .out) out′ (s .output) (r .output) (h .text) (omega (arith, f .at, f .gone)) (f .at));
+      leaves = ap (λ (x : S.Given). x .0) now ∙ h .leaves ∙ keptNow;
+      goes = λ z more. next more ∙ (λ i. behindText (printed host (past ++ waiting s chunk)) (coming (sym (f .first) i) (keptNow i) (cut (sym text i) more)));
+      over = λ z. ap (λ l. given host ((past ++ waiting s chunk) ++ l)) (nothing z) ∙ ap (given host) (append-nil (past ++ waiting s chunk));
     }
       where
-        printed-is : printed host (past ++ waiting s chunk) ≡ printed host past
-        printed-is = part-prints host past (take (s .len) line) (coming (s .first) (keptIn s b)) (h .goes going) (waiting s chunk) (w .plain) (coming-none (s .first) (keptIn s b))
+        now : given host (past ++ waiting s chunk) ≡ given host past
+        now = part-gives host past (take (s .len) line) (coming (s .first) (keptIn s b)) (h .goes going) (waiting s chunk) (w .plain)
 
         next : Follows host (past ++ waiting s chunk) (coming (s .first) (keptIn s b)) (take (s .len) line ++ waiting s chunk)
-        next = part-follows host past (take (s .len) line) (coming (s .first) (keptIn s b)) (h .goes going) (waiting s chunk) (w .plain) (coming-none (s .first) (keptIn s b))
+        next = part-follows host past (take (s .len) line) (coming (s .first) (keptIn s b)) (h .goes going) (waiting s chunk) (w .plain)
 
         keptNow : keptIn s b ≡ keptIn r (buffers (b .tape) (b .memory) (b .host) out′)
         keptNow = λ i. kept (sym (f .session) i) (b .memory) (take (sym (f .tape) i) (b .tape)) (b .host)
@@ -141,12 +144,13 @@ module _ (host past : List ℕ) (s : State) (chunk line : List ℕ) (b : Buffers
     pub long-history : History host (past ++ []) (withDone s) chunk line′ b
     long-history = record {
       text = rw (append-nil past) (h .text);
+      leaves = rw (append-nil past) (h .leaves);
       goes = λ z. absurd (true≢false z);
-      over = λ z. rw (append-nil past) (h .goes going (waiting s chunk) ∙ ap (λ t. printed host past ++ t) nothing ∙ append-nil (printed host past));
+      over = λ z. rw (append-nil past) (nothing-follows host past (take (s .len) line) (coming (s .first) (keptIn s b)) (h .goes going) (waiting s chunk) nothing);
     }
       where
-        nothing : coming (s .first) (keptIn s b) (cut (take (s .len) line) (waiting s chunk)) ≡ []
-        nothing = past-cut (coming (s .first) (keptIn s b)) (coming-none (s .first) (keptIn s b)) (long-prints (s .first) (keptIn s b)) (waiting s chunk) (take (s .len) line) w
+        nothing : coming (s .first) (keptIn s b) (cut (take (s .len) line) (waiting s chunk)) ≡ coming (s .first) (keptIn s b) []
+        nothing = past-cut (coming (s .first) (keptIn s b)) (long-gives (s .first) (keptIn s b)) (waiting s chunk) (take (s .len) line) w
 
 -- ---- What a turn promises
 
@@ -156,10 +160,11 @@ module _ (s : State) (chunk line : List ℕ) (b : Buffers) (going : s .done ≡ 
     rest-waits f t = (λ j. take (t j - f j) (drop (f j) chunk)) ∙ waits-behind chunk (s .from) (s .to) i
 
     line-turned : Ready r (e .tape) → total (r .output) ≤ total (s .output) + textRoom → Stays (moved (s .from + i + 1) s) r → r .first ≡ false
-        → Does (coming (s .first) (keptIn s b)) (take k line′) (s .output) (b .out) (until (r .done) (prints (keptIn r e))) (r .output) (e .out) → Turned s chunk line b r chunk line′ e
+        → Does (coming (s .first) (keptIn s b)) (take k line′) (s .output) (b .out) (until (r .done) (keptIn r e)) (r .output) (e .out) → Turned s chunk line b r chunk line′ e
     line-turned ready size stays first d = record {
       ready = ready;
       size = size;
+      silent = stays .silent;
       found = Whole k i;
       brings = w;
       leaves = rest-waits (stays .from) (stays .to);
@@ -176,6 +181,7 @@ module _ (s : State) (chunk line : List ℕ) (b : Buffers) (going : s .done ≡ 
   part-turned v t k line′ w r chunk′ out′ f = record {
     ready = record { served = rw (f .session, f .tape) v; tape = omega (arith, f .tape); from = omega (arith, f .from); to = f .to; len = omega (arith, f .len, w .room); at = omega (arith, f .at) };
     size = omega (arith, f .at, f .gone);
+    silent = f .silent;
     found = Part k;
     brings = w;
     leaves = (f .from, f .at);
@@ -186,6 +192,7 @@ module _ (s : State) (chunk line : List ℕ) (b : Buffers) (going : s .done ≡ 
   long-turned p line′ w = record {
     ready = record { served = p .served; tape = p .tape; from = p .from; to = p .to; len = p .len; at = p .at };
     size = omega arith;
+    silent = refl;
     found = TooLong;
     brings = w;
     leaves = refl;
@@ -195,10 +202,11 @@ module _ (s : State) (chunk line : List ℕ) (b : Buffers) (going : s .done ≡ 
 -- ---- The start, and the end
 
 -- nothing was taken, and nothing printed
-pub history-start : (s : State) (chunk line : List ℕ) (b : Buffers) → s .done ≡ false → s .first ≡ true → s .len ≡ 0 → s .output .at ≡ 0 → s .output .gone ≡ 0 → History (b .host) [] s chunk line b
-unfolding printed cut session
-history-start s chunk line b going first len at gone = record {
+pub history-start : (s : State) (chunk line : List ℕ) (b : Buffers) → s .session ≡ fresh → s .tape ≡ 0 → s .done ≡ false → s .first ≡ true → s .len ≡ 0 → s .output .at ≡ 0 → s .output .gone ≡ 0 → History (b .host) [] s chunk line b
+unfolding printed cut session left
+history-start s chunk line b new tape going first len at gone = record {
   text = record { all = omega arith; rest = ap (λ n. drop n []) gone ∙ ap (λ n. take n (b .out)) (sym at) };
+  leaves = sym ((λ i. kept (new i) (b .memory) (take (tape i) (b .tape)) (b .host)) ∙ fresh-kept (b .memory) [] (b .host) ∙ ap (begun (b .host)) no-words);
   goes = λ z more. (λ i. coming (sym first i) (keptIn s b) (cut (take (sym len i) line) more));
   over = λ z. absurd (true≢false (sym z ∙ going));
 }
@@ -207,6 +215,27 @@ history-start s chunk line b going first len at gone = record {
 pub history-due : (host past : List ℕ) (s : State) (chunk line : List ℕ) (b : Buffers) → History host past s chunk line b → s .output .at ≤ outRoom → total (s .output) ≤ totalMost → Due (b .out) (s .output)
 history-due host past s chunk line b h room count = record { room = room; count = count; host = host; input = past; holds = h .text }
 
--- what left and what is in the buffer is all that was printed
-pub history-end : (host past : List ℕ) (s : State) (chunk line : List ℕ) (b : Buffers) → History host past s chunk line b → (n : ℕ) → n ≡ total (s .output) → Prints host n
-history-end host past s chunk line b h n e = record { input = past; all = e ∙ sym (h .text .all) }
+-- the session that is kept has the state that was left
+pub history-followed : (host past : List ℕ) (s : State) (chunk line : List ℕ) (b : Buffers) (quiet : Bool) → History host past s chunk line b → s .output .silent ≡ quiet → s .output .at ≤ outRoom → total (s .output) ≤ totalMost
+    → Followed host quiet s (b .memory) (b .out)
+history-followed host past s chunk line b quiet h silent room count = record { input = past; text = h .text; state = ap (λ (k : S.Session). k .state) (sym (h .leaves)); silent = silent; room = room; count = count }
+
+module _ (host : List ℕ) (quiet : Bool) (r : State) (memory out : List ℕ) (f : Followed host quiet r memory out) where
+  pub followed-due : Due out (r .output)
+  followed-due = record { room = f .room; count = f .count; host = host; input = f .input; holds = f .text }
+
+  -- what left and what is in the buffer is all that was printed
+  pub followed-prints : (n : ℕ) → n ≡ total (r .output) → Prints host n
+  followed-prints n e = record { input = f .input; all = e ∙ sym (f .text .all) }
+
+  -- the page of the state that the client and the memory stand for is the one that the input leaves
+  page-is : shown (stateOf (r .session .client) memory) memoryRoom ≡ paged host (f .input)
+  unfolding paged
+  page-is = ap (λ s. shown s memoryRoom) (f .state)
+
+  -- .. and may be handed over, if the output is silent
+  pub followed-page : quiet ≡ true → (text : List ℕ) → text ≡ shown (stateOf (r .session .client) memory) memoryRoom → PageDue text (r .output)
+  followed-page silent text e = record { silent = f .silent ∙ silent; host = host; input = f .input; bytes = e ∙ page-is }
+
+  pub followed-pages : (n : ℕ) → n ≡ length (shown (stateOf (r .session .client) memory) memoryRoom) → Pages host n
+  followed-pages n e = record { input = f .input; all = e ∙ ap length page-is }

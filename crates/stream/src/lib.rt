@@ -1,4 +1,5 @@
-// Reads the lines of a session from a descriptor and writes the answers to standard output, with fixed buffers and input of any length.
+// Reads the lines of a session from a descriptor and writes the answers, or the page of its end, to standard output, with fixed buffers and input of any
+// length.
 use lines::CONTENTS;
 use lines::Line;
 use lines::TAPE;
@@ -9,15 +10,17 @@ use session::HOST;
 use session::MEMORY;
 use session::Session;
 ghost use mathlib.Core.Path.{_≡_};
-ghost use mathlib.Core.Bool.{false};
+ghost use mathlib.Core.Bool.{true, false};
 ghost use mathlib.Core.List.{List};
 ghost use Prim.Native.Nat.{ℕ, _≤_};
 ghost use lib.ListN.{length, take};
+ghost use Rattle.client.specs.View.{stateOf};
 ghost use Rattle.lines.specs.Said.{said};
 ghost use Rattle.session.specs.Session.{ends as endsOf};
 ghost use Rattle.stream.specs.Stream.{Ready, Brings, Responds, Begun, Refilled, buffers, lineRoom};
 ghost use Rattle.output.specs.Printed.{Due};
-ghost use Rattle.stream.specs.History.{Turned, Prints, zeros};
+ghost use Rattle.output.specs.Paged.{Presented};
+ghost use Rattle.stream.specs.History.{Turned, Followed, Prints, Pages, zeros};
 
 // The bytes that a read may bring.
 const CHUNK: usize = 65536;
@@ -212,16 +215,15 @@ fn turn(
 // million a second. A turn prints at most 1,027 bytes, so that the count of them all stays below 2^64.
 const TURNS: u64 = 9007199254740992;
 
-// Answers the lines that come from a descriptor, and tells how many bytes it handed to the system's write: as many as the lines print.
-pub fn run(fd: i32) -> u64
-    ensures { λ r. ⌜ Prints zeros r ⌝ }
+// Answers the lines that come from a descriptor, up to the end of the session: its store is left in the memory, and what is not handed over yet in the
+// output's buffer.
+fn follow(fd: i32, silent: bool, memory: &mut [u8; MEMORY], out: &mut [u8; OUT]) -> State
+    ensures { λ r. ⌜ Followed zeros silent r (now (memory .exit)) (now (out .exit)) ⌝ }
 {
     let mut chunk = [0u8; CHUNK];
     let mut line = [0u8; LINE];
     let mut tape = [0u8; TAPE];
-    let mut memory = [0u8; MEMORY];
     let mut host = [0u8; HOST];
-    let mut out = [0u8; OUT];
     let mut s = State {
         session: session::start(),
         tape: 0,
@@ -230,7 +232,7 @@ pub fn run(fd: i32) -> u64
         from: 0,
         to: 0,
         len: 0,
-        output: output::empty(),
+        output: output::empty(silent),
     };
     let mut turns = TURNS;
     while turns > 0 {
@@ -241,13 +243,46 @@ pub fn run(fd: i32) -> u64
             &mut chunk,
             &mut line,
             &mut tape,
-            &mut memory,
+            memory,
             &mut host,
-            &mut out,
+            out,
         );
         if s.done {
-            return output::finish(&mut out, s.output);
+            return s;
         }
     }
+    s
+}
+
+// The session program: it answers the lines, and tells how many bytes it handed to the system's write: as many as the lines print.
+pub fn run(fd: i32) -> u64
+    ensures { λ r. ⌜ Prints zeros r ⌝ }
+{
+    let mut memory = [0u8; MEMORY];
+    let mut out = [0u8; OUT];
+    let s = follow(fd, false, &mut memory, &mut out);
     output::finish(&mut out, s.output)
+}
+
+// Hands over the page of the store that a session left, and tells how many bytes were handed over in all. The answers that the output's buffer holds are not
+// needed any more, and it has room for every page.
+fn present(s: State, memory: &[u8; MEMORY], out: &mut [u8; OUT]) -> u64
+    requires { ⌜ Followed zeros true s (now memory) (now out) ⌝ }
+    ensures { λ r. ⌜ Presented (stateOf (s .session .client) (now (memory .entry))) r (now (out .exit)) ⌝ }
+{
+    let page = report::write(s.session.client, memory, out);
+    let n = page.length;
+    let all: &[u8] = out;
+    output::show(&all[..n], s.output)
+}
+
+// The page program: it follows the session, prints none of its answers and at its end the page. Tells how many bytes it handed to the system's write: as many
+// as the page has.
+pub fn page(fd: i32) -> u64
+    ensures { λ r. ⌜ Pages zeros r ⌝ }
+{
+    let mut memory = [0u8; MEMORY];
+    let mut out = [0u8; OUT];
+    let s = follow(fd, true, &mut memory, &mut out);
+    present(s, &memory, &mut out)
 }

@@ -1,5 +1,5 @@
 use borrow.Author.Needs.{needs}
-use mathlib.Core.Path.{_≡_, sym}
+use mathlib.Core.Path.{_≡_, refl, sym}
 use lib.ListN.{length, take}
 use lib.Seq.{length-take-le}
 use native.Mathlib.Omega.{arith}
@@ -9,8 +9,8 @@ use Rattle.output.proofs.flush.Tie as tie
 slice-aggregate-text : tie.Need-slice-aggregate-text
 slice-aggregate-text c = sym (length-take-le _ _ (search needs))
 
-write-all-requires : tie.Need-write-all-requires
-write-all-requires c κs = search needs
+leave-requires : tie.Need-leave-requires
+leave-requires c κs = search needs
 
 -- as many bytes are handed over as the buffer holds
 handed : (c : tie.After-struct-known) → length (take (c .before .before .before .before .before .args .o .at) (c .before .before .before .before .before .args .out .now)) ≡ c .before .before .before .before .before .args .o .at
@@ -20,7 +20,7 @@ add-gone : tie.Need-add-gone
 add-gone c = record { fits = omega (arith, handed c) }
 
 returns : tie.Need-returns
-returns c = omega (arith, handed c)
+returns c = (omega arith, omega (arith, handed c), refl)
 
 pub flush-spec : {M : Type 1} → statement M
-flush-spec = tie.close (tie.spec slice-aggregate-text write-all-requires add-gone returns)
+flush-spec = tie.close (tie.spec slice-aggregate-text leave-requires add-gone returns)

@@ -33,7 +33,7 @@ returns c =
     record {
       ready = record { served = rw new (fresh-served _); tape = omega arith; from = p .from; to = p .to; len = p .len; at = p .at };
       size = omega arith;
-      stays = record { from = refl; to = refl; len = refl };
+      stays = record { from = refl; to = refl; len = refl; silent = refl };
       first = refl;
       begins = rw said (words-first n t few, new, refl, refl, refl);
     }
@@ -51,7 +51,7 @@ returns-2 c =
     let n = k .read-tape .result in
     let t = k .read-tape .last .1 .0 in
     let no : tapeOf (c .before .before .before .before .before .before .before .before .before .before .args .line .now) ≡ none = sym (k .read-tape .ensures) ∙ words-out n t (omega (arith, k .read-tape .kept .1 .0, k .before .read-tape-arg .given)) in
-    record { ready = e .ready; size = e .size; stays = record { from = e .stays .from; to = e .stays .to; len = e .stays .len }; first = e .first; begins = rw no (e .tape, e .ended, rw (c .before .before .before .before .before .before .before .before .start .ensures) at (e .gives)) }
+    record { ready = e .ready; size = e .size; stays = record { from = e .stays .from; to = e .stays .to; len = e .stays .len; silent = e .stays .silent }; first = e .first; begins = rw no (e .tape, e .ended, rw (c .before .before .before .before .before .before .before .before .start .ensures) at (e .gives)) }
 
 pub begin-spec : {M : Type 1} → statement M
 begin-spec =

@@ -19,7 +19,7 @@ count-requires c κs = search needs
 returns-2 : tie.Need-returns-2
 returns-2 c =
     let f = c .before .before .before .before .before .before .before .before .flush .ensures in
-    record { session = refl; tape = refl; first = refl; len = refl; at = f .0; gone = f .1; from = refl; to = omega (arith, c .count .ensures .0 .0); done = refl }
+    record { session = refl; tape = refl; first = refl; len = refl; at = f .0; gone = f .1; silent = f .2; from = refl; to = omega (arith, c .count .ensures .0 .0); done = refl }
 
 pub refill-spec : {M : Type 1} → statement M
 refill-spec = tie.close (tie.spec flush-requires returns read-requires count-requires returns-2)

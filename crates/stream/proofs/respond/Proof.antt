@@ -25,7 +25,7 @@ returns c =
     let l = c .before .before .before .read-line in
     let p = c .before .before .before .before .before .before .pre .0 in
     let ended : ends (lineOf (c .before .before .before .before .before .before .args .line .now)) ≡ true = ap ends (sym (l .ensures .0)) ∙ e .ensures _ ∙ c .if1 .taken in
-    record { ready = search needs; size = omega arith; stays = record { from = refl; to = refl; len = refl }; ended = ended; tape = refl; first = refl; gives = rw ended (refl, refl, refl) }
+    record { ready = search needs; size = omega arith; stays = record { from = refl; to = refl; len = refl; silent = refl }; ended = ended; tape = refl; first = refl; gives = rw ended (refl, refl, refl) }
 
 place-requires : tie.Need-place-requires
 place-requires c κs = search needs
@@ -57,7 +57,7 @@ returns-2 c =
     record {
       ready = record { served = search a; tape = p .tape; from = p .from; to = p .to; len = p .len; at = room };
       size = omega (arith, a, spot .all);
-      stays = record { from = refl; to = refl; len = refl };
+      stays = record { from = refl; to = refl; len = refl; silent = spot .silent };
       ended = ended;
       tape = refl;
       first = refl;
