@@ -1,12 +1,22 @@
 #!/bin/sh
-# Runs a session program on the cases of cases/, on large inputs made here, on random sessions (their answers are those of the
-# independent implementation in plain/) and on bad input: scripts/cases.sh PROGRAM. Each run has ten seconds. The last line is
+# Runs a program on the sessions of cases/, on large inputs made here, on random sessions and on bad input: 'scripts/cases.sh session
+# PROGRAM' one that answers the lines, 'scripts/cases.sh page PROGRAM' one that prints the page at the end. What neither cases/ nor
+# this script says is compared with the independent implementation in plain/. Each run has ten seconds. The last line is
 # 'cases: N ok', and the status is 0 only if everything is as expected; ten failures end it early.
 set -u
-if [ $# -ne 1 ] || ! program=$(command -v "$1"); then
-    echo "usage: scripts/cases.sh PROGRAM" >&2
+usage() {
+    echo "usage: scripts/cases.sh session|page PROGRAM" >&2
     exit 2
-fi
+}
+
+[ $# -eq 2 ] || usage
+kind=$1
+case $kind in
+session) ending=out ;;
+page) ending=page ;;
+*) usage ;;
+esac
+program=$(command -v "$2") || usage
 case $program in /*) ;; *) program=$PWD/$program ;; esac
 cd "$(dirname "$0")/.." || exit 2
 work=$(mktemp -d) || exit 2
@@ -14,10 +24,10 @@ trap 'rm -rf "$work"' EXIT
 ok=0
 bad=0
 
-CARGO_TARGET_DIR=$PWD/target/cargo
+CARGO_TARGET_DIR=${CARGO_TARGET_DIR:-$PWD/target/cargo}
 export CARGO_TARGET_DIR
 cargo build --quiet --release --offline --locked --manifest-path plain/Cargo.toml \
-    --bin session --bin sessions_in --bin talk || exit 2
+    --bin "$kind" --bin sessions_in --bin talk || exit 2
 plain=$CARGO_TARGET_DIR/release
 
 finish() {
@@ -30,7 +40,7 @@ finish() {
 }
 
 fail() {
-    echo "cases: $*"
+    printf 'cases: %s\n' "$*"
     bad=$((bad + 1))
     [ "$bad" -lt 10 ] || finish
 }
@@ -43,7 +53,7 @@ ended() {
 # judge NAME STATUS WANTED: what the program printed last, and how it ended. After a malformed line any status is right.
 judge() {
     case $1 in
-    bad-* | random*) ended "$2" ;;
+    bad-* | page-bad-* | random*) ended "$2" ;;
     *) [ "$2" -eq 0 ] ;;
     esac || {
         fail "$1: status $2"
@@ -62,82 +72,109 @@ check() {
     judge "$1" $? "$3"
 }
 
-# made NAME ANSWER ..: the same with the input in $work/in and the wanted lines as arguments
+# alike NAME INPUT: the same with what plain/ prints
+alike() {
+    if "$plain/$kind" <"$2" >"$work/wanted"; then
+        check "$1" "$2" "$work/wanted"
+    else
+        fail "$1: plain/ has no $kind"
+    fi
+}
+
+# made NAME ANSWER ..: the input is in $work/in, and these lines are its answers. Its page is that of plain/.
 made() {
     name=$1
     shift
+    if [ "$kind" = page ]; then
+        alike "$name" "$work/in"
+        return
+    fi
     : >"$work/wanted"
     [ $# -eq 0 ] || printf '%s\n' "$@" >"$work/wanted"
     check "$name" "$work/in" "$work/wanted"
 }
 
-# repeat COUNT TEXT
+# repeat START COUNT TEXT: the start, and then so many times the text
 repeat() {
-    yes "$2" | head -n "$1" | tr -d '\n'
+    printf '%s' "$1"
+    yes "$3" | head -n "$2" | tr -d '\n'
+}
+
+store() {
+    printf 'T 0 0\nO 1 1 1 1 1 1\n'
+}
+
+# line COMMAND ..: the input is a store, then a line that the command prints, then another store, which shows if the session went on
+line() {
+    { store && "$@" && printf '\nO 1 2 1 1 1 1\n'; } >"$work/in"
 }
 
 committed() {
     for input in cases/*.in; do
         name=${input#cases/}
         name=${name%.in}
-        check "$name" "$input" "cases/$name.out"
+        if [ -e "cases/$name.$ending" ]; then
+            check "$name" "$input" "cases/$name.$ending"
+        else
+            alike "$name" "$input"
+        fi
     done
 }
 
 unprintable() {
-    printf 'C\nC\r\nC\n' >"$work/in"
-    made bad-return 2
-    printf 'C\n\r\nC\n' >"$work/in"
-    made bad-return-alone 2
-    printf 'C\nC\0\nC\n' >"$work/in"
-    made bad-nul 2
-    printf 'C\n\0C\nC\n' >"$work/in"
-    made bad-nul-first 2
-    printf 'C\nR 0\0\nC\n' >"$work/in"
-    made bad-nul-in-number 2
-    printf 'C\nW 0 0\0\nC\n' >"$work/in"
-    made bad-nul-in-contents 2
-    printf 'C\nR\0000\nC\n' >"$work/in"
-    made bad-nul-for-blank 2
-    printf 'T 0\0\nC\n' >"$work/in"
+    line printf 'C\r'
+    made bad-return 0
+    line printf '\r'
+    made bad-return-alone 0
+    line printf 'C\0'
+    made bad-nul 0
+    line printf '\0C'
+    made bad-nul-first 0
+    line printf 'R 0\0'
+    made bad-nul-in-number 0
+    line printf 'W 0 0\0'
+    made bad-nul-in-contents 0
+    line printf 'R\0000'
+    made bad-nul-for-blank 0
+    printf 'T 0\0\nO 1 1 1 1 1 1\n' >"$work/in"
     made bad-nul-in-tape
-    printf '\357\273\277C\nC\n' >"$work/in"
+    printf '\357\273\277T 0\nO 1 1 1 1 1 1\n' >"$work/in"
     made bad-byte-order-mark
 }
 
 long_lines() {
-    { printf 'C\nW 0 ' && repeat 1024 af && printf '\nC\n'; } >"$work/in"
-    made contents-of-1024-pairs 2 2 2
-    { printf 'C\nW 0 ' && repeat 1025 af && printf '\nC\n'; } >"$work/in"
-    made bad-contents-of-1025-pairs 2
-    { printf T && repeat 8192 ' 65535' && printf '\nO 1 1 1 1 1 1\nC\n'; } >"$work/in"
+    line repeat 'W 0 ' 1024 af
+    made contents-of-1024-pairs 0 6 0
+    line repeat 'W 0 ' 1025 af
+    made bad-contents-of-1025-pairs 0
+    { repeat T 8192 ' 65535' && printf '\nO 1 1 1 1 1 1\nC\n'; } >"$work/in"
     made tape-of-8192-words 0 13
-    { printf T && repeat 8193 ' 65535' && printf '\nO 1 1 1 1 1 1\nC\n'; } >"$work/in"
+    { repeat T 8193 ' 65535' && printf '\nO 1 1 1 1 1 1\nC\n'; } >"$work/in"
     made bad-tape-of-8193-words
-    { printf T && repeat 8193 ' 0' && printf '\nO 1 1 1 1 1 1\nC\n'; } >"$work/in"
+    { repeat T 8193 ' 0' && printf '\nO 1 1 1 1 1 1\nC\n'; } >"$work/in"
     made bad-tape-of-8193-zeros
     # 128 stores of 64 blocks take all 8,192 words
-    { printf T && repeat 8192 ' 0' && echo && yes 'O 64 64 1 1 64 1' | head -n 129 && echo C; } >"$work/in"
+    { repeat T 8192 ' 0' && echo && yes 'O 64 64 1 1 64 1' | head -n 129 && echo C; } >"$work/in"
     # shellcheck disable=SC2046
     made tape-taken-to-its-end $(yes 0 | head -n 128) 3 13
     for start in 'R ' 'W 0 ' 'O 1 1 1 1 1 ' C X ''; do
-        for digit in 0 1 ' ' ' 0' a; do
-            { printf 'C\n%s' "$start" && repeat 100000 "$digit" | head -c 100000 && printf '\nC\n'; } >"$work/in"
-            made "bad-100000-bytes-of-'$start$digit'" 2
+        for text in 0 1 ' ' ' 0' a; do
+            line repeat "$start" 100000 "$text"
+            made "bad-100000-times-'$text'-after-'$start'" 0
         done
     done
 }
 
 # Inputs of 10 MB
 huge() {
-    { echo C && head -c 10000000 /dev/zero | tr '\0' a; } >"$work/in"
-    made bad-10-MB-without-newline 2
-    { echo C && printf T && head -c 10000000 /dev/zero | tr '\0' ' '; } >"$work/in"
-    made bad-10-MB-of-blanks 2
-    { printf T && repeat 5000000 ' 0'; } >"$work/in"
+    { store && head -c 10000000 /dev/zero | tr '\0' a; } >"$work/in"
+    made bad-10-MB-without-newline 0
+    { store && printf T && head -c 10000000 /dev/zero | tr '\0' ' '; } >"$work/in"
+    made bad-10-MB-of-blanks 0
+    repeat T 5000000 ' 0' >"$work/in"
     made bad-10-MB-of-words
-    { echo C && head -c 10000000 /dev/zero | tr '\0' '\n'; } >"$work/in"
-    made bad-10-MB-of-newlines 2
+    { store && head -c 10000000 /dev/zero | tr '\0' '\n'; } >"$work/in"
+    made bad-10-MB-of-newlines 0
     head -c 10000000 /dev/zero >"$work/in"
     made bad-10-MB-of-nul
 }
@@ -145,8 +182,8 @@ huge() {
 # random LINES FIRST LAST: sessions of so many lines, by seed
 random() {
     for seed in $(seq "$2" "$3"); do
-        if "$plain/sessions_in" "$seed" "$1" >"$work/in" && "$plain/session" <"$work/in" >"$work/wanted"; then
-            check "random session (sessions_in $seed $1)" "$work/in" "$work/wanted"
+        if "$plain/sessions_in" "$seed" "$1" >"$work/in"; then
+            alike "random session (sessions_in $seed $1)" "$work/in"
         else
             fail "sessions_in $seed $1: no session"
         fi
@@ -173,20 +210,20 @@ absent() {
     judge bad-full-output $? "$work/none"
 }
 
-# The reader of the answers leaves after the first; a death by the signal for that is right, too.
+# The reader of the output leaves after its first line; a death by the signal for that is right, too.
 reader_leaves() {
     "$plain/sessions_in" 3 20000 >"$work/in"
-    "$plain/session" <"$work/in" 2>/dev/null | head -n 1 >"$work/wanted"
+    "$plain/$kind" <"$work/in" 2>/dev/null | head -n 1 >"$work/wanted"
     { timeout 10 "$program" <"$work/in" 2>/dev/null; echo $? >"$work/status"; } | head -n 1 >"$work/out"
     status=$(cat "$work/status")
     [ "$status" -ne 141 ] || status=0
     judge bad-reader-leaves "$status" "$work/wanted"
 }
 
-# Each answer comes before more is sent, and a malformed line ends the session at once.
+# Each answer comes before more is sent, the page at the end; a malformed line ends the session at once.
 talks() {
     for name in worked bad-letter-unknown bad-empty-line bad-unterminated; do
-        if timeout 10 "$plain/talk" "$program" "cases/$name.in" 2>"$work/err"; then
+        if timeout 10 "$plain/talk" "$kind" "$program" "cases/$name.in" 2>"$work/err"; then
             ok=$((ok + 1))
         else
             fail "byte by byte, $name: $(head -n 1 "$work/err")"

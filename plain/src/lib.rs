@@ -1,7 +1,7 @@
-//! A plain implementation of document 01's block store. It is written from that
-//! document alone and made to be read, so that other implementations and
-//! definitions can be compared with it. Beside it is a fast implementation of
-//! the same rules, for benchmarks.
+//! A plain implementation of document 01's block store and of document 02's
+//! page on its state. It is written from these documents alone and made to be
+//! read, so that other implementations and definitions can be compared with it.
+//! Beside it is a fast implementation of the same rules, for benchmarks.
 
 pub mod antt;
 pub mod array;
@@ -11,6 +11,8 @@ pub mod host;
 pub mod lists;
 pub mod lookups;
 pub mod mistakes;
+pub mod page;
+pub mod random_session;
 pub mod rng;
 pub mod script;
 pub mod session;

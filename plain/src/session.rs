@@ -4,6 +4,7 @@
 use crate::calls::{Ask, Call, Outcome, Store};
 use crate::host::Host;
 use crate::mistakes::Mistake;
+use crate::page::page;
 use crate::shape::Shape;
 use crate::state::{READ, State, WRITE};
 use std::io::{BufRead, Read, Result, Write};
@@ -116,6 +117,11 @@ impl Session {
     /// The store's state, once an O has been accepted.
     pub fn state(&self) -> Option<&State> {
         self.store.state.as_ref()
+    }
+
+    /// The page of the store, or no text before an O has been accepted.
+    pub fn page(&self) -> String {
+        self.state().map_or_else(String::new, page)
     }
 
     /// The words left of the tape.

@@ -1,10 +1,11 @@
-//! The cases of the folder cases/: their outputs, the numbers they print and
-//! the wrong rules they tell.
+//! The cases of the folder cases/: their outputs and pages, the numbers they
+//! print and the wrong rules they tell.
 
 use plain::mistakes::Mistake;
 use plain::session::{Session, run};
+use std::io::sink;
 use std::panic::catch_unwind;
-use std::path::Path;
+use std::path::{Path, PathBuf};
 
 /// What a session prints.
 fn printed(input: &[u8], mistake: Mistake) -> Vec<u8> {
@@ -13,29 +14,64 @@ fn printed(input: &[u8], mistake: Mistake) -> Vec<u8> {
     output
 }
 
-/// The cases with their inputs and wanted outputs, by name.
-fn cases() -> Vec<(String, Vec<u8>, Vec<u8>)> {
+struct Case {
+    name: String,
+    input: Vec<u8>,
+    output: Vec<u8>,
+    /// The page at the end of the session, where one was worked out.
+    page: Option<String>,
+}
+
+fn files() -> impl Iterator<Item = PathBuf> {
     let folder = Path::new(env!("CARGO_MANIFEST_DIR")).join("../cases");
     let files = std::fs::read_dir(folder).unwrap();
-    let inputs = files
-        .map(|entry| entry.unwrap().path())
-        .filter(|path| path.extension().is_some_and(|end| end == "in"));
+    files.map(|entry| entry.unwrap().path())
+}
+
+fn cases() -> Vec<Case> {
+    let inputs = files().filter(|path| path.extension().is_some_and(|end| end == "in"));
     inputs
-        .map(|path| {
-            let wanted = std::fs::read(path.with_extension("out")).unwrap();
-            let name = path.file_stem().unwrap().to_string_lossy();
-            (name.to_string(), std::fs::read(&path).unwrap(), wanted)
+        .map(|path| Case {
+            name: path.file_stem().unwrap().to_string_lossy().to_string(),
+            input: std::fs::read(&path).unwrap(),
+            output: std::fs::read(path.with_extension("out")).unwrap(),
+            page: std::fs::read_to_string(path.with_extension("page")).ok(),
         })
         .collect()
+}
+
+#[test]
+fn every_file_belongs_to_a_case() {
+    for path in files() {
+        let end = path.extension().unwrap().to_string_lossy();
+        assert!(["in", "out", "page"].contains(&&*end), "{path:?}");
+        assert!(path.with_extension("in").exists(), "{path:?}");
+    }
 }
 
 #[test]
 fn cases_are_answered() {
     let cases = cases();
     assert!(cases.len() > 80);
-    for (name, input, wanted) in cases {
-        assert_eq!(printed(&input, Mistake::None), wanted, "{name}");
+    for case in cases {
+        let printed = printed(&case.input, Mistake::None);
+        assert_eq!(printed, case.output, "{}", case.name);
     }
+}
+
+#[test]
+fn cases_have_their_pages() {
+    let mut pages = 0;
+    for case in cases() {
+        let Some(wanted) = case.page else {
+            continue;
+        };
+        let mut session = Session::new(Mistake::None);
+        run(&mut session, case.input.as_slice(), sink()).unwrap();
+        assert_eq!(session.page(), wanted, "{}", case.name);
+        pages += 1;
+    }
+    assert!(pages > 30);
 }
 
 /// The numbers that a session can print: nothing stays outstanding, each
@@ -45,7 +81,7 @@ fn cases_are_answered() {
 fn cases_print_every_number() {
     let mut numbers: Vec<u8> = cases()
         .iter()
-        .flat_map(|(_, _, wanted)| wanted.split(|byte| *byte == b'\n'))
+        .flat_map(|case| case.output.split(|byte| *byte == b'\n'))
         .filter_map(|line| line.split(|byte| *byte == b' ').next())
         .filter_map(|field| std::str::from_utf8(field).ok()?.parse().ok())
         .collect();
@@ -58,11 +94,12 @@ fn cases_print_every_number() {
 fn cases_tell_every_mistake() {
     let cases = cases();
     for mistake in Mistake::ALL {
-        let tells = |input: &Vec<u8>, wanted: &Vec<u8>| {
-            let input = input.clone();
-            catch_unwind(move || printed(&input, mistake)).ok().as_ref() != Some(wanted)
+        let tells = |case: &Case| {
+            let input = case.input.clone();
+            let output = catch_unwind(move || printed(&input, mistake));
+            output.ok().as_ref() != Some(&case.output)
         };
-        let told = cases.iter().any(|(_, input, wanted)| tells(input, wanted));
+        let told = cases.iter().any(tells);
         assert!(told, "{mistake:?}");
     }
 }

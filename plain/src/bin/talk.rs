@@ -1,7 +1,8 @@
-//! Talks with a session program byte by byte: `talk PROGRAM INPUT`. Each
-//! answer must come after its line's newline and before anything more is
-//! sent. After a malformed line the program has to end though its input stays
-//! open.
+//! Talks byte by byte with a session program, `talk session PROGRAM INPUT`, or
+//! with a page program, `talk page PROGRAM INPUT`. Of a session each answer
+//! must come after its line's newline and before anything more is sent; the
+//! page must not come before the session's end. After a malformed line the
+//! program has to end though its input stays open.
 
 use plain::mistakes::Mistake;
 use plain::session::Session;
@@ -15,6 +16,31 @@ const PATIENCE: Duration = Duration::from_secs(5);
 const BETWEEN_BYTES: Duration = Duration::from_millis(1);
 /// How long an answer may try to come before its newline.
 const BEFORE_NEWLINE: Duration = Duration::from_millis(10);
+
+/// What the program prints of a session.
+#[derive(Clone, Copy)]
+enum Prints {
+    Answers,
+    Page,
+}
+
+impl Prints {
+    /// The text after a line whose answer is this.
+    fn after_line(self, answer: String) -> String {
+        match self {
+            Prints::Answers => answer,
+            Prints::Page => String::new(),
+        }
+    }
+
+    /// The text once the session has ended.
+    fn at_end(self, session: &Session) -> String {
+        match self {
+            Prints::Answers => String::new(),
+            Prints::Page => session.page(),
+        }
+    }
+}
 
 /// The program's output, line by line as it comes.
 fn lines_of(child: &mut Child) -> Option<Receiver<Vec<u8>>> {
@@ -40,8 +66,21 @@ fn send(input: &mut ChildStdin, line: &[u8]) -> Result<(), String> {
     Ok(())
 }
 
-fn expect_end(answers: &Receiver<Vec<u8>>) -> Result<(), String> {
-    match answers.recv_timeout(PATIENCE) {
+/// The program prints these lines next.
+fn expect(printed: &Receiver<Vec<u8>>, wanted: &str) -> Result<(), String> {
+    for wanted in wanted.split_inclusive('\n') {
+        match printed.recv_timeout(PATIENCE) {
+            Ok(line) if line == wanted.as_bytes() => {}
+            Ok(line) => return Err(format!("prints {:?}, not {wanted:?}", text(&line))),
+            Err(_) => return Err(format!("doesn't print {wanted:?}")),
+        }
+    }
+    Ok(())
+}
+
+fn expect_end(printed: &Receiver<Vec<u8>>, wanted: &str) -> Result<(), String> {
+    expect(printed, wanted)?;
+    match printed.recv_timeout(PATIENCE) {
         Err(RecvTimeoutError::Disconnected) => Ok(()),
         Err(RecvTimeoutError::Timeout) => Err("the program doesn't end".to_string()),
         Ok(line) => Err(format!("prints {:?} at its end", text(&line))),
@@ -54,58 +93,51 @@ fn text(line: &[u8]) -> String {
 
 /// Sends the lines; the input is closed at the end, or stays open if a
 /// malformed line has to end the session.
-fn talk(child: &mut Child, lines: &[u8]) -> Result<(), String> {
-    let answers = lines_of(child).ok_or("no output")?;
+fn talk(child: &mut Child, lines: &[u8], prints: Prints) -> Result<(), String> {
+    let printed = lines_of(child).ok_or("no output")?;
     let mut input = child.stdin.take().ok_or("no input")?;
     let mut session = Session::new(Mistake::None);
     for line in lines.split_inclusive(|byte| *byte == b'\n') {
         let ended = line.strip_suffix(b"\n");
         let line = ended.unwrap_or(line);
         send(&mut input, line)?;
-        if let Ok(early) = answers.recv_timeout(BEFORE_NEWLINE) {
+        if let Ok(early) = printed.recv_timeout(BEFORE_NEWLINE) {
             return Err(format!("prints {:?} before a newline", text(&early)));
         }
         if ended.is_none() {
             break;
         }
         send(&mut input, b"\n")?;
-        let Some(wanted) = session.line(line) else {
-            return expect_end(&answers);
+        let Some(answer) = session.line(line) else {
+            return expect_end(&printed, &prints.at_end(&session));
         };
-        if wanted.is_empty() {
-            continue;
-        }
-        match answers.recv_timeout(PATIENCE) {
-            Ok(line) if line == wanted.as_bytes() => {}
-            Ok(line) => return Err(format!("prints {:?}, not {wanted:?}", text(&line))),
-            Err(_) => return Err(format!("doesn't answer {:?}", text(line))),
-        }
+        expect(&printed, &prints.after_line(answer))?;
     }
     drop(input);
-    expect_end(&answers)
+    expect_end(&printed, &prints.at_end(&session))
+}
+
+fn start(program: &str, input: &str, prints: Prints) -> Result<(), String> {
+    let lines = std::fs::read(input).map_err(|error| format!("{input}: {error}"))?;
+    let mut child = Command::new(program)
+        .stdin(Stdio::piped())
+        .stdout(Stdio::piped())
+        .spawn()
+        .map_err(|error| format!("{program}: {error}"))?;
+    let done = talk(&mut child, &lines, prints);
+    if done.is_err() {
+        let _ = child.kill();
+    }
+    let _ = child.wait();
+    done
 }
 
 fn main() -> ExitCode {
     let arguments: Vec<String> = std::env::args().skip(1).collect();
-    let [program, input] = arguments.as_slice() else {
-        eprintln!("usage: talk PROGRAM INPUT");
-        return ExitCode::FAILURE;
-    };
-    let pipes = Command::new(program)
-        .stdin(Stdio::piped())
-        .stdout(Stdio::piped())
-        .spawn();
-    let done = match (pipes, std::fs::read(input)) {
-        (Ok(mut child), Ok(lines)) => {
-            let done = talk(&mut child, &lines);
-            if done.is_err() {
-                let _ = child.kill();
-            }
-            let _ = child.wait();
-            done
-        }
-        (Err(error), _) => Err(format!("{program}: {error}")),
-        (_, Err(error)) => Err(format!("{input}: {error}")),
+    let done = match arguments.as_slice() {
+        [name, program, input] if name == "session" => start(program, input, Prints::Answers),
+        [name, program, input] if name == "page" => start(program, input, Prints::Page),
+        _ => Err("usage: talk session|page PROGRAM INPUT".to_string()),
     };
     match done {
         Ok(()) => ExitCode::SUCCESS,
