@@ -15,9 +15,9 @@ use Rattle.lists.specs.Search.{find, any, orElse}
 use Rattle.lists.specs.Totals.{total}
 use Rattle.rules.specs.Blocks.{isUnread}
 use Rattle.rules.specs.Completion.{isCommand}
-use Rattle.rules.specs.Figures.{nowhereBlocks, storedBlocks, waitingBlocks, inPartition, jobsFor}
+use Rattle.rules.specs.Figures.{nowhereBlocks, storedBlocks, waitingBlocks, jobsFor}
 use Rattle.rules.specs.Laws.Answers.{opens}
-use Rattle.rules.specs.Laws.Figures.{places-add, stored-adds, waiting-adds, jobs-add, front-counts}
+use Rattle.rules.specs.Laws.Figures.{places-add, ColumnsAdd, columns-add, front-counts}
 use Rattle.rules.specs.Levels.{filled, sources}
 use Rattle.rules.specs.Memory.{needed}
 use Rattle.rules.specs.Questions
@@ -128,27 +128,13 @@ module _ (s : State) (c : Call) (h : Shape) (first : c .ask ≡ opening h) (cs :
       go (live f) = waiting-all left f
       go (shut w) = rw w (unfold waitingBlocks model in refl)
 
-  -- ---- Document 02, P1: the columns of the page add up: blocks stored, blocks waiting, and all jobs of the queue
-  pub stored-column : total (left .shape .P) (λ q. inPartition left q (storedBlocks left)) ≡ length (storedBlocks left)
-  stored-column = go was
+  -- ---- Document 02, P1: the columns of the page add up
+  pub page-columns : ColumnsAdd left
+  page-columns = go was
     where
-      go : Was left → total (left .shape .P) (λ q. inPartition left q (storedBlocks left)) ≡ length (storedBlocks left)
-      go (live f) = stored-adds left (f .range)
-      go (shut w) = rw w (unfold total model in refl)
-
-  pub waiting-column : total (left .shape .P) (λ q. inPartition left q (waitingBlocks left)) ≡ length (waitingBlocks left)
-  waiting-column = go was
-    where
-      go : Was left → total (left .shape .P) (λ q. inPartition left q (waitingBlocks left)) ≡ length (waitingBlocks left)
-      go (live f) = waiting-adds left (f .range)
-      go (shut w) = rw w (unfold total model in refl)
-
-  pub jobs-column : total (left .shape .P) (jobsFor left) ≡ length (left .queue)
-  jobs-column = go was
-    where
-      go : Was left → total (left .shape .P) (jobsFor left) ≡ length (left .queue)
-      go (live f) = jobs-add left (f .range)
-      go (shut w) = rw w (unfold total model in refl)
+      go : Was left → ColumnsAdd left
+      go (live f) = columns-add left (f .range)
+      go (shut w) = rw w (unfold total model in record { stored = refl; waiting = refl; jobs = refl })
 
   -- "A begun job counts as queued": one that has gone over slots or sent a write is the front of the queue, and counts for its partition
   pub begun-counts : ((left .cursor ≡ 0 → ⊥) ⊎ (left .sent ≡ 0 → ⊥)) → (q : ℕ) × ((rest : List ℕ) × ((left .queue ≡ q ∷ rest) × (1 ≤ jobsFor left q)))

@@ -17,6 +17,12 @@ use Rattle.rules.specs.Blocks.{isNowhere}
 use Rattle.rules.specs.Figures.{nowhereBlocks, storedBlocks, waitingBlocks, inPartition, jobsFor}
 use Rattle.rules.specs.Laws.Range.{InRange}
 
+-- The stored column of a page adds up to the last line's stored, the waiting column to its waiting, and the column of jobs to all of the queue
+pub record ColumnsAdd (s : State) : Type 0 where
+  pub stored : total (s .shape .P) (λ q. inPartition s q (storedBlocks s)) ≡ length (storedBlocks s)
+  pub waiting : total (s .shape .P) (λ q. inPartition s q (waitingBlocks s)) ≡ length (waitingBlocks s)
+  pub jobs : total (s .shape .P) (jobsFor s) ≡ length (s .queue)
+
 -- a block has one place
 one-place : (x : Place) (t : Bool) → bit (isNowhere x && not t) + bit (not (isNowhere x)) + bit (isNowhere x && t) ≡ 1
 unfolding bit isNowhere
@@ -37,20 +43,14 @@ module _ (s : State) where
       let own : bit (eqb q q) ≡ 1 = rw (eq-eqb q q refl) in
       rw e (omega (arith, keep-bit (λ j. eqb j q) q rest))
 
-  module _ (f : InRange s) where
-    -- blocks of the store are in partitions below P
-    blocks-in : (p : ℕ → Bool) → All (λ b. s .partition b < s .shape .P) (keep p (below (s .shape .N)))
-    blocks-in p = all-keep p (all-map (f .partitions) (below-below (s .shape .N)))
+  -- blocks of the store are in partitions below P
+  blocks-in : InRange s → (p : ℕ → Bool) → All (λ b. s .partition b < s .shape .P) (keep p (below (s .shape .N)))
+  blocks-in f p = all-keep p (all-map (f .partitions) (below-below (s .shape .N)))
 
-    -- the stored column adds up to stored, the waiting column to waiting, and the last column to all jobs of the queue
-    pub stored-adds : total (s .shape .P) (λ q. inPartition s q (storedBlocks s)) ≡ length (storedBlocks s)
-    unfolding inPartition storedBlocks
-    stored-adds = keep-classes (s .shape .P) (s .partition) _ (blocks-in _)
-
-    pub waiting-adds : total (s .shape .P) (λ q. inPartition s q (waitingBlocks s)) ≡ length (waitingBlocks s)
-    unfolding inPartition waitingBlocks
-    waiting-adds = keep-classes (s .shape .P) (s .partition) _ (blocks-in _)
-
-    pub jobs-add : total (s .shape .P) (jobsFor s) ≡ length (s .queue)
-    unfolding jobsFor
-    jobs-add = keep-classes (s .shape .P) (λ j. j) (s .queue) (f .queue)
+  pub columns-add : InRange s → ColumnsAdd s
+  unfolding inPartition storedBlocks waitingBlocks jobsFor
+  columns-add f = record {
+    stored = keep-classes (s .shape .P) (s .partition) _ (blocks-in f _);
+    waiting = keep-classes (s .shape .P) (s .partition) _ (blocks-in f _);
+    jobs = keep-classes (s .shape .P) (λ j. j) (s .queue) (f .queue);
+  }
