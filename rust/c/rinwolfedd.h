@@ -1,4 +1,4 @@
-/* The five calls of the library that `scripts/library` writes to
+/* The five calls, and the page, of the library that `scripts/library` writes to
  * target/staticlib/librinwolfedd.a, for Linux on x86-64. A slice is a pointer
  * and a length. NULL is not allowed, not even with length 0: a slice of length
  * 0 may have any other pointer. The slices of one call must not overlap. No
@@ -21,6 +21,10 @@ extern "C" {
 /* The bytes of a state, and the kinds of requests and commands. */
 enum { RINWOLFEDD_STATE = 64, RINWOLFEDD_READ = 1, RINWOLFEDD_WRITE = 2 };
 
+/* The bytes of a line of a page, its newline among them, and of the longest
+ * page: of 64 partitions. */
+enum { RINWOLFEDD_LINE = 29, RINWOLFEDD_PAGE = 1885 };
+
 /* The number of an answer. A refused call takes no word and changes no lent
  * byte, but a refused open leaves zeros in the state: it is closed. */
 enum {
@@ -40,7 +44,8 @@ enum {
     RINWOLFEDD_COMPLETION_LENGTH = 12,  /* completion: B for a read, 0 for a write */
     RINWOLFEDD_NO_REQUEST = 13,         /* collect */
     RINWOLFEDD_NOT_FINISHED = 14,       /* collect: reads have not completed */
-    RINWOLFEDD_BUFFER_LENGTH = 15       /* turn that writes, collect: exactly B */
+    RINWOLFEDD_BUFFER_LENGTH = 15       /* turn that writes, collect: exactly B;
+                                           page: as long as the page, or longer */
 };
 
 /* Each call answers one number of 64 bits: the number, the command that a turn
@@ -52,10 +57,19 @@ static inline unsigned rinwolfedd_level(uint64_t a) { return a >> 24 & 255; }
 static inline unsigned rinwolfedd_slot(uint64_t a) { return a >> 32 & 65535; }
 static inline unsigned rinwolfedd_taken(uint64_t a) { return a >> 48 & 65535; }
 
+/* A page takes no word, and has its length in bytes in that place. */
+static inline size_t rinwolfedd_length(uint64_t a) { return a >> 48 & 65535; }
+
 /* The bytes of memory that a shape within bounds needs. */
 static inline size_t rinwolfedd_needed(size_t n, size_t p, size_t l, size_t b)
 {
     return 384 + 6 * n + 6 * p * ((size_t)2 << l) + (n + 1) * b;
+}
+
+/* The bytes of the page of a store with so many partitions. */
+static inline size_t rinwolfedd_page_bytes(size_t p)
+{
+    return RINWOLFEDD_LINE * (p + 1);
 }
 
 /* Opens a store of N blocks, P partitions, L levels, B bytes a block, E places
@@ -94,6 +108,18 @@ uint64_t rinwolfedd_completion(uint8_t *state, size_t state_len,
 uint64_t rinwolfedd_collect(uint8_t *state, size_t state_len,
                             uint8_t *memory, size_t memory_len,
                             uint8_t *buffer, size_t buffer_len);
+
+/* Writes the page of the store to the start of the buffer, whose other bytes
+ * stay: its length is in the answer, and no '\0' follows it. A line for each
+ * partition has its number in 4 columns, then counter, stored blocks, waiting
+ * blocks and queued jobs in 6 each; a last one has "all ", then the blocks
+ * nowhere, stored and waiting in 6 each, and 6 blanks. It only reads state and
+ * memory, and may be asked for between any two calls. It is for the owner of
+ * the store, not for its host: it tells what the commands hide, such as how
+ * many blocks wait and where. */
+uint64_t rinwolfedd_page(const uint8_t *state, size_t state_len,
+                         const uint8_t *memory, size_t memory_len,
+                         uint8_t *buffer, size_t buffer_len);
 
 #ifdef __cplusplus
 }

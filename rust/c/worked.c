@@ -1,5 +1,6 @@
 /* Document 01's worked session from C: one block of one byte, written, its jobs
- * done, and read again. From the repository's top:
+ * done, and read again; then the page of the store as the session left it. From
+ * the repository's top:
  *
  *     cc -std=c99 rust/c/worked.c target/staticlib/librinwolfedd.a -o worked
  */
@@ -73,6 +74,18 @@ static void turn(void)
            rinwolfedd_partition(sent), rinwolfedd_level(sent), slot);
 }
 
+/* The page for the owner of the store; all RINWOLFEDD_PAGE bytes would do, too. */
+static void page(void)
+{
+    static uint8_t text[RINWOLFEDD_PAGE];
+    uint64_t shown = rinwolfedd_page(state, sizeof state, memory, sizeof memory,
+                                     text, rinwolfedd_page_bytes(1));
+    if (rinwolfedd_number(shown) != RINWOLFEDD_ACCEPTED)
+        printf("%u\n", rinwolfedd_number(shown));
+    else
+        fwrite(text, 1, rinwolfedd_length(shown), stdout);
+}
+
 int main(void)
 {
     static const uint8_t seven = 7;
@@ -85,5 +98,6 @@ int main(void)
     request(RINWOLFEDD_READ, &seven, 0);
     turn();
     collect();
+    page();
     return 0;
 }

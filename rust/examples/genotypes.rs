@@ -3,7 +3,8 @@
 //!
 //! Each block is the record of one fish: who it is, and its genotypes at 1,904
 //! SNPs, two bits each. The example stores them, looks two fish up, and shows
-//! side by side the commands that the host saw of either look-up.
+//! side by side the commands that the host saw of either look-up. Then it shows
+//! the page of the store, which is for the owner alone.
 //!
 //! The commands hide the fish; the bytes do not. This example does not seal
 //! them, so whoever reads the file sees the records, and where each one goes. A
@@ -15,7 +16,7 @@
 //! cargo run --offline --example genotypes -- PATH    in a new file, which stays
 //! ```
 
-use rinwolfedd::{Command, FileHost, Kind, Progress, Reader, Recorded, Shape};
+use rinwolfedd::{Command, FileHost, Kind, Progress, Reader, Recorded, Shape, Summary};
 use std::error::Error;
 use std::io::{self, Write};
 use std::path::{Path, PathBuf};
@@ -128,6 +129,30 @@ fn show(out: &mut impl Write, fish: [usize; 2], seen: &[Vec<Command>; 2]) -> io:
     )
 }
 
+/// Shows the page of the store with its partitions cut, and says what its last
+/// line does.
+fn show_page(out: &mut impl Write, summary: &Summary) -> io::Result<()> {
+    const MOST: usize = 4;
+    let (page, partitions) = (summary.to_string(), summary.partitions().len());
+    writeln!(
+        out,
+        "\nThe page of the store, to be pinned up where the host does not see it: of each\n\
+         partition its counter, the fish stored and waiting, and the queued jobs.\n"
+    )?;
+    for line in page.lines().take(MOST) {
+        writeln!(out, "  {line}")?;
+    }
+    writeln!(out, "  .. and {} partitions more", partitions - MOST)?;
+    for line in page.lines().skip(partitions) {
+        writeln!(out, "  {line}")?;
+    }
+    let (stored, waiting) = (summary.stored(), summary.waiting());
+    writeln!(
+        out,
+        "\n{stored} fish are in the file, and {waiting} wait in the reader's cache."
+    )
+}
+
 /// Stores the fish in a new file and looks two of them up.
 pub fn run(path: &Path, out: &mut impl Write) -> Result<(), Box<dyn Error>> {
     let shape = Shape::hiding(FISH, BYTES)?;
@@ -147,6 +172,7 @@ pub fn run(path: &Path, out: &mut impl Write) -> Result<(), Box<dyn Error>> {
         *seen = reader.host_mut().take();
     }
     show(out, fish, &seen)?;
+    show_page(out, &reader.summary())?;
     Ok(())
 }
 

@@ -1,5 +1,6 @@
-//! The five calls over lent bytes. Slices carry their lengths, so nothing is
-//! asked of the caller: each value of each number is answered.
+//! The five calls, and the page of a store, over lent bytes. Slices carry their
+//! lengths, so nothing is asked of the caller: each value of each number is
+//! answered.
 //!
 //! ```
 //! use rinwolfedd::calls::{self, STATE, WRITE};
@@ -17,6 +18,10 @@
 //! assert_eq!((answer.number(), answer.taken()), (0, 2));
 //! let answer = calls::request(&mut state, &mut memory, WRITE, 0, &[7], tape);
 //! assert_eq!(answer.number(), 4); // a request is in hand
+//!
+//! let mut page = [0; calls::PAGE]; // long enough for every store
+//! let answer = calls::page(&state, &memory, &mut page);
+//! assert_eq!((answer.number(), answer.length()), (0, 58));
 //! ```
 
 use crate::command::{Command, Kind};
@@ -25,6 +30,12 @@ use std::fmt;
 
 /// The bytes of a client's state.
 pub const STATE: usize = 64;
+
+/// The bytes of a line of a page: 28 characters and a newline.
+pub const LINE: usize = 29;
+/// The bytes of the longest page: a line for each of 64 partitions, and one for
+/// all ([`Shape::page_bytes`](crate::Shape::page_bytes) has those of a shape).
+pub const PAGE: usize = 65 * LINE;
 
 /// The kind of a read.
 pub const READ: usize = Kind::Read.number() as usize;
@@ -44,11 +55,20 @@ impl Answer {
         self.0 as u8
     }
 
-    /// The words taken from the tape.
+    /// The words taken from the tape. A page takes none, and has its
+    /// [length](Answer::length) here.
     #[inline]
     #[must_use]
     pub const fn taken(self) -> u16 {
         (self.0 >> 48) as u16
+    }
+
+    /// The bytes of a page, which lie at the start of its buffer; 0 if it was
+    /// refused. They stand in the same bits as the words that a call took.
+    #[inline]
+    #[must_use]
+    pub const fn length(self) -> usize {
+        self.taken() as usize
     }
 
     /// The command that a turn sent.
@@ -65,8 +85,8 @@ impl Answer {
     }
 
     /// All of it: the number in the lowest byte, then kind, partition and
-    /// level, a byte each, then the slot and the words taken, two bytes each.
-    /// What does not apply is 0.
+    /// level, a byte each, then the slot and the words taken (or a page's
+    /// length), two bytes each. What does not apply is 0.
     #[inline]
     #[must_use]
     pub const fn bits(self) -> u64 {
@@ -81,8 +101,9 @@ impl Answer {
     ///
     /// # Panics
     ///
-    /// If the number is above 15, which a call of the proved library never
-    /// answers (theorem `number-le`): another library is linked.
+    /// If the number is above 15, which neither a call of the proved library
+    /// nor its page ever answers (theorems `number-le`, `page-numbers`):
+    /// another library is linked.
     #[inline]
     pub fn accepted(self) -> Result<(), Refusal> {
         match self.number() {
@@ -156,6 +177,14 @@ mod raw {
             state: *mut u8,
             state_len: usize,
             memory: *mut u8,
+            memory_len: usize,
+            buffer: *mut u8,
+            buffer_len: usize,
+        ) -> u64;
+        pub fn rinwolfedd_page(
+            state: *const u8,
+            state_len: usize,
+            memory: *const u8,
             memory_len: usize,
             buffer: *mut u8,
             buffer_len: usize,
@@ -280,6 +309,33 @@ pub fn collect(state: &mut [u8], memory: &mut [u8], buffer: &mut [u8]) -> Answer
     })
 }
 
+/// Writes the page of the store to the start of the buffer, whose other bytes
+/// stay, and answers its [length](Answer::length). [`Store::page`] says what it
+/// has. Number 2 is answered for a closed state too, 15 for a buffer that is
+/// shorter than the page; a longer one, such as of [`PAGE`] bytes, will do.
+///
+/// It takes no words and only reads state and memory, so it may be asked for
+/// between any two calls.
+///
+/// **A page is for the owner of the store, not for its host**: it tells what
+/// the commands hide.
+///
+/// [`Store::page`]: crate::Store::page
+#[inline]
+pub fn page(state: &[u8], memory: &[u8], buffer: &mut [u8]) -> Answer {
+    // Safety: as in `open`.
+    Answer(unsafe {
+        raw::rinwolfedd_page(
+            state.as_ptr(),
+            state.len(),
+            memory.as_ptr(),
+            memory.len(),
+            buffer.as_mut_ptr(),
+            buffer.len(),
+        )
+    })
+}
+
 #[cfg(test)]
 mod tests {
     use super::Answer;
@@ -302,6 +358,14 @@ mod tests {
         );
         let text = format!("{answer:?}");
         assert!(text.starts_with("Answer { number: 0, taken: 255, command: Some(Command {"));
+    }
+
+    #[test]
+    fn the_length_of_a_page_stands_where_words_do() {
+        let answer = Answer(1885 << 48);
+        assert_eq!((answer.number(), answer.length()), (0, super::PAGE));
+        assert_eq!((answer.taken(), answer.command()), (1885, None));
+        assert_eq!((Answer(15).length(), Answer(u64::MAX).length()), (0, 65535));
     }
 
     #[test]

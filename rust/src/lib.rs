@@ -34,6 +34,11 @@
 //! has them as the proved library exports them, over lent bytes and with the
 //! document's numbers, which [`Refusal`] names.
 //!
+//! How a store stands is told by its page, a text to be pinned up
+//! ([`Reader::page`], [`Store::page`]), and by the same figures as numbers
+//! ([`Summary`]). They are for the owner: nothing is sent for them, and they
+//! tell what the host must not learn, such as how many blocks wait and where.
+//!
 //! # Linking
 //!
 //! The calls are in the library `librinwolfedd.a`, which `scripts/library`
@@ -63,6 +68,7 @@ mod refusal;
 mod shape;
 mod slots;
 mod store;
+mod summary;
 mod tape;
 
 pub use command::{Command, Kind};
@@ -76,4 +82,5 @@ pub use refusal::{Refusal, UnknownNumber};
 pub use shape::Shape;
 pub use slots::Slots;
 pub use store::{Request, Store};
+pub use summary::{Figures, Summary};
 pub use tape::Tape;

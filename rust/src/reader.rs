@@ -6,6 +6,7 @@ use crate::host::Host;
 use crate::refusal::Refusal;
 use crate::shape::Shape;
 use crate::store::{Request, Store};
+use crate::summary::Summary;
 use crate::tape::Supply;
 use std::fmt;
 use std::fs::File;
@@ -125,6 +126,20 @@ impl<H: Host, R: Read> Reader<H, R> {
     #[must_use]
     pub fn is_unfinished(&self) -> bool {
         self.unfinished
+    }
+
+    /// The [page](Store::page) on the state of the store, a text for its owner
+    /// and not for its host. Between look-ups no job is queued; after one that
+    /// failed midway the page tells how far it came.
+    #[must_use]
+    pub fn page(&self) -> String {
+        self.store.page()
+    }
+
+    /// The figures of the [page](Reader::page), as numbers.
+    #[must_use]
+    pub fn summary(&self) -> Summary {
+        self.store.summary()
     }
 
     /// Looks a block up.

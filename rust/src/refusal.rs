@@ -39,7 +39,8 @@ pub enum Refusal {
     NoRequest = 13,
     /// Collect: is the request finished?
     NotFinished = 14,
-    /// Turn that writes, collect: has the buffer B bytes?
+    /// Turn that writes, collect: has the buffer B bytes? Page: is it as long
+    /// as the page, or longer?
     BufferLength = 15,
 }
 
@@ -87,7 +88,9 @@ impl Refusal {
             Refusal::CompletionLength => "a read completes with a block's bytes, a write with none",
             Refusal::NoRequest => "no request is in hand",
             Refusal::NotFinished => "the request is not finished",
-            Refusal::BufferLength => "the buffer is not as long as a block",
+            Refusal::BufferLength => {
+                "the buffer is not as long as a block, or too short for a page"
+            }
         }
     }
 }

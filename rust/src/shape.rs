@@ -1,6 +1,6 @@
 //! The shape of a store.
 
-use crate::calls::{self, STATE};
+use crate::calls::{self, LINE, STATE};
 use crate::refusal::Refusal;
 use std::fmt;
 
@@ -192,6 +192,14 @@ impl Shape {
             let cells = self.partitions * (2 << self.levels);
             384 + 6 * (self.blocks + cells) + (self.blocks + 1) * self.bytes
         })
+    }
+
+    /// The bytes of the store's [page](crate::Store::page), 29 × (P + 1), or
+    /// none for a shape out of bounds.
+    #[must_use]
+    pub fn page_bytes(&self) -> Option<usize> {
+        self.is_within_bounds()
+            .then(|| LINE * (self.partitions + 1))
     }
 }
 

@@ -1,9 +1,10 @@
 //! A store that owns its state and its memory.
 
-use crate::calls::{self, STATE};
+use crate::calls::{self, PAGE, STATE};
 use crate::command::{Command, Kind};
 use crate::refusal::Refusal;
 use crate::shape::Shape;
+use crate::summary::Summary;
 use crate::tape::Tape;
 use std::fmt;
 
@@ -38,7 +39,9 @@ impl fmt::Debug for Request<'_> {
 /// The client of one store: its state, and the memory and the buffer that its
 /// shape needs. The five calls of the proved library are [`open`](Store::open),
 /// [`request`](Store::request), [`turn`](Store::turn),
-/// [`completion`](Store::completion) and [`collect`](Store::collect).
+/// [`completion`](Store::completion) and [`collect`](Store::collect). How it
+/// stands between any two of them is told by its [`page`](Store::page), and in
+/// numbers by its [`summary`](Store::summary).
 ///
 /// [`Reader`](crate::Reader) makes whole look-ups of them; a program that makes
 /// them itself decides when a command is sent and when jobs are done.
@@ -59,6 +62,7 @@ impl fmt::Debug for Request<'_> {
 /// assert_eq!((command.to_string(), bytes.len()), ("w 0 0 0".to_string(), 1));
 /// assert_eq!(store.turn(&mut tape), Err(Refusal::WindowFull));
 /// store.completion(command, &[])?;
+/// assert_eq!(store.summary().queued(), 2); // the first has begun
 /// # Ok::<(), Refusal>(())
 /// ```
 pub struct Store {
@@ -174,5 +178,56 @@ impl Store {
         let answer = calls::collect(&mut self.state, &mut self.memory, &mut self.buffer);
         answer.accepted()?;
         Ok(&self.buffer)
+    }
+
+    /// The page on the state of the store, a text of P + 1 lines of 28
+    /// characters and a newline. Numbers are right-aligned.
+    ///
+    /// | line | 4 characters | 6 each |
+    /// |---|---|---|
+    /// | of each partition, 0 upward | the partition | its counter, the blocks stored in its levels, those that wait for it, its queued jobs |
+    /// | the last | `all` and a blank | the blocks nowhere, stored and waiting, which are N together; blanks |
+    ///
+    /// Blocks are counted by their place, whatever request is in hand, and a job
+    /// that has begun counts as queued. It may be asked for between any two
+    /// calls: it takes no words, changes nothing, and nothing is sent. It costs
+    /// about a step for each block, partition and queued job.
+    ///
+    /// **It is for the owner of the store, not for its host.** It tells what the
+    /// commands hide: how many different blocks were ever looked up, how many
+    /// wait, and for which partitions.
+    ///
+    /// ```
+    /// # use rinwolfedd::{Refusal, Request, Shape, Store, Tape};
+    /// let mut tape = Tape::new(&[0; 10]); // one that hides anything is random
+    /// let mut store = Store::open(Shape::new(3, 2, 2, 1), &mut tape)?;
+    /// store.request(Request::Read { block: 1 }, &mut tape)?;
+    /// store.collect()?;
+    /// let lines = [
+    ///     "   0     0     0     1     2",
+    ///     "   1     0     0     0     0",
+    ///     "all      2     0     1      ",
+    /// ];
+    /// assert!(store.page().lines().eq(lines));
+    /// # Ok::<(), Refusal>(())
+    /// ```
+    #[must_use]
+    pub fn page(&self) -> String {
+        let mut page = vec![0; PAGE];
+        let answer = calls::page(&self.state, &self.memory, &mut page);
+        // It is not refused: the memory is as long as the shape needs, each
+        // number of the state is in its range after an accepted open and every
+        // call since (theorem `after-left`), and no page is longer.
+        answer.accepted().expect("an open store has a page");
+        page.truncate(answer.length());
+        String::from_utf8(page).expect("a page is digits, blanks, `all` and newlines")
+    }
+
+    /// The figures of the [page](Store::page), as numbers. They are for the
+    /// owner of the store, too.
+    #[must_use]
+    pub fn summary(&self) -> Summary {
+        // every line of the page has its columns, for every shape
+        Summary::of(&self.page()).expect("a page has its columns")
     }
 }

@@ -1,8 +1,8 @@
 //! The library links from C and C++ by the prototypes in c/rinwolfedd.h:
-//! document 01's worked session prints what the document says, and the header
-//! has a name for each number.
+//! document 01's worked session prints what the document says, and the page of
+//! the store after it; the header has a name for each number.
 
-use rinwolfedd::{Refusal, calls};
+use rinwolfedd::{Refusal, Shape, calls};
 use std::io::ErrorKind;
 use std::path::Path;
 use std::process::Command;
@@ -20,6 +20,12 @@ const WORKED: &str = "0
 0 r 0 0 1
 0 07
 ";
+
+/// The last collect left the block waiting and two jobs queued.
+const PAGE: &str = concat!(
+    "   0     1     0     1     2\n",
+    "all      0     0     1      \n",
+);
 
 const HERE: &str = env!("CARGO_MANIFEST_DIR");
 
@@ -48,13 +54,13 @@ fn worked(compiler: &str, language: &[&str], name: &str) -> Option<String> {
 fn the_worked_session_from_c() {
     // the compiler by which Rust links, too
     let printed = worked("cc", &["-std=c99"], "worked");
-    assert_eq!(printed.expect("cc runs"), WORKED);
+    assert_eq!(printed.expect("cc runs"), [WORKED, PAGE].concat());
 }
 
 #[test]
 fn the_worked_session_from_cpp() {
     match worked("c++", &["-std=c++11", "-x", "c++"], "worked_cpp") {
-        Some(printed) => assert_eq!(printed, WORKED),
+        Some(printed) => assert_eq!(printed, [WORKED, PAGE].concat()),
         None => println!("NOT TRIED: there is no c++ on this machine"),
     }
 }
@@ -89,4 +95,7 @@ fn the_header_has_a_name_for_each_number() {
     assert!(has("RINWOLFEDD_ACCEPTED", 0) && !has("RINWOLFEDD_ACCEPTED", 1));
     assert!(has("RINWOLFEDD_STATE", calls::STATE));
     assert!(has("RINWOLFEDD_READ", calls::READ) && has("RINWOLFEDD_WRITE", calls::WRITE));
+    assert!(has("RINWOLFEDD_LINE", calls::LINE) && has("RINWOLFEDD_PAGE", calls::PAGE));
+    let longest = Shape::new(1, 64, 1, 1).page_bytes();
+    assert_eq!(longest, Some(calls::PAGE));
 }

@@ -1,5 +1,6 @@
 //! Every length and random contents: each call answers one of its numbers, and
-//! nothing outside what is lent changes. A refusal changes no lent byte.
+//! nothing outside what is lent changes. A refusal changes no lent byte. The
+//! page is asked for as a sixth call.
 
 #[path = "common/lent.rs"]
 mod lent;
@@ -38,9 +39,19 @@ struct Lending {
     buffer: Lent,
 }
 
+/// About as many bytes as the buffer of a call needs: those of a block, or of
+/// the page of two partitions, though the state may have others.
+fn buffer_length(rng: &mut Rng, which: usize) -> usize {
+    match which {
+        PAGE => [87, 87, 83 + rng.below(9), rng.below(200)][rng.below(4)],
+        _ if rng.chance(60) => 4,
+        _ => rng.below(9),
+    }
+}
+
 impl Lending {
-    fn new(rng: &mut Rng, state_len: usize, memory: usize) -> Lending {
-        let len = if rng.chance(60) { 4 } else { rng.below(9) };
+    fn new(rng: &mut Rng, state_len: usize, memory: usize, which: usize) -> Lending {
+        let len = buffer_length(rng, which);
         Lending {
             state: Lent::new(&state(rng, state_len)),
             memory: Lent::new(&rng.bytes(memory)),
@@ -52,7 +63,7 @@ impl Lending {
         [&self.state, &self.memory, &self.buffer].map(|lent| lent.bytes().to_vec())
     }
 
-    /// One of the five calls with random arguments.
+    /// One of the calls with random arguments.
     fn call(&mut self, rng: &mut Rng, which: usize) -> Answer {
         let state = self.state.lend();
         let memory = self.memory.lend();
@@ -65,7 +76,7 @@ impl Lending {
             _ => rng.below(4),
         };
         match which {
-            0 => {
+            OPEN => {
                 let numbers = match rng.chance(30) {
                     true => [3, number(rng), 2, 4, number(rng), 2],
                     false => SHAPE.numbers(),
@@ -78,7 +89,8 @@ impl Lending {
                 let slot = [number(rng), number(rng), number(rng)];
                 calls::completion(state, memory, number(rng), slot, &contents)
             }
-            _ => calls::collect(state, memory, self.buffer.lend()),
+            COLLECT => calls::collect(state, memory, self.buffer.lend()),
+            _ => calls::page(state, memory, self.buffer.lend()),
         }
     }
 }
@@ -99,22 +111,39 @@ fn kind_of_request(state: &[u8]) -> u16 {
     request_numbers(state)[0]
 }
 
-/// The calls by number.
+/// The calls by number, and how many there are.
 const OPEN: usize = 0;
 const COLLECT: usize = 4;
+const PAGE: usize = 5;
+const CALLS: usize = 6;
 
 /// The numbers that each call may answer.
-const NUMBERS: [&[u8]; 5] = [
+const NUMBERS: [&[u8]; CALLS] = [
     &[0, 1, 2, 3],
     &[0, 2, 3, 4, 5, 6, 7, 8],
     &[0, 2, 3, 9, 10, 15],
     &[0, 2, 11, 12],
     &[0, 2, 13, 14, 15],
+    &[0, 2, 15],
 ];
 
-fn check(rng: &mut Rng, state_len: usize, memory: usize, seen: &mut [[usize; 16]; 5]) {
-    for which in 0..5 {
-        let mut lending = Lending::new(rng, state_len, memory);
+/// A page leaves all but the first bytes of its buffer, which are as many as it
+/// says.
+fn check_page(before: &[Vec<u8>; 3], answer: Answer, after: &[Vec<u8>; 3]) {
+    assert_eq!(after[..2], before[..2], "it only reads");
+    let length = answer.length();
+    assert_eq!(answer.bits(), (length as u64) << 48, "and nothing else");
+    let (page, tail) = after[2].split_at(length);
+    assert_eq!(tail, &before[2][length..]);
+    assert!((2 * calls::LINE..=calls::PAGE).contains(&length));
+    for line in page.chunks(calls::LINE) {
+        assert!(line.len() == calls::LINE && line.is_ascii() && line.ends_with(b"\n"));
+    }
+}
+
+fn check(rng: &mut Rng, state_len: usize, memory: usize, seen: &mut [[usize; 16]; CALLS]) {
+    for which in 0..CALLS {
+        let mut lending = Lending::new(rng, state_len, memory, which);
         let before = lending.bytes();
         let answer = lending.call(rng, which);
         let sound = lending.state.is_sound() && lending.memory.is_sound();
@@ -142,6 +171,9 @@ fn check(rng: &mut Rng, state_len: usize, memory: usize, seen: &mut [[usize; 16]
                 };
                 assert_eq!(request_numbers(&after[0]), left, "call {which}");
             }
+            if which == PAGE {
+                check_page(&before, answer, &after);
+            }
         }
         seen[which][usize::from(answer.number())] += 1;
     }
@@ -150,7 +182,7 @@ fn check(rng: &mut Rng, state_len: usize, memory: usize, seen: &mut [[usize; 16]
 #[test]
 fn every_length_of_memory() {
     let mut rng = Rng::new(1);
-    let mut seen = [[0; 16]; 5];
+    let mut seen = [[0; 16]; CALLS];
     let needed = SHAPE.needed().unwrap();
     for memory in 0..needed + 9 {
         check(&mut rng, STATE, memory, &mut seen);
@@ -171,7 +203,7 @@ fn every_length_of_memory() {
 #[test]
 fn every_length_of_state() {
     let mut rng = Rng::new(2);
-    let mut seen = [[0; 16]; 5];
+    let mut seen = [[0; 16]; CALLS];
     let needed = SHAPE.needed().unwrap();
     for state_len in (0..100).filter(|len| *len != STATE) {
         check(&mut rng, state_len, needed, &mut seen);

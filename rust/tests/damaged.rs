@@ -1,8 +1,9 @@
 //! Damaged state and tables. Bytes that no call wrote are answered too: where
 //! a number of the state is out of its range, with 2 and nothing changed; all
 //! else as the rules say of the state for which the bytes stand (`view`), in
-//! number, words, command, buffer and the state after the call. The same view
-//! is held to the independent model where nothing is damaged.
+//! number, words, command, buffer and the state after the call, and so is the
+//! page of that state. The same view is held to the independent model where
+//! nothing is damaged.
 //!
 //! `RINWOLFEDD_CALLS` says how many calls are made to damaged states.
 
@@ -12,6 +13,8 @@ mod convert;
 mod lent;
 #[path = "common/linked.rs"]
 mod linked;
+#[path = "common/paged.rs"]
+mod paged;
 #[path = "common/random.rs"]
 mod random;
 mod view;
@@ -19,6 +22,7 @@ mod view;
 use linked::Linked;
 use plain::calls::{Ask, Call, Outcome};
 use plain::mistakes::Mistake;
+use plain::page;
 use plain::rng::Rng;
 use plain::shape::Shape;
 use plain::state::{READ, WRITE};
@@ -53,6 +57,9 @@ struct Counts {
     out_of_range: usize,
     /// Turns of a state in range that lack a dummy or have no room.
     late: usize,
+    /// Pages shown, and those of a state that lists a block too often.
+    pages: usize,
+    too_often: usize,
 }
 
 fn copy(of: &Linked) -> Linked {
@@ -161,6 +168,17 @@ fn suited(view: &View, memory: usize, rng: &mut Rng) -> Call {
     }
 }
 
+/// Compares the page of a state with that of its view, whose figures add up to
+/// N, and hands it out.
+fn compare_page(linked: &Linked, view: Option<&View>) -> Option<String> {
+    let wanted = view.map(View::page);
+    let length = wanted.as_ref().map_or(0, String::len);
+    let memory = linked.memory.bytes().len();
+    let told = paged::compare(linked, memory, length + 1, wanted.as_deref());
+    told.unwrap_or_else(|told| panic!("{told}"));
+    wanted
+}
+
 /// Makes a call to both and compares outcome, bytes and the state after it.
 /// Says whether the state was in range and lent its memory.
 fn compare(linked: &mut Linked, call: &Call) -> (bool, Outcome) {
@@ -191,6 +209,9 @@ fn damaged(honest: &Linked, random: &mut Random, shape: Shape, counts: &mut Coun
     damage_memory(linked.memory.lend(), shape, &mut random.rng);
     for _ in 0..CALLS {
         let view = decode(linked.state.bytes(), linked.memory.bytes());
+        counts.pages += usize::from(compare_page(&linked, view.as_ref()).is_some());
+        let too_often = view.as_ref().is_some_and(View::lists_a_block_too_often);
+        counts.too_often += usize::from(too_often);
         let call = match view {
             Some(view) if random.rng.chance(65) => {
                 suited(&view, linked.memory.bytes().len(), &mut random.rng)
@@ -217,6 +238,9 @@ fn damaged_states_are_answered_as_the_rules_say() {
                 let (call, outcome) = random.next();
                 let (_, by_view) = compare(&mut linked, &call);
                 assert_eq!(by_view, outcome, "the view and the model");
+                let view = decode(linked.state.bytes(), linked.memory.bytes());
+                let by_model = random.model.state.as_ref().map(page::page);
+                assert_eq!(compare_page(&linked, view.as_ref()), by_model);
             }
             damaged(&linked, &mut random, shape, &mut counts);
         }
@@ -225,14 +249,18 @@ fn damaged_states_are_answered_as_the_rules_say() {
         numbers,
         out_of_range,
         late,
+        pages,
+        too_often,
     } = counts;
     let made: usize = numbers.iter().sum();
     let seconds = start.elapsed().as_secs_f64();
     println!("{made} calls to damaged states in {seconds:.1} s");
     println!("  numbers 0 to 15: {numbers:?}");
     println!("  {out_of_range} out of range, {late} turns without a dummy or room");
+    println!("  {pages} pages, {too_often} of a state that lists a block too often");
     for (number, count) in numbers.iter().enumerate() {
         assert!(*count > calls / 10_000, "{number} is answered too rarely");
     }
     assert!(made >= calls && out_of_range > calls / 20 && late > calls / 1000);
+    assert!(pages > calls / 4 && too_often > calls / 100);
 }

@@ -28,6 +28,23 @@ fn the_example_stores_fish_and_shows_two_look_ups() {
         .find(|line| line.contains("partition"))
         .unwrap();
     assert_eq!(first.matches("read  partition").count(), 2, "{first}");
+    check_page(text.split("The page of the store").nth(1).unwrap());
+}
+
+/// The page is cut after four partitions. By its last line no fish is nowhere,
+/// and where they are is said again.
+fn check_page(page: &str) {
+    assert!(page.contains("\n     3 ") && !page.contains("\n     4 "));
+    assert!(page.contains("\n  .. and 60 partitions more\n  all      0"));
+    let last = page.split("\n  all ").nth(1).unwrap();
+    let last = last.lines().next().unwrap().split_whitespace();
+    let figures: Vec<usize> = last.map(|figure| figure.parse().unwrap()).collect();
+    let [0, stored, waiting] = figures[..] else {
+        panic!("{figures:?}");
+    };
+    assert_eq!(stored + waiting, 4096);
+    let said = format!("\n{stored} fish are in the file, and {waiting} wait ");
+    assert!(page.contains(&said), "{page}");
 }
 
 #[test]

@@ -2,9 +2,9 @@
 //! the errors may grow.
 
 use rinwolfedd::calls::Answer;
-use rinwolfedd::{Command, Error, FileHost, Host, Kind, MemoryHost, Progress};
-use rinwolfedd::{Reader, Recorded, Refusal, Request, Shape, Slots, Store, Tape};
-use rinwolfedd::{UnknownNumber, calls};
+use rinwolfedd::{Command, Error, Figures, FileHost, Host, Kind, MemoryHost, Progress};
+use rinwolfedd::{Reader, Recorded, Refusal, Request, Shape, Slots, Store, Summary};
+use rinwolfedd::{Tape, UnknownNumber, calls};
 use std::fs::File;
 use std::io::{self, Write};
 
@@ -25,6 +25,8 @@ const _: () = {
     both::<Request<'_>>();
     both::<Tape<'_>>();
     both::<Store>();
+    both::<Summary>();
+    both::<Figures>();
     both::<MemoryHost>();
     both::<FileHost>();
     both::<Progress>();
@@ -122,7 +124,8 @@ fn numbers_without_a_name() {
     assert_eq!([calls::READ, calls::WRITE], [1, 2]);
 }
 
-/// What is printed for a log has neither blocks nor contents nor words.
+/// What is printed for a log has neither blocks nor contents nor words, nor how
+/// many blocks are where.
 #[test]
 fn nothing_secret_is_printed() {
     let contents = &[222, 223];
@@ -144,6 +147,12 @@ fn nothing_secret_is_printed() {
     assert!(
         text.contains("MemoryHost") && !text.contains("222"),
         "{text}"
+    );
+    let summary = reader.summary();
+    let text = format!("{summary:?} {:?}", summary.partitions());
+    assert_eq!(
+        text,
+        "Summary { partitions: 2, .. } [Figures { .. }, Figures { .. }]"
     );
 }
 

@@ -88,7 +88,7 @@ fn only_a_place_for_every_block_hides() {
 }
 
 /// The memory needed is that of the formula within bounds, and none elsewhere,
-/// as the slots are.
+/// as the slots and the bytes of a page are.
 #[test]
 fn only_a_shape_within_bounds_needs_memory() {
     assert_eq!(Shape::new(1, 1, 1, 1).needed(), Some(416));
@@ -107,10 +107,12 @@ fn only_a_shape_within_bounds_needs_memory() {
             let there = in_bounds_by_the_plain_rules(shape);
             assert_eq!(shape.needed().is_some(), there, "{shape}");
             assert_eq!(shape.slots().is_some(), there, "{shape}");
+            assert_eq!(shape.page_bytes().is_some(), there, "{shape}");
             within += usize::from(there);
         }
     }
     assert!(within > 100);
     let far = usize::MAX;
-    assert_eq!(Shape::new(far, far, far, far).needed(), None);
+    let far = Shape::new(far, far, far, far);
+    assert_eq!((far.needed(), far.page_bytes()), (None, None));
 }

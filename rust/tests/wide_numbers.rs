@@ -1,5 +1,6 @@
 //! Numbers as wide as a host can pass, at the five calls themselves: each value
-//! is answered, and a refusal changes nothing.
+//! is answered, and a refusal changes nothing. A page is passed none, but reads
+//! those of the state.
 
 use rinwolfedd::Shape;
 use rinwolfedd::calls::{self, READ, STATE, WRITE};
@@ -58,6 +59,33 @@ fn completions() {
         assert_eq!(number(kind, [0; 3]), 2, "kind {kind}");
     }
     assert_eq!((state, memory), before);
+}
+
+/// Of each number of the state two bytes are read: a wide one is out of its
+/// range, unless it is that of a request and none is in hand; the two bytes
+/// behind it are not looked at.
+#[test]
+fn pages() {
+    let (state, memory) = opened();
+    let page = |state: &[u8; STATE]| {
+        let mut buffer = vec![1; 87];
+        let answer = calls::page(state, &memory, &mut buffer);
+        (answer.number(), buffer)
+    };
+    let shown = page(&state);
+    assert_eq!(shown.0, 0);
+    for number in 0..16 {
+        let mut wide = state;
+        wide[4 * number + 1] += 2; // 2^9 more
+        let wanted = match number {
+            7..11 => shown.clone(),
+            _ => (2, vec![1; 87]),
+        };
+        assert_eq!(page(&wide), wanted, "number {number}");
+        let mut wide = state;
+        wide[4 * number + 2..4 * number + 4].fill(255);
+        assert_eq!(page(&wide), shown, "number {number}");
+    }
 }
 
 #[test]

@@ -1,6 +1,7 @@
 //! What whole look-ups cost beside the plain implementation, in the same run:
 //! for each shape the commands of a look-up, nanoseconds per command of both,
-//! and their ratio; with a host in memory, and with one that does nothing.
+//! and their ratio; with a host in memory, and with one that does nothing. Then
+//! what a page costs, and how that grows with N and with P.
 //!
 //! `cargo bench` prints the tables. `cargo bench -- --docs ../docs` also puts
 //! them into MEASUREMENTS.md there, between its two marks, and writes the plot
@@ -8,6 +9,7 @@
 
 #[path = "../../tests/common/convert.rs"]
 mod convert;
+mod pages;
 mod plot;
 mod proved;
 mod reader;
@@ -33,7 +35,7 @@ const GROWING: [Shape; 4] = [
     Shape::new(4096, 64, 8, 64, 4096, 32),
 ];
 
-/// Nanoseconds per command.
+/// Nanoseconds per command, or of a page.
 #[derive(Clone, Copy)]
 pub struct Times {
     pub proved: f64,
@@ -116,7 +118,7 @@ fn run() -> Result<(), Box<dyn Error>> {
     let shapes: Vec<Row> = SHAPES.into_iter().map(row).collect();
     let growing: Vec<Row> = GROWING.into_iter().map(row).collect();
     let looks: Result<Vec<Look>, _> = SHAPES.into_iter().map(reader::look).collect();
-    let text = report::text(&shapes, &growing, &looks?);
+    let text = report::text(&shapes, &growing, &looks?, &pages::all()?);
     print!("{text}");
     if let Some(docs) = docs() {
         let docs = Path::new(&docs);

@@ -16,6 +16,20 @@ impl Proved {
     pub fn waiting(&self) -> u16 {
         u16::from_le_bytes([self.state[4 * 14], self.state[4 * 14 + 1]])
     }
+
+    /// A number of the tables in the memory.
+    pub fn table(&self, index: usize) -> usize {
+        usize::from(u16::from_le_bytes([
+            self.memory[2 * index],
+            self.memory[2 * index + 1],
+        ]))
+    }
+
+    /// The page, at the start of the buffer.
+    #[inline]
+    pub fn page(&self, buffer: &mut [u8]) -> Answer {
+        calls::page(&self.state, &self.memory, buffer)
+    }
 }
 
 /// Taken apart by bytes, so that next to nothing is timed but the calls.

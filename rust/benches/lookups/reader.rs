@@ -8,7 +8,7 @@ use rinwolfedd::{Error, FileHost, Host, MemoryHost, Reader};
 use std::time::Instant;
 
 /// The shape as readers and hosts take it.
-fn linked(h: Shape) -> rinwolfedd::Shape {
+pub fn linked(h: Shape) -> rinwolfedd::Shape {
     rinwolfedd::Shape::new(h.blocks, h.partitions, h.levels, h.bytes)
         .with_smaller_cache(h.places)
         .with_window(h.window)

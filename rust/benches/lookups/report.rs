@@ -1,7 +1,9 @@
 //! The tables, and their place in docs/MEASUREMENTS.md.
 
 use crate::Row;
+use crate::pages::{Page, Pages};
 use crate::reader::Look;
+use plain::shape::Shape;
 use std::io;
 use std::path::Path;
 
@@ -77,16 +79,65 @@ fn reader(looks: &[Look]) -> String {
     text
 }
 
-pub fn text(shapes: &[Row], growing: &[Row], looks: &[Look]) -> String {
+/// Pages in microseconds, and in nanoseconds for each block.
+fn table_of_pages(pages: &[Page]) -> String {
+    let mut text = String::new();
+    text += "| N | P | L | B | proved | plain | ratio | ns per block | as text | as figures |\n";
+    text += "|--:|--:|--:|--:|--:|--:|--:|--:|--:|--:|\n";
+    for page in pages {
+        let (h, times) = (page.shape, page.times);
+        text += &format!(
+            "| {} | {} | {} | {} | {:.2} | {:.2} | {:.2} | {:.1} | {:.2} | {:.2} |\n",
+            h.blocks,
+            h.partitions,
+            h.levels,
+            h.bytes,
+            times.proved / 1e3,
+            times.plain / 1e3,
+            times.ratio(),
+            times.proved / h.blocks as f64,
+            page.text / 1e3,
+            page.figures / 1e3,
+        );
+    }
+    text
+}
+
+/// What one more of a number costs the proved page, from the first row to the
+/// last.
+fn one_more(pages: &[Page], name: &str, number: fn(&Shape) -> usize) -> String {
+    let (Some(first), Some(last)) = (pages.first(), pages.last()) else {
+        return String::new();
+    };
+    let more = number(&last.shape) - number(&first.shape);
+    let each = (last.times.proved - first.times.proved) / more as f64;
+    format!("A {name} more costs the proved page {each:.1} ns.\n")
+}
+
+fn pages(pages: &Pages) -> String {
+    format!(
+        "Pages, in microseconds each:\n\n{}\n\
+         P alone grows; N = 1024, L = 8 and B = 64 throughout:\n\n{}\n{}\n\
+         N alone grows; P = 64, L = 8 and B = 64 throughout:\n\n{}\n{}",
+        table_of_pages(&pages.shapes),
+        table_of_pages(&pages.partitions),
+        one_more(&pages.partitions, "partition", |h| h.partitions),
+        table_of_pages(&pages.blocks),
+        one_more(&pages.blocks, "block", |h| h.blocks),
+    )
+}
+
+pub fn text(shapes: &[Row], growing: &[Row], looks: &[Look], pages: &Pages) -> String {
     format!(
         "Machine: {}.\n\n{}\n{}\nN alone grows; P = 64, L = 8 and B = 64 throughout:\n\n{}\n{}\n\
-         Look-ups through the reader, in microseconds each:\n\n{}",
+         Look-ups through the reader, in microseconds each:\n\n{}\n{}",
         machine(),
         table(shapes),
         growth(shapes),
         table(growing),
         growth(growing),
         reader(looks),
+        self::pages(pages),
     )
 }
 

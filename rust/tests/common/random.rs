@@ -11,7 +11,7 @@ use plain::state::{Command, READ, Step, WRITE};
 pub struct Random {
     shape: Shape,
     pub rng: Rng,
-    model: Store,
+    pub model: Store,
     host: Host,
     /// Whether jobs are left alone, so that they fill the queue.
     hoards: bool,

@@ -1,8 +1,9 @@
 //! The state that 64 bytes and a memory stand for, by the layout in
 //! docs/MEMORY.md: every content stands for one, as an entry out of its range
 //! reads as 0. `step` has what the rules say of it, also of states that no
-//! call left (docs/DECISIONS.md).
+//! call left (docs/DECISIONS.md), and `page` its page.
 
+mod page;
 mod step;
 
 pub use step::step;
