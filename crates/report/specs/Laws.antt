@@ -11,6 +11,7 @@ use lib.Dec.{leb}
 use lib.Pow.{pow-mono}
 use borrow.Author.Tests.{le-leb, lt-leb}
 use Rattle.lists.specs.All.{All, nil, cons}
+use Rattle.lists.specs.Search.{any, member}
 use Rattle.lists.specs.Lengths.{keep-le}
 use Rattle.rules.specs.State.{State, Request}
 use Rattle.rules.specs.Memory.{needed}
@@ -139,7 +140,17 @@ module _ (s : State) (memory : ℕ) (b : List ℕ) where
   unfolding pageNumber pageQuestions firstNo
   shows-page e l b′ k w = record { asked = rw (e, le-leb (length (page s)) (length b) l); accepted = λ z. (omega (arith, w .place), written-first b (page s) b′ k w); refused = λ n. absurd (n refl) }
 
--- the number is 0, 2 or 15, and the length small
+-- the numbers that it has
+pub page-numbers : (s : State) (memory buffer : ℕ) → member (pageNumber s memory buffer) (0 ∷ 2 ∷ 15 ∷ []) ≡ true
+unfolding pageNumber pageQuestions firstNo member any
+page-numbers s memory buffer = go (ready s memory) (leb (length (page s)) buffer)
+  where
+    go : (t u : Bool) → member (firstNo ((t, 2) ∷ (u, 15) ∷ [])) (0 ∷ 2 ∷ 15 ∷ []) ≡ true
+    go false u = refl
+    go true false = refl
+    go true true = refl
+
+-- number and length are small
 pub shows-small : (s : State) (memory : ℕ) (b : List ℕ) (number size : ℕ) (b′ : List ℕ) → Shows s memory b number size b′ → (number < 256) × (size < 65536)
 unfolding pageNumber pageQuestions firstNo
 shows-small s memory b number size b′ k = go (ready s memory) (leb (length (page s)) (length b)) refl refl
