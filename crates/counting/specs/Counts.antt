@@ -13,8 +13,16 @@ use Rattle.rules.specs.Blocks.{isNowhere}
 use Rattle.rules.specs.Figures.{nowhereBlocks, storedBlocks, waitingBlocks}
 
 -- partitions are below this; the entry behind theirs is for all
-abbrev pub most : ℕ
-most = 64
+abbrev pub mostPartitions : ℕ
+mostPartitions = 64
+
+-- four rows of 65 entries
+abbrev pub tableRoom : ℕ
+tableRoom = 260
+
+-- a byte for each block of the largest store
+abbrev pub marksRoom : ℕ
+marksRoom = 4096
 
 -- where a row's entry lies
 abbrev pub entryAt : ℕ → ℕ → ℕ
@@ -22,8 +30,8 @@ entryAt k q = k * 65 + q
 
 -- Row k of a table counts the elements of a list: in entry q those of which f says q, and all in the last
 pub record Row (f : ℕ → ℕ) (xs : List ℕ) (k : ℕ) (table : List ℕ) : Type 0 where
-  pub each : (q : ℕ) → q < most → getD table (entryAt k q) 0 ≡ length (keep (λ x. eqb (f x) q) xs)
-  pub all : getD table (entryAt k most) 0 ≡ length xs
+  pub each : (q : ℕ) → q < mostPartitions → getD table (entryAt k q) 0 ≡ length (keep (λ x. eqb (f x) q) xs)
+  pub all : getD table (entryAt k mostPartitions) 0 ≡ length xs
 
 -- a table with one more at an entry
 abbrev pub more : ℕ → List ℕ → List ℕ
@@ -31,7 +39,7 @@ more i table = set table i (getD table i 0 + 1)
 
 -- one more in row k: at entry q, and at the last
 abbrev pub added : ℕ → ℕ → List ℕ → List ℕ
-added k q table = more (entryAt k most) (more (entryAt k q) table)
+added k q table = more (entryAt k mostPartitions) (more (entryAt k q) table)
 
 -- The figures of a state: those that are nowhere, stored, and waiting, and the jobs, a row each
 pub record Counted (s : State) (table : List ℕ) : Type 0 where
@@ -42,7 +50,7 @@ pub record Counted (s : State) (table : List ℕ) : Type 0 where
 
 -- A byte for each block says whether it is in a list
 abbrev pub Marked : List ℕ → List ℕ → Type 0
-Marked xs marks = (b : ℕ) → b < 4096 → getD marks b 0 ≡ bit (member b xs)
+Marked xs marks = (b : ℕ) → b < marksRoom → getD marks b 0 ≡ bit (member b xs)
 
 -- the row of a block, by its place: 0 nowhere, 1 stored, 2 waiting
 unfoldable pub rowOf : Bool → Bool → ℕ

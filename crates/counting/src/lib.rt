@@ -8,7 +8,7 @@ ghost use Rattle.rules.specs.Blocks.{isNowhere};
 ghost use Rattle.lists.specs.Search.{member};
 ghost use Rattle.client.specs.View.{stateOf};
 ghost use Rattle.client.specs.Moves.{Room};
-ghost use Rattle.counting.specs.Counts.{most, entryAt, added, rowOf, Row, Marked, Counted, CountedTo};
+ghost use Rattle.counting.specs.Counts.{marksRoom, tableRoom, mostPartitions, entryAt, added, rowOf, Row, Marked, Counted, CountedTo};
 
 // The rows of the table: blocks nowhere, stored and waiting, and jobs queued.
 pub const NOWHERE: usize = 0;
@@ -30,15 +30,15 @@ const BLOCKS: usize = 4096;
 
 // Where the entry of a row lies.
 pub fn entry(row: usize, q: usize) -> usize
-    requires { ⌜ (row < 4) × (q ≤ most) ⌝ }
-    ensures { λ r. ⌜ (r ≡ entryAt row q) × (r < 260) ⌝ }
+    requires { ⌜ (row < 4) × (q ≤ mostPartitions) ⌝ }
+    ensures { λ r. ⌜ (r ≡ entryAt row q) × (r < tableRoom) ⌝ }
 {
     row * 65 + q
 }
 
 // One more in a row, of partition q.
 fn add(table: &mut [usize; TABLE], row: usize, q: usize)
-    requires { ⌜ (row < 4) × (q < most) × (getD (now table) (entryAt row q) 0 < 65536) × (getD (now table) (entryAt row most) 0 < 65536) ⌝ }
+    requires { ⌜ (row < 4) × (q < mostPartitions) × (getD (now table) (entryAt row q) 0 < 65536) × (getD (now table) (entryAt row mostPartitions) 0 < 65536) ⌝ }
     ensures { λ _. ⌜ now (table .exit) ≡ added row q (now (table .entry)) ⌝ }
 {
     let i = entry(row, q);
@@ -49,7 +49,7 @@ fn add(table: &mut [usize; TABLE], row: usize, q: usize)
 
 // Marks the blocks of the cache's list, so that the pass over all blocks asks one byte of each.
 fn mark_waiting(c: Client, m: &[u8], marks: &mut [u8; BLOCKS])
-    requires { ⌜ Room c (now m) × (c .waiting ≤ c .shape .n) × (now marks ≡ replicate 4096 0) ⌝ }
+    requires { ⌜ Room c (now m) × (c .waiting ≤ c .shape .n) × (now marks ≡ replicate marksRoom 0) ⌝ }
     ensures { λ _. ⌜ Marked (stateOf c (now (m .entry)) .waiting) (now (marks .exit)) ⌝ }
 {
     let n = c.waiting;
@@ -77,8 +77,8 @@ fn row(c: Client, m: &[u8], marks: &[u8; BLOCKS], b: usize) -> usize
 
 // All blocks.
 fn count_blocks(c: Client, m: &[u8], marks: &[u8; BLOCKS], table: &mut [usize; TABLE])
-    requires { ⌜ Room c (now m) × Marked (stateOf c (now m) .waiting) (now marks) × (now table ≡ replicate 260 0) ⌝ }
-    ensures { λ _. ⌜ CountedTo (stateOf c (now (m .entry))) (c .shape .n) (now (table .exit)) × Row (λ j. j) [] 3 (now (table .exit)) × (length (now (table .exit)) ≡ 260) ⌝ }
+    requires { ⌜ Room c (now m) × Marked (stateOf c (now m) .waiting) (now marks) × (now table ≡ replicate tableRoom 0) ⌝ }
+    ensures { λ _. ⌜ CountedTo (stateOf c (now (m .entry))) (c .shape .n) (now (table .exit)) × Row (λ j. j) [] 3 (now (table .exit)) × (length (now (table .exit)) ≡ tableRoom) ⌝ }
 {
     let n = c.shape.n;
     let mut b = 0;
@@ -91,7 +91,7 @@ fn count_blocks(c: Client, m: &[u8], marks: &[u8; BLOCKS], table: &mut [usize; T
 
 // All jobs of the queue, the front one too, whether it has begun or not.
 fn count_jobs(c: Client, m: &[u8], table: &mut [usize; TABLE])
-    requires { ⌜ Room c (now m) × (c .jobs ≤ 64) × CountedTo (stateOf c (now m)) (c .shape .n) (now table) × Row (λ j. j) [] 3 (now table) × (length (now table) ≡ 260) ⌝ }
+    requires { ⌜ Room c (now m) × (c .jobs ≤ 64) × CountedTo (stateOf c (now m)) (c .shape .n) (now table) × Row (λ j. j) [] 3 (now table) × (length (now table) ≡ tableRoom) ⌝ }
     ensures { λ _. ⌜ Counted (stateOf c (now (m .entry))) (now (table .exit)) ⌝ }
 {
     let n = c.jobs;
@@ -104,7 +104,7 @@ fn count_jobs(c: Client, m: &[u8], table: &mut [usize; TABLE])
 
 // The figures of all lines, in a table of zeros: its cost is that of the blocks and jobs.
 pub fn count(c: Client, m: &[u8], table: &mut [usize; TABLE])
-    requires { ⌜ Room c (now m) × (c .waiting ≤ c .shape .n) × (c .jobs ≤ 64) × (now table ≡ replicate 260 0) ⌝ }
+    requires { ⌜ Room c (now m) × (c .waiting ≤ c .shape .n) × (c .jobs ≤ 64) × (now table ≡ replicate tableRoom 0) ⌝ }
     ensures { λ _. ⌜ Counted (stateOf c (now (m .entry))) (now (table .exit)) ⌝ }
 {
     let mut marks = [0u8; BLOCKS];

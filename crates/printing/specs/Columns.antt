@@ -13,6 +13,10 @@ unfoldable pub columns : List ℕ → List ℕ → List ℕ
 columns [] rest = rest
 columns (n ∷ ns) rest = column 6 n ++ columns ns rest
 
+-- "28 characters and a newline"
+abbrev pub lineLength : ℕ
+lineLength = 29
+
 -- "28 characters and a newline: partition in 4 columns, then counter, stored blocks, waiting blocks and queued jobs in 6 each"
 unfoldable pub partitionLine : ℕ → List ℕ → List ℕ
 partitionLine q ns = column 4 q ++ columns ns (newline ∷ [])

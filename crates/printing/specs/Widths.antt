@@ -8,7 +8,7 @@ use lib.ListN.{length, replicate, length-append, length-replicate}
 use Rattle.lists.specs.All.{All, nil, cons, all-append, all-replicate}
 use Rattle.printing.specs.Text.{blank, newline, digitOf, digitsOf, decimal}
 use Rattle.printing.specs.Laws.{digit-low, digits-one, digits-more, decimal-one, decimal-more, decimal-le}
-use Rattle.printing.specs.Columns.{column, columns, partitionLine, lastLine}
+use Rattle.printing.specs.Columns.{column, columns, lineLength, partitionLine, lastLine}
 
 -- ---- Numbers
 
@@ -110,5 +110,5 @@ last-line a b c = record {
     all-letters : All (λ b. blank ≤ b) (97 ∷ 108 ∷ 108 ∷ blank ∷ [])
     all-letters = cons {x = 97} (omega arith) (cons {x = 108} (omega arith) (cons {x = 108} (omega arith) (cons {x = blank} (omega arith) nil)))
 
-pub line-length : (l : List ℕ) → Line28 l → length l ≡ 29
+pub line-length : (l : List ℕ) → Line28 l → length l ≡ lineLength
 line-length l f = ap length (f .ended) ∙ length-append (f .characters) (newline ∷ []) ∙ omega (arith, f .wide)

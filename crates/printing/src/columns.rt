@@ -4,8 +4,11 @@ ghost use mathlib.Core.List.{[], _∷_, _++_};
 ghost use Prim.Native.Nat.{_+_, _≤_, _<_};
 ghost use lib.ListN.{length, replicate};
 ghost use Rattle.printing.specs.Text.{blank, newline, decimal};
-ghost use Rattle.printing.specs.Columns.{column as columnOf, partitionLine, lastLine};
+ghost use Rattle.printing.specs.Columns.{column as columnOf, lineLength, partitionLine, lastLine};
 ghost use Rattle.printing.specs.Written.{Written};
+
+// 28 characters and a newline.
+pub const LINE: usize = 29;
 
 // How many digits a number has.
 fn width(n: usize) -> usize
@@ -61,7 +64,7 @@ pub fn partition_line(
     waiting: usize,
     queued: usize,
 ) -> usize
-    requires { ⌜ (q < 100) × (counter < 65536) × (stored < 65536) × (waiting < 65536) × (queued < 65536) × (at + 29 ≤ length (now out)) ⌝ }
+    requires { ⌜ (q < 100) × (counter < 65536) × (stored < 65536) × (waiting < 65536) × (queued < 65536) × (at + lineLength ≤ length (now out)) ⌝ }
     ensures { λ r. ⌜ Written (now (out .entry)) at (partitionLine q (counter ∷ stored ∷ waiting ∷ queued ∷ [])) (now (out .exit)) r ⌝ }
 {
     let first = column(out, at, 4, q);
@@ -94,7 +97,7 @@ fn ending(out: &mut [u8], at: usize) -> usize
 
 // The last line: three figures in 6 columns each.
 pub fn last_line(out: &mut [u8], at: usize, nowhere: usize, stored: usize, waiting: usize) -> usize
-    requires { ⌜ (nowhere < 65536) × (stored < 65536) × (waiting < 65536) × (at + 29 ≤ length (now out)) ⌝ }
+    requires { ⌜ (nowhere < 65536) × (stored < 65536) × (waiting < 65536) × (at + lineLength ≤ length (now out)) ⌝ }
     ensures { λ r. ⌜ Written (now (out .entry)) at (lastLine (nowhere ∷ stored ∷ waiting ∷ [])) (now (out .exit)) r ⌝ }
 {
     let first = heading(out, at);

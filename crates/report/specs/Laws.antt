@@ -23,11 +23,11 @@ use Rattle.rules.specs.Laws.Kept.{given-in}
 use Rattle.memory.specs.Fits.{Fits, fits}
 use Rattle.client.specs.declared.Client.{Client}
 use Rattle.client.specs.View.{view, stateOf}
-use Rattle.counting.specs.Counts.{entryAt, Counted}
-use Rattle.printing.specs.Columns.{partitionLine, lastLine}
+use Rattle.counting.specs.Counts.{mostPartitions, entryAt, Counted}
+use Rattle.printing.specs.Columns.{lineLength, partitionLine, lastLine}
 use Rattle.printing.specs.Widths.{Line28, partition-line, last-line, line-length}
 use Rattle.printing.specs.Written.{Written}
-use Rattle.report.specs.Page.{lines, page, shown, pageQuestions, pageNumber, Shows}
+use Rattle.report.specs.Page.{lines, page, pageRoom, shown, pageQuestions, pageNumber, Shows}
 
 module _ (s : State) where
   in-le : (q : ℕ) (bs : List ℕ) → inPartition s q bs ≤ length bs
@@ -76,32 +76,32 @@ module _ (s : State) (f : InRange s) where
   unfolding allFigures
   end-line = last-line _ _ _
 
-  pub lines-length : (n : ℕ) → n ≤ s .shape .P → length (lines s n) ≡ 29 * n
+  pub lines-length : (n : ℕ) → n ≤ s .shape .P → length (lines s n) ≡ lineLength * n
   unfolding lines
   lines-length zero h = refl
   lines-length (suc q) h = length-append (lines s q) (partitionLine q (figures s q)) ∙ omega (arith, lines-length q (omega arith), line-length _ (each-line q (omega arith)))
 
-  pub page-length : length (page s) ≡ 29 * (s .shape .P + 1)
+  pub page-length : length (page s) ≡ lineLength * (s .shape .P + 1)
   unfolding page
   page-length = length-append (lines s (s .shape .P)) (lastLine (allFigures s)) ∙ omega (arith, lines-length (s .shape .P) (omega arith), line-length _ end-line)
 
 -- by the client's number
-pub client-page-length : (c : Client) (m : List ℕ) → InRange (stateOf c m) → length (page (stateOf c m)) ≡ 29 * (c .shape .p + 1)
+pub client-page-length : (c : Client) (m : List ℕ) → InRange (stateOf c m) → length (page (stateOf c m)) ≡ lineLength * (c .shape .p + 1)
 unfolding stateOf view
 client-page-length c m f = page-length (stateOf c m) f
 
 -- the longest: 64 partitions
-pub page-le : (s : State) (memory : ℕ) → ready s memory ≡ true → length (page s) ≤ 1885
+pub page-le : (s : State) (memory : ℕ) → ready s memory ≡ true → length (page s) ≤ pageRoom
 page-le s memory e = let f = given-in s memory e in omega (arith, page-length s f, bounds s f .partitions)
 
 -- ---- The figures as they are counted
 
 module _ (s : State) (t : List ℕ) (k : Counted s t) where
-  pub line-figures : (q : ℕ) → q < 64 → figures s q ≡ s .counter q ∷ getD t (entryAt 1 q) 0 ∷ getD t (entryAt 2 q) 0 ∷ getD t (entryAt 3 q) 0 ∷ []
+  pub line-figures : (q : ℕ) → q < mostPartitions → figures s q ≡ s .counter q ∷ getD t (entryAt 1 q) 0 ∷ getD t (entryAt 2 q) 0 ∷ getD t (entryAt 3 q) 0 ∷ []
   unfolding figures inPartition jobsFor
   line-figures q h = λ i. s .counter q ∷ sym (k .stored .each q h) i ∷ sym (k .waiting .each q h) i ∷ sym (k .queued .each q h) i ∷ []
 
-  pub end-figures : allFigures s ≡ getD t (entryAt 0 64) 0 ∷ getD t (entryAt 1 64) 0 ∷ getD t (entryAt 2 64) 0 ∷ []
+  pub end-figures : allFigures s ≡ getD t (entryAt 0 mostPartitions) 0 ∷ getD t (entryAt 1 mostPartitions) 0 ∷ getD t (entryAt 2 mostPartitions) 0 ∷ []
   unfolding allFigures
   end-figures = λ i. sym (k .nowhere .all) i ∷ sym (k .stored .all) i ∷ sym (k .waiting .all) i ∷ []
 
@@ -112,7 +112,7 @@ module _ (s : State) (t : List ℕ) (k : Counted s t) where
         four : {a b c d : ℕ} → All (λ n. n < 10000) (a ∷ b ∷ c ∷ d ∷ []) → (a < 10000) × (b < 10000) × (c < 10000) × (d < 10000)
         four (cons u (cons v (cons w (cons x nil)))) = (u, v, w, x)
 
-    pub end-small : (getD t (entryAt 0 64) 0 < 10000) × (getD t (entryAt 1 64) 0 < 10000) × (getD t (entryAt 2 64) 0 < 10000)
+    pub end-small : (getD t (entryAt 0 mostPartitions) 0 < 10000) × (getD t (entryAt 1 mostPartitions) 0 < 10000) × (getD t (entryAt 2 mostPartitions) 0 < 10000)
     end-small = three (rw end-figures at (all-figures-fit s f))
       where
         three : {a b c : ℕ} → All (λ n. n < 10000) (a ∷ b ∷ c ∷ []) → (a < 10000) × (b < 10000) × (c < 10000)
@@ -161,7 +161,7 @@ shows-small s memory b number size b′ k = go (ready s memory) (leb (length (pa
     go true true e d = let n : number ≡ 0 = k .asked ∙ rw (e, d) in (omega arith, omega (arith, k .accepted n .0, page-le s memory e))
 
 -- a buffer that every page fits into begins with the page that is shown, if there is one
-pub shows-shown : (s : State) (memory : ℕ) (b : List ℕ) (number size : ℕ) (b′ : List ℕ) → 1885 ≤ length b → Shows s memory b number size b′ → (size ≡ length (shown s memory)) × (take size b′ ≡ shown s memory)
+pub shows-shown : (s : State) (memory : ℕ) (b : List ℕ) (number size : ℕ) (b′ : List ℕ) → pageRoom ≤ length b → Shows s memory b number size b′ → (size ≡ length (shown s memory)) × (take size b′ ≡ shown s memory)
 unfolding shown pageNumber pageQuestions firstNo
 shows-shown s memory b number size b′ room k = go (ready s memory) refl
   where

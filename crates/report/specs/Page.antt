@@ -19,6 +19,10 @@ lines s (suc q) = lines s q ++ partitionLine q (figures s q)
 unfoldable pub page : State → List ℕ
 page s = lines s (s .shape .P) ++ lastLine (allFigures s)
 
+-- no page is longer: 65 lines (`page-le`)
+abbrev pub pageRoom : ℕ
+pageRoom = 1885
+
 -- The page of a state for which so much memory is lent: none of one that is closed, or out of its ranges. "Without an accepted O it prints nothing":
 -- then the state is closed (`page-opened`, crate `output`)
 unfoldable pub shown : State → ℕ → List ℕ

@@ -6,19 +6,17 @@ use counting::QUEUED;
 use counting::STORED;
 use counting::TABLE;
 use counting::WAITING;
+use printing::columns::LINE;
 ghost use mathlib.Core.Path.{_≡_};
 ghost use mathlib.Core.List.{[], _∷_};
 ghost use Prim.Native.Nat.{_+_, _*_, _≤_, _<_};
 ghost use lib.ListN.{length, getD};
 ghost use Rattle.client.specs.View.{stateOf};
 ghost use Rattle.ready.specs.Usable.{Usable};
-ghost use Rattle.counting.specs.Counts.{Counted, entryAt};
-ghost use Rattle.printing.specs.Columns.{lastLine};
+ghost use Rattle.counting.specs.Counts.{mostPartitions, entryAt, Counted};
+ghost use Rattle.printing.specs.Columns.{lineLength, lastLine};
 ghost use Rattle.printing.specs.Written.{Written};
 ghost use Rattle.report.specs.Page.{lines as linesOf, page as pageOf, Shows};
-
-// 28 characters and a newline.
-const LINE: usize = 29;
 
 // The number, and how many bytes the page has; none if it is refused.
 pub struct Shown {
@@ -28,7 +26,7 @@ pub struct Shown {
 
 // A figure of the table.
 fn figure(table: &[usize; TABLE], row: usize, q: usize) -> usize
-    requires { ⌜ (row < 4) × (q ≤ 64) ⌝ }
+    requires { ⌜ (row < 4) × (q ≤ mostPartitions) ⌝ }
     ensures { λ r. ⌜ r ≡ getD (now (table .entry)) (entryAt row q) 0 ⌝ }
 {
     let i = counting::entry(row, q);
@@ -37,7 +35,7 @@ fn figure(table: &[usize; TABLE], row: usize, q: usize) -> usize
 
 // A line for each partition, 0 upward. The result is the place behind them.
 fn partitions(c: Client, m: &[u8], table: &[usize; TABLE], out: &mut [u8]) -> usize
-    requires { ⌜ Usable c (now m) × Counted (stateOf c (now m)) (now table) × (29 * (c .shape .p + 1) ≤ length (now out)) ⌝ }
+    requires { ⌜ Usable c (now m) × Counted (stateOf c (now m)) (now table) × (lineLength * (c .shape .p + 1) ≤ length (now out)) ⌝ }
     ensures { λ r. ⌜ Written (now (out .entry)) 0 (linesOf (stateOf c (now (m .entry))) (c .shape .p)) (now (out .exit)) r ⌝ }
 {
     let p = c.shape.p;
@@ -56,8 +54,8 @@ fn partitions(c: Client, m: &[u8], table: &[usize; TABLE], out: &mut [u8]) -> us
 
 // The last line.
 fn last(table: &[usize; TABLE], out: &mut [u8], at: usize) -> usize
-    requires { ⌜ (getD (now table) (entryAt 0 64) 0 < 65536) × (getD (now table) (entryAt 1 64) 0 < 65536) × (getD (now table) (entryAt 2 64) 0 < 65536) × (at + 29 ≤ length (now out)) ⌝ }
-    ensures { λ r. ⌜ Written (now (out .entry)) at (lastLine (getD (now (table .entry)) (entryAt 0 64) 0 ∷ getD (now (table .entry)) (entryAt 1 64) 0 ∷ getD (now (table .entry)) (entryAt 2 64) 0 ∷ [])) (now (out .exit)) r ⌝ }
+    requires { ⌜ (getD (now table) (entryAt 0 mostPartitions) 0 < 65536) × (getD (now table) (entryAt 1 mostPartitions) 0 < 65536) × (getD (now table) (entryAt 2 mostPartitions) 0 < 65536) × (at + lineLength ≤ length (now out)) ⌝ }
+    ensures { λ r. ⌜ Written (now (out .entry)) at (lastLine (getD (now (table .entry)) (entryAt 0 mostPartitions) 0 ∷ getD (now (table .entry)) (entryAt 1 mostPartitions) 0 ∷ getD (now (table .entry)) (entryAt 2 mostPartitions) 0 ∷ [])) (now (out .exit)) r ⌝ }
 {
     let nowhere = figure(table, NOWHERE, ALL);
     let stored = figure(table, STORED, ALL);
@@ -67,7 +65,7 @@ fn last(table: &[usize; TABLE], out: &mut [u8], at: usize) -> usize
 
 // All of it: each block and each job is looked at once.
 fn put(c: Client, m: &[u8], out: &mut [u8]) -> usize
-    requires { ⌜ Usable c (now m) × (29 * (c .shape .p + 1) ≤ length (now out)) ⌝ }
+    requires { ⌜ Usable c (now m) × (lineLength * (c .shape .p + 1) ≤ length (now out)) ⌝ }
     ensures { λ r. ⌜ Written (now (out .entry)) 0 (pageOf (stateOf c (now (m .entry)))) (now (out .exit)) r ⌝ }
 {
     let mut table = [0usize; TABLE];

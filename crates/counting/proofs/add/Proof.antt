@@ -1,6 +1,6 @@
 use borrow.Author.Needs.{needs}
 use native.Mathlib.Omega.{arith}
-use Rattle.counting.specs.Counts.{most, entryAt}
+use Rattle.counting.specs.Counts.{mostPartitions, entryAt}
 use Rattle.counting.specs.Laws.{more-other}
 use Rattle.counting.proofs.add.Statement.{statement}
 use Rattle.counting.proofs.add.Tie as tie
@@ -35,7 +35,7 @@ element-copy-out-table-2 c = search needs
 add-table-2 : tie.Need-add-table-2
 add-table-2 c =
     let a = c .before .before .before .before in
-    rw (c .before .entry2 .ensures .0, c .before .before .before .entry .ensures .0, more-other (entryAt (a .args .row) (a .args .q)) (entryAt (a .args .row) most) (a .args .table .now) (λ w. omega arith)) (omega arith)
+    rw (c .before .entry2 .ensures .0, c .before .before .before .entry .ensures .0, more-other (entryAt (a .args .row) (a .args .q)) (entryAt (a .args .row) mostPartitions) (a .args .table .now) (λ w. omega arith)) (omega arith)
 
 mul-table-4 : tie.Need-mul-table-4
 mul-table-4 c = search needs

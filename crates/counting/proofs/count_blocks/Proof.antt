@@ -10,19 +10,19 @@ use Rattle.memory.specs.Tables.{tablesOf}
 use Rattle.memory.specs.Fits.{shapeOf, fit-lt}
 use Rattle.client.specs.View.{stateOf}
 use Rattle.client.specs.Readings.{partition-is}
-use Rattle.counting.specs.Counts.{most, Row, rowOf, CountedTo}
+use Rattle.counting.specs.Counts.{tableRoom, mostPartitions, Row, rowOf, CountedTo}
 use Rattle.counting.specs.Laws.{added-length, row-other, row-none, counted-none, counted-more, counted-le}
 use Rattle.counting.proofs.count_blocks.Statement.{statement}
 use Rattle.counting.proofs.count_blocks.Tie as tie
 
 abbrev Inv-loop : tie.InvT-loop
-Inv-loop c m marks table₀ n b₀ table b = (b ≤ n) × (length table ≡ 260) × CountedTo (stateOf c m) b table × Row (λ j. j) [] 3 table
+Inv-loop c m marks table₀ n b₀ table b = (b ≤ n) × (length table ≡ tableRoom) × CountedTo (stateOf c m) b table × Row (λ j. j) [] 3 table
 
 abbrev μ-loop : tie.MeasureT-loop
 μ-loop c m marks table₀ n b₀ table b = n - b
 
 loop-holds : tie.Need-loop-holds Inv-loop μ-loop
-loop-holds c = (omega arith, rw (c .before .pre .2) (length-replicate {A = ℕ} 260 0), rw (c .before .pre .2) (counted-none _), rw (c .before .pre .2) (row-none (λ j. j) 3 (omega arith)))
+loop-holds c = (omega arith, rw (c .before .pre .2) (length-replicate {A = ℕ} tableRoom 0), rw (c .before .pre .2) (counted-none _), rw (c .before .pre .2) (row-none (λ j. j) 3 (omega arith)))
 
 row-requires : tie.Need-row-requires Inv-loop μ-loop
 row-requires c κs = search needs
@@ -31,7 +31,7 @@ partition-requires : tie.Need-partition-requires Inv-loop μ-loop
 partition-requires c κs = search needs
 
 -- a block's partition
-short : (c : tie.After-partition Inv-loop μ-loop) → c .partition .result < most
+short : (c : tie.After-partition Inv-loop μ-loop) → c .partition .result < mostPartitions
 short c =
     let a = c .before .before .before .before .before .before in
     omega (arith, c .partition .ensures, fit-lt (a .args .c .shape .p) (tablesOf (shapeOf (a .args .c .shape)) (a .args .m .now) .partition (c .before .before .before .before .loop .b)) (a .pre .0 .somePartitions), a .pre .0 .partitions)

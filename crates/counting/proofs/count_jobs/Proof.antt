@@ -10,13 +10,13 @@ use Rattle.memory.specs.Fits.{shapeOf, fit-lt}
 use Rattle.client.specs.View.{rows, view, stateOf}
 use Rattle.client.specs.Changes.{fitted}
 use Rattle.client.specs.Rows.{length-rows, rows-snoc}
-use Rattle.counting.specs.Counts.{most, Row, CountedTo}
+use Rattle.counting.specs.Counts.{tableRoom, mostPartitions, Row, CountedTo}
 use Rattle.counting.specs.Laws.{added-length, row-added, row-le, counted-beside}
 use Rattle.counting.proofs.count_jobs.Statement.{statement}
 use Rattle.counting.proofs.count_jobs.Tie as tie
 
 abbrev Inv-loop : tie.InvT-loop
-Inv-loop c m table₀ n j₀ table j = (j ≤ n) × (length table ≡ 260) × CountedTo (stateOf c m) (c .shape .n) table × Row (λ j. j) (rows (fitted (c .shape .p) (tablesOf (shapeOf (c .shape)) m .queue)) j) 3 table
+Inv-loop c m table₀ n j₀ table j = (j ≤ n) × (length table ≡ tableRoom) × CountedTo (stateOf c m) (c .shape .n) table × Row (λ j. j) (rows (fitted (c .shape .p) (tablesOf (shapeOf (c .shape)) m .queue)) j) 3 table
 
 abbrev μ-loop : tie.MeasureT-loop
 μ-loop c m table₀ n j₀ table j = n - j
@@ -29,7 +29,7 @@ job-requires : tie.Need-job-requires Inv-loop μ-loop
 job-requires c κs = search needs
 
 -- a job's partition
-short : (c : tie.After-job Inv-loop μ-loop) → c .job .result < most
+short : (c : tie.After-job Inv-loop μ-loop) → c .job .result < mostPartitions
 short c =
     let a = c .before .before .before .before .before in
     omega (arith, c .job .ensures, fit-lt (a .args .c .shape .p) (tablesOf (shapeOf (a .args .c .shape)) (a .args .m .now) .queue (c .before .before .before .loop .j)) (a .pre .0 .somePartitions), a .pre .0 .partitions)

@@ -8,26 +8,26 @@ use Rattle.memory.specs.Tables.{tablesOf}
 use Rattle.memory.specs.Fits.{shapeOf, fit-lt}
 use Rattle.client.specs.View.{rows, view, stateOf}
 use Rattle.client.specs.Changes.{fitted}
-use Rattle.counting.specs.Counts.{Marked}
+use Rattle.counting.specs.Counts.{marksRoom, Marked}
 use Rattle.counting.specs.Laws.{marked-none, marked-more}
 use Rattle.counting.proofs.mark_waiting.Statement.{statement}
 use Rattle.counting.proofs.mark_waiting.Tie as tie
 
 abbrev Inv-loop : tie.InvT-loop
-Inv-loop c m marks₀ n i₀ marks i = (i ≤ n) × (length marks ≡ 4096) × Marked (rows (fitted (c .shape .n) (tablesOf (shapeOf (c .shape)) m .waiting)) i) marks
+Inv-loop c m marks₀ n i₀ marks i = (i ≤ n) × (length marks ≡ marksRoom) × Marked (rows (fitted (c .shape .n) (tablesOf (shapeOf (c .shape)) m .waiting)) i) marks
 
 abbrev μ-loop : tie.MeasureT-loop
 μ-loop c m marks₀ n i₀ marks i = n - i
 
 loop-holds : tie.Need-loop-holds Inv-loop μ-loop
 unfolding rows below count
-loop-holds c = (omega arith, rw (c .before .pre .2) (length-replicate {A = ℕ} 4096 0), rw (c .before .pre .2) marked-none)
+loop-holds c = (omega arith, rw (c .before .pre .2) (length-replicate {A = ℕ} marksRoom 0), rw (c .before .pre .2) marked-none)
 
 waiting-requires : tie.Need-waiting-requires Inv-loop μ-loop
 waiting-requires c κs = search needs
 
 -- a block of the list is one of the store's
-low : (c : tie.After-waiting Inv-loop μ-loop) → c .waiting .result < 4096
+low : (c : tie.After-waiting Inv-loop μ-loop) → c .waiting .result < marksRoom
 low c =
     let a = c .before .before .before .before in
     omega (arith, c .waiting .ensures, fit-lt (a .args .c .shape .n) (tablesOf (shapeOf (a .args .c .shape)) (a .args .m .now) .waiting (c .before .before .loop .i)) (a .pre .0 .someBlocks), a .pre .0 .blocks)

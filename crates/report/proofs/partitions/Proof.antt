@@ -8,7 +8,7 @@ use native.Mathlib.Omega.{arith}
 use Rattle.rules.specs.Figures.{figures}
 use Rattle.client.specs.View.{stateOf, view}
 use Rattle.client.specs.Readings.{counter-is}
-use Rattle.printing.specs.Columns.{partitionLine}
+use Rattle.printing.specs.Columns.{lineLength, partitionLine}
 use Rattle.printing.specs.Widths.{line-length}
 use Rattle.printing.specs.Written.{Written, nothing, followed, same-text}
 use Rattle.report.specs.Page.{lines}
@@ -17,7 +17,7 @@ use Rattle.report.proofs.partitions.Statement.{statement}
 use Rattle.report.proofs.partitions.Tie as tie
 
 abbrev Inv-loop : tie.InvT-loop
-Inv-loop c m table out₀ p at₀ q₀ out at q = (q ≤ p) × (length out ≡ length out₀) × (at ≡ 29 * q) × Written out₀ 0 (lines (stateOf c m) q) out at
+Inv-loop c m table out₀ p at₀ q₀ out at q = (q ≤ p) × (length out ≡ length out₀) × (at ≡ lineLength * q) × Written out₀ 0 (lines (stateOf c m) q) out at
 
 abbrev μ-loop : tie.MeasureT-loop
 μ-loop c m table out₀ p at₀ q₀ out at q = p - q

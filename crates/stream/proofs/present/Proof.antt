@@ -5,6 +5,7 @@ use native.Mathlib.Omega.{arith}
 use lib.ListN.{length, take}
 use lib.Seq.{length-take-le}
 use Rattle.client.specs.View.{stateOf}
+use Rattle.report.specs.Page.{pageRoom}
 use Rattle.report.specs.Laws.{shows-shown, shows-small}
 use Rattle.session.specs.Session.{memoryRoom}
 use Rattle.output.specs.Paged.{Presented}
@@ -20,7 +21,7 @@ written : (c : tie.After-show-arg) → let a = c .before .before .before .before
 written c =
     let a = c .before .before .before .before .before .before .args in
     let long : length (a .memory .now) ≡ memoryRoom = search needs in
-    let room : 1885 ≤ length (a .out .now) = omega arith in
+    let room : pageRoom ≤ length (a .out .now) = omega arith in
     let p = rw long at (shows-shown _ _ _ _ _ _ room (c .before .before .before .write .ensures)) in
     record { all = p .0; bytes = p .1 }
 
