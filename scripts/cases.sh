@@ -77,7 +77,7 @@ alike() {
     if "$plain/$kind" <"$2" >"$work/wanted"; then
         check "$1" "$2" "$work/wanted"
     else
-        fail "$1: plain/ has no $kind"
+        fail "$1: plain/ does not run"
     fi
 }
 

@@ -31,10 +31,17 @@ pub fn page(state: &State) -> String {
 /// One pass over the blocks and one over the queue, however many partitions
 /// there are.
 fn rows(state: &State) -> Vec<Row> {
-    let mut rows = vec![Row::default(); state.shape.partitions];
-    for (row, counter) in rows.iter_mut().zip(&state.counter) {
-        row.counter = *counter;
-    }
+    let counter = |counter: &usize| Row {
+        counter: *counter,
+        ..Row::default()
+    };
+    let mut rows: Vec<Row> = state.counter.iter().map(counter).collect();
+    count_blocks(state, &mut rows);
+    count_jobs(state, &mut rows);
+    rows
+}
+
+fn count_blocks(state: &State, rows: &mut [Row]) {
     for (place, partition) in state.place.iter().zip(&state.partition) {
         match place {
             Place::Nowhere => {}
@@ -42,10 +49,12 @@ fn rows(state: &State) -> Vec<Row> {
             Place::Stored { .. } => rows[*partition].stored += 1,
         }
     }
+}
+
+fn count_jobs(state: &State, rows: &mut [Row]) {
     for partition in &state.queue {
         rows[*partition].jobs += 1;
     }
-    rows
 }
 
 /// The blocks of the whole store. Each figure is counted, none is a

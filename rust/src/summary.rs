@@ -106,8 +106,8 @@ impl Summary {
         &self.partitions
     }
 
-    /// The blocks that are nowhere: they were never looked up, and read as
-    /// zeros. With those [stored](Summary::stored) and
+    /// The blocks that are nowhere: no look-up of them was collected yet, and
+    /// they read as zeros. With those [stored](Summary::stored) and
     /// [waiting](Summary::waiting) they are all N.
     #[must_use]
     pub const fn nowhere(&self) -> usize {
@@ -150,14 +150,16 @@ impl Summary {
     }
 }
 
-/// What a line is of, and its first figures: all stand in fixed columns.
+/// What a line is of, and its figures: all stand in fixed columns, and nothing
+/// but blanks and the newline comes behind them.
 fn columns<const COUNT: usize>(line: &str) -> Option<(&str, [usize; COUNT])> {
     let (name, rest) = line.split_at_checked(NAME)?;
     let mut figures = [0; COUNT];
     for (k, figure) in figures.iter_mut().enumerate() {
         *figure = number(rest.get(k * FIGURE..(k + 1) * FIGURE)?)?;
     }
-    (line.len() == LINE).then_some((name, figures))
+    let end = rest.get(COUNT * FIGURE..)?.trim_start_matches(' ');
+    (line.len() == LINE && end == "\n").then_some((name, figures))
 }
 
 /// A right-aligned number.
@@ -236,6 +238,8 @@ mod tests {
             &PAGE.replace("     0\n", "      \n"), // a figure is missing
             &PAGE.replace("   7", "seven"),
             &PAGE.replace("84   ", "84é  "), // a character of two bytes
+            &PAGE.replace("84      ", "84     x"), // more than three figures
+            &PAGE.replace("64\n", "64\t"),   // no newline
         ];
         for text in texts {
             assert!(Summary::of(text).is_none(), "{text}");

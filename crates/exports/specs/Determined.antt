@@ -1,12 +1,12 @@
 -- The contract of an exported call says all of the number that it answers and every byte of the state after it: two that meet it from the same
 -- bytes are the same. (Of the memory it says what it stands for: docs/MEMORY.md names the bytes that are free.)
 use mathlib.Core.Path.{_≡_, ap, sym, _∙_}
-use mathlib.Core.List.{List, []}
+use mathlib.Core.List.{List, [], _++_}
 use mathlib.Core.Option.{Option·getD}
 use Prim.Native.Nat.{ℕ, _+_, _*_, _/_, _%_}
 use native.Mathlib.Omega.{arith}
 use native.Mathlib.Decide.{ℕ-discrete}
-use lib.ListN.{length}
+use lib.ListN.{length, drop}
 use Rattle.rules.specs.Shape.{Shape}
 use Rattle.rules.specs.State.{State, Command, closed}
 use Rattle.rules.specs.Questions.{Ask, opening}
@@ -18,10 +18,12 @@ use Rattle.client.specs.View.{stateOf, view}
 use Rattle.client.specs.Rows.{length-rows}
 use Rattle.client.specs.Readings.{jobs-count, waiting-count, handOf, hand-none, hand-some}
 use Rattle.contract.specs.Answers.{clearedClient}
-use Rattle.contract.specs.Meets.{Meets}
+use Rattle.contract.specs.Meets.{Meets, commandOf}
+use Rattle.report.specs.Page.{page}
 use Rattle.codec.specs.Codec.{stateLength, Between, answerOf}
 use Rattle.exports.specs.Exported.{clientIn, Exported, Opened}
 use Rattle.exports.specs.Idle.{Idle, none-kind}
+use Rattle.exports.specs.Paged.{Paged, told}
 
 -- ---- The client
 
@@ -83,14 +85,17 @@ module _ (u v : ℕ) where
   same-number : u % 256 ≡ v % 256 → u / 256 ≡ v / 256 → u ≡ v
   same-number a b = omega arith
 
+  -- number, words or length, and command are all of it
+  same-parts : (x y : Client) → answerOf u x .number ≡ answerOf v y .number → answerOf u x .taken ≡ answerOf v y .taken → commandOf (answerOf u x) ≡ commandOf (answerOf v y) → u ≡ v
+  same-parts x y n t o =
+      let high = same-high (ap (λ (z : Command). z .slot) o) t in
+      let low = same-partition (ap (λ (z : Command). z .partition) o) (same-level (ap (λ (z : Command). z .level) o) high) in
+      same-number n (same-kind (ap (λ (z : Command). z .kind) o) low)
+
 module _ (c : Client) (s : State) (a : Ask) (m tape b : List ℕ) (u v : ℕ) (x y : Client) (m′ n′ b′ d′ : List ℕ)
     (k : Meets c s a m tape b (answerOf u x) m′ b′) (l : Meets c s a m tape b (answerOf v y) n′ d′) where
   same-answer : u ≡ v
-  same-answer =
-      let o = k .command ∙ sym (l .command) in
-      let high = same-high u v (ap (λ (z : Command). z .slot) o) (k .taken ∙ sym (l .taken)) in
-      let low = same-partition u v (ap (λ (z : Command). z .partition) o) (same-level u v (ap (λ (z : Command). z .level) o) high) in
-      same-number u v (k .number ∙ sym (l .number)) (same-kind u v (ap (λ (z : Command). z .kind) o) low)
+  same-answer = same-parts u v x y (k .number ∙ sym (l .number)) (k .taken ∙ sym (l .taken)) (k .command ∙ sym (l .command))
 
   -- a refused call hands back c
   same-left : x ≡ y
@@ -129,3 +134,26 @@ determined-open h st m tape u v st′ st″ m′ m″ l x y = (answer, go (ℕ-d
       (λ k. y .between (rw answer at z) k ∙ sym (x .between z k)),
     )
     go (no n) = let e = x .refused n ∙ sym (y .refused (λ z. n (rw answer z))) in (ap clientIn e, (λ k. ap (λ s. wordAt s (k * 2 + 1)) (sym e)))
+
+-- A page: the answer, and every byte of the buffer
+module _ (st m b : List ℕ) (u v : ℕ) (b′ b″ : List ℕ) (x : Paged st m b u b′) (y : Paged st m b v b″) where
+  same-page-number : length st ≡ stateLength → u % 256 ≡ v % 256
+  same-page-number l = x .shows l .asked ∙ sym (y .shows l .asked)
+
+  same-page : (l : length st ≡ stateLength) → Dec (u % 256 ≡ 0) → (told u .taken ≡ told v .taken) × (b′ ≡ b″)
+  same-page l (yes z) =
+      let p = x .shows l .accepted z in
+      let q = y .shows l .accepted (sym (same-page-number l) ∙ z) in
+      let size = p .0 ∙ sym (q .0) in
+      (size, p .1 ∙ ap (λ n. page (stateOf (clientIn st) m) ++ drop n b) size ∙ sym (q .1))
+  same-page l (no n) =
+      let p = x .shows l .refused n in
+      let q = y .shows l .refused (λ z. n (same-page-number l ∙ z)) in
+      (p .0 ∙ sym (q .0), p .1 ∙ sym (q .1))
+
+  pub determined-page : (u ≡ v) × (b′ ≡ b″)
+  determined-page = go (ℕ-discrete (length st) stateLength)
+    where
+      go : Dec (length st ≡ stateLength) → (u ≡ v) × (b′ ≡ b″)
+      go (yes l) = let w = same-page l (ℕ-discrete (u % 256) 0) in (same-parts u v clearedClient clearedClient (same-page-number l) (w .0) (x .command ∙ sym (y .command)), w .1)
+      go (no n) = (x .other n .0 ∙ sym (y .other n .0), x .other n .1 ∙ sym (y .other n .1))

@@ -2,5 +2,5 @@ pub mod Small
 pub mod Progress
 pub mod Exported
 pub mod Idle
-pub mod Determined
 pub mod Paged
+pub mod Determined

@@ -1,5 +1,5 @@
-// The five calls, and the page of a store, for a host program: numbers and byte slices. The state is 64 bytes, the tape pairs of bytes, low byte first; the answer is one
-// number (see codec::pack). Every value of every number is answered; nothing is required.
+// The five calls, and the page of a store, for a host program: numbers and byte slices. The state is 64 bytes, the tape pairs of bytes, low byte
+// first; the answer is one number (see codec::pack). Every value of every number is answered; nothing is required.
 use client::Client;
 use codec::STATE;
 use contract::Answer;
@@ -13,8 +13,7 @@ ghost use Rattle.rules.specs.Shape.{within};
 ghost use Rattle.rules.specs.State.{cmd};
 ghost use Rattle.rules.specs.Questions.{request, turn, completion as completionOf, collect};
 ghost use Rattle.memory.specs.Fits.{shapeOf};
-ghost use Rattle.codec.specs.Codec.{stateLength, withProgress, withRest};
-ghost use Rattle.codec.specs.Codec.{packed};
+ghost use Rattle.codec.specs.Codec.{stateLength, withProgress, withRest, packed};
 ghost use Rattle.contract.specs.Answers.{refusedWith, acceptedWith};
 ghost use Rattle.exports.specs.Exported.{Opened, Exported, HandedBack, HandedBackOpened, numbers};
 ghost use Rattle.exports.specs.Paged.{Paged};

@@ -3,9 +3,7 @@ use mathlib.Core.Path.{_≡_}
 use mathlib.Core.Bool.{true}
 use mathlib.Core.List.{List, []}
 use Prim.Native.Nat.{ℕ}
-use lib.ListN.{length, take}
 use Rattle.lists.specs.Tests.{if_then_else_}
-use Rattle.rules.specs.State.{State}
 use Rattle.report.specs.Page.{page, shown}
 use Rattle.session.specs.Session.{memoryRoom, left}
 use Rattle.session.specs.Opened.{opened, opened-ready}
@@ -22,14 +20,9 @@ pub page-opened : (host input : List ℕ) → paged host input ≡ (if opened ho
 unfolding paged shown
 page-opened host input = rw (opened-ready host (cut [] input))
 
--- A text may be handed to the system's write as the page: it is that of the state which some input leaves, and nothing was handed over before
+-- A text may be handed to the system's write as the page: it is that of the state which some input leaves, and the output is silent
 pub record PageDue (text : List ℕ) (o : Output) : Type 0 where
   pub silent : o .silent ≡ true
   pub host : List ℕ
   pub input : List ℕ
   pub bytes : text ≡ paged host input
-
--- n is the number of all bytes of a state's page, and the output's buffer begins with it
-pub record Presented (s : State) (n : ℕ) (out : List ℕ) : Type 0 where
-  pub all : n ≡ length (shown s memoryRoom)
-  pub bytes : take n out ≡ shown s memoryRoom

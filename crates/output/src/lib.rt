@@ -2,9 +2,10 @@
 // raise the one, and nothing can change the other.
 use printing::TEXT;
 ghost use mathlib.Core.Path.{_≡_};
-ghost use mathlib.Core.Bool.{false};
-ghost use lib.ListN.{length};
-ghost use Rattle.output.specs.Output.{total, Placed};
+ghost use mathlib.Core.Bool.{true, false};
+ghost use Prim.Native.Nat.{_≤_};
+ghost use lib.ListN.{take};
+ghost use Rattle.output.specs.Output.{outRoom, total, Placed};
 ghost use Rattle.output.specs.Printed.{Due};
 ghost use Rattle.output.specs.Paged.{PageDue};
 
@@ -46,10 +47,17 @@ fn hand(text: &[u8], o: Output) -> bool
     io::write_all(STDOUT, text)
 }
 
-// What leaves the buffer is handed over, or dropped if the output is silent; then all is well.
+// Drops what a silent output would hand over, and no other's: all is well.
+fn lose(o: Output) -> bool
+    requires { ⌜ o .silent ≡ true ⌝ }
+{
+    true
+}
+
+// What leaves the buffer is handed over, or dropped if the output is silent.
 fn leave(text: &[u8], o: Output) -> bool {
     if o.silent {
-        return true;
+        return lose(o);
     }
     hand(text, o)
 }
@@ -97,12 +105,15 @@ pub fn finish(out: &mut [u8; OUT], o: Output) -> u64
     last.output.gone
 }
 
-// Hands a page over, and tells how many bytes it has. `PageDue` says that they are the page of the state that a session leaves, and that the output was silent
-// up to here, so that they are all that was handed to the system's write.
-pub fn show(text: &[u8], o: Output) -> u64
-    requires { ⌜ PageDue (now text) o ⌝ }
-    ensures { λ r. ⌜ r ≡ length (now (text .entry)) ⌝ }
+// Hands over the first n bytes of the buffer, a page, and tells how many they are. `PageDue` says that they are the page of the state that a session leaves, and
+// that the output is silent: none of the answers was handed over. The buffer is lent as `&mut`, and nothing is promised of what it holds then, so that no page is
+// handed over twice.
+pub fn show(out: &mut [u8; OUT], n: usize, o: Output) -> u64
+    requires { ⌜ (n ≤ outRoom) × PageDue (take n (now out)) o ⌝ }
+    ensures { λ r. ⌜ r ≡ n ⌝ }
 {
+    let all: &[u8] = out;
+    let text = &all[..n];
     io::write_all(STDOUT, text);
     text.len() as u64
 }

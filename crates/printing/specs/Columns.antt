@@ -4,7 +4,8 @@ use Prim.Native.Nat.{ℕ, _-_}
 use lib.ListN.{length, replicate}
 use Rattle.printing.specs.Text.{blank, newline, decimal}
 
--- "Right-aligned in base ten": a number in so many columns. One that outgrows them would be wider; none does (`figures-fit`, crate `report`)
+-- "Right-aligned in base ten": a number in so many columns. A number below 100,000 has all its digits, and figures are
+-- below 10,000 (`figures-fit`, crate `report`)
 unfoldable pub column : ℕ → ℕ → List ℕ
 column w n = replicate (w - length (decimal n)) blank ++ decimal n
 

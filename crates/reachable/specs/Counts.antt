@@ -3,7 +3,8 @@ use mathlib.Core.Path.{_≡_, refl}
 use mathlib.Core.Logic.{_⊎_, inl, inr}
 use mathlib.Core.Bool.{true, _&&_}
 use mathlib.Core.List.{List, [], _∷_}
-use Prim.Native.Nat.{ℕ}
+use mathlib.Core.Option.{Option, none, some}
+use Prim.Native.Nat.{ℕ, _≤_}
 use native.Mathlib.Omega.{arith}
 use lib.ListN.{length}
 use Rattle.lists.specs.Tests.{and-r}
@@ -11,8 +12,12 @@ use Rattle.lists.specs.All.{keep-passes}
 use Rattle.lists.specs.Members.{member-mem, mem-member, all-mem, mem-keep, below-mem, nodup-keep, nodup-below, nodup-sub}
 use Rattle.lists.specs.Search.{keep, below, member}
 use Rattle.rules.specs.Blocks.{isNowhere}
-use Rattle.rules.specs.Figures.{waitingBlocks}
+use Rattle.rules.specs.Figures.{waitingBlocks, jobsFor}
+use Rattle.rules.specs.Laws.Figures.{front-counts}
+use Rattle.rules.specs.Rebuild.{doRebuild}
 use Rattle.rules.specs.State.{State}
+use Rattle.rules.specs.Turn.{Step, idle, noDummy, readForRequest, readForJob, rebuild, writeNext, decide, markRead, send, doStep}
+use Rattle.reachable.specs.Decided.{Decided, decided}
 use Rattle.reachable.specs.Invariant.{Reached}
 
 module _ (s : State) (f : Reached s) where
@@ -39,3 +44,26 @@ module _ (s : State) (f : Reached s) where
       go [] e = absurd (n (f .jobless e))
       go (q ∷ rest) e = (q, (rest, e))
   begun-front (inr n) = let w = f .begun n in (w .0, (w .1, w .2 .0))
+
+-- the partition of the job whose command a step sends
+abbrev pub jobOf : Step → Option ℕ
+jobOf idle = none
+jobOf noDummy = none
+jobOf (readForRequest q ℓ i) = none
+jobOf (readForJob q ℓ i) = some q
+jobOf (rebuild q t) = some q
+jobOf (writeNext q t i) = some q
+
+-- "A job has begun once one of its commands is sent": then it has gone over slots or sent a write, and it counts for its partition
+pub sent-counts : (s : State) (q : ℕ) (js : List ℕ) → jobOf (decide s) ≡ some q
+    → (1 ≤ jobsFor (doStep (decide s) js s) q) × ((doStep (decide s) js s .cursor ≡ 0 → ⊥) ⊎ (doStep (decide s) js s .sent ≡ 0 → ⊥))
+unfolding doStep markRead send doRebuild
+sent-counts s q js = go (decide s) (decided s)
+  where
+    go : (x : Step) → Decided s x → jobOf x ≡ some q → (1 ≤ jobsFor (doStep x js s) q) × ((doStep x js s .cursor ≡ 0 → ⊥) ⊎ (doStep x js s .sent ≡ 0 → ⊥))
+    go idle d e = absurd (let z : _≡_ {A = ℕ} 0 1 = cc in omega arith)
+    go noDummy d e = absurd (let z : _≡_ {A = ℕ} 0 1 = cc in omega arith)
+    go (readForRequest p ℓ i) d e = absurd (let z : _≡_ {A = ℕ} 0 1 = cc in omega arith)
+    go (readForJob p ℓ i) d e = let z : p ≡ q = cc in (rw (← z) (front-counts (doStep (readForJob p ℓ i) js s) p (d .rest) (d .front)), inl (λ n. omega arith))
+    go (rebuild p t) d e = let z : p ≡ q = cc in (rw (← z) (front-counts (doStep (rebuild p t) js s) p (d .rest) (d .front)), inr (λ n. omega arith))
+    go (writeNext p t i) d e = let z : p ≡ q = cc in (rw (← z) (front-counts (doStep (writeNext p t i) js s) p (d .rest) (d .front)), inr (λ n. omega arith))

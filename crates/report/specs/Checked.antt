@@ -9,7 +9,7 @@ use Rattle.rules.specs.Unfold.{model, shape}
 use Rattle.rules.specs.Checked.Worked.{worked-calls}
 use Rattle.printing.specs.Text.{digitOf, digitsOf, decimal}
 use Rattle.printing.specs.Columns.{column, columns, partitionLine, lastLine}
-use Rattle.report.specs.Page.{lines, page}
+use Rattle.report.specs.Page.{partitionLines, page}
 
 -- Document 01's worked session at its end: the block was collected last, so it waits, and the jobs of that request are queued. Two jobs have finished,
 -- from counter 0 and from a full one, which falls to 1
@@ -19,7 +19,7 @@ use Rattle.report.specs.Page.{lines, page}
 pub worked-page : page (after closed worked-calls) ≡
     (32 ∷ 32 ∷ 32 ∷ 48 ∷ 32 ∷ 32 ∷ 32 ∷ 32 ∷ 32 ∷ 49 ∷ 32 ∷ 32 ∷ 32 ∷ 32 ∷ 32 ∷ 48 ∷ 32 ∷ 32 ∷ 32 ∷ 32 ∷ 32 ∷ 49 ∷ 32 ∷ 32 ∷ 32 ∷ 32 ∷ 32 ∷ 50 ∷ 10
     ∷ 97 ∷ 108 ∷ 108 ∷ 32 ∷ 32 ∷ 32 ∷ 32 ∷ 32 ∷ 32 ∷ 48 ∷ 32 ∷ 32 ∷ 32 ∷ 32 ∷ 32 ∷ 48 ∷ 32 ∷ 32 ∷ 32 ∷ 32 ∷ 32 ∷ 49 ∷ 32 ∷ 32 ∷ 32 ∷ 32 ∷ 32 ∷ 32 ∷ 10 ∷ [])
-unfolding model worked-calls digitOf digitsOf decimal column columns partitionLine lastLine lines page
+unfolding model worked-calls digitOf digitsOf decimal column columns partitionLine lastLine partitionLines page
 worked-page = refl
 
 -- After its fourth call, the turn that draws the first order: the block has its new place, and the job has begun. It counts as queued, with the one behind it
@@ -29,7 +29,7 @@ worked-page = refl
 pub begun-page : page (after closed (take 4 worked-calls)) ≡
     (32 ∷ 32 ∷ 32 ∷ 48 ∷ 32 ∷ 32 ∷ 32 ∷ 32 ∷ 32 ∷ 48 ∷ 32 ∷ 32 ∷ 32 ∷ 32 ∷ 32 ∷ 49 ∷ 32 ∷ 32 ∷ 32 ∷ 32 ∷ 32 ∷ 48 ∷ 32 ∷ 32 ∷ 32 ∷ 32 ∷ 32 ∷ 50 ∷ 10
     ∷ 97 ∷ 108 ∷ 108 ∷ 32 ∷ 32 ∷ 32 ∷ 32 ∷ 32 ∷ 32 ∷ 48 ∷ 32 ∷ 32 ∷ 32 ∷ 32 ∷ 32 ∷ 49 ∷ 32 ∷ 32 ∷ 32 ∷ 32 ∷ 32 ∷ 48 ∷ 32 ∷ 32 ∷ 32 ∷ 32 ∷ 32 ∷ 32 ∷ 10 ∷ [])
-unfolding model worked-calls digitOf digitsOf decimal column columns partitionLine lastLine lines page
+unfolding model worked-calls digitOf digitsOf decimal column columns partitionLine lastLine partitionLines page
 begun-page = refl
 
 -- A state written by hand: 7 blocks, of which 0 and 3 are in levels, 2, 4 and 6 wait and 1 and 5 are nowhere; even blocks are in partition 0, odd ones in
@@ -72,5 +72,5 @@ by-hand : page byHand ≡
     (32 ∷ 32 ∷ 32 ∷ 48 ∷ 32 ∷ 32 ∷ 32 ∷ 32 ∷ 32 ∷ 55 ∷ 32 ∷ 32 ∷ 32 ∷ 32 ∷ 32 ∷ 49 ∷ 32 ∷ 32 ∷ 32 ∷ 32 ∷ 32 ∷ 51 ∷ 32 ∷ 32 ∷ 32 ∷ 32 ∷ 32 ∷ 49 ∷ 10
     ∷ 32 ∷ 32 ∷ 32 ∷ 49 ∷ 32 ∷ 32 ∷ 32 ∷ 50 ∷ 53 ∷ 53 ∷ 32 ∷ 32 ∷ 32 ∷ 32 ∷ 32 ∷ 49 ∷ 32 ∷ 32 ∷ 32 ∷ 32 ∷ 32 ∷ 48 ∷ 32 ∷ 32 ∷ 32 ∷ 32 ∷ 32 ∷ 50 ∷ 10
     ∷ 97 ∷ 108 ∷ 108 ∷ 32 ∷ 32 ∷ 32 ∷ 32 ∷ 32 ∷ 32 ∷ 50 ∷ 32 ∷ 32 ∷ 32 ∷ 32 ∷ 32 ∷ 50 ∷ 32 ∷ 32 ∷ 32 ∷ 32 ∷ 32 ∷ 51 ∷ 32 ∷ 32 ∷ 32 ∷ 32 ∷ 32 ∷ 32 ∷ 10 ∷ [])
-unfolding model byHand placeIn counterOf digitOf digitsOf decimal column columns partitionLine lastLine lines page
+unfolding model byHand placeIn counterOf digitOf digitsOf decimal column columns partitionLine lastLine partitionLines page
 by-hand = refl

@@ -27,7 +27,7 @@ use Rattle.counting.specs.Counts.{mostPartitions, entryAt, Counted}
 use Rattle.printing.specs.Columns.{lineLength, partitionLine, lastLine}
 use Rattle.printing.specs.Widths.{Line28, partition-line, last-line, line-length}
 use Rattle.printing.specs.Written.{Written}
-use Rattle.report.specs.Page.{lines, page, pageRoom, shown, pageQuestions, pageNumber, Shows}
+use Rattle.report.specs.Page.{partitionLines, page, pageRoom, shown, pageQuestions, pageNumber, Shows}
 
 module _ (s : State) where
   in-le : (q : ℕ) (bs : List ℕ) → inPartition s q bs ≤ length bs
@@ -76,14 +76,14 @@ module _ (s : State) (f : InRange s) where
   unfolding allFigures
   end-line = last-line _ _ _
 
-  pub lines-length : (n : ℕ) → n ≤ s .shape .P → length (lines s n) ≡ lineLength * n
-  unfolding lines
+  pub lines-length : (n : ℕ) → n ≤ s .shape .P → length (partitionLines s n) ≡ lineLength * n
+  unfolding partitionLines
   lines-length zero h = refl
-  lines-length (suc q) h = length-append (lines s q) (partitionLine q (figures s q)) ∙ omega (arith, lines-length q (omega arith), line-length _ (each-line q (omega arith)))
+  lines-length (suc q) h = length-append (partitionLines s q) (partitionLine q (figures s q)) ∙ omega (arith, lines-length q (omega arith), line-length _ (each-line q (omega arith)))
 
   pub page-length : length (page s) ≡ lineLength * (s .shape .P + 1)
   unfolding page
-  page-length = length-append (lines s (s .shape .P)) (lastLine (allFigures s)) ∙ omega (arith, lines-length (s .shape .P) (omega arith), line-length _ end-line)
+  page-length = length-append (partitionLines s (s .shape .P)) (lastLine (allFigures s)) ∙ omega (arith, lines-length (s .shape .P) (omega arith), line-length _ end-line)
 
 -- by the client's number
 pub client-page-length : (c : Client) (m : List ℕ) → InRange (stateOf c m) → length (page (stateOf c m)) ≡ lineLength * (c .shape .p + 1)

@@ -12,12 +12,12 @@ use Rattle.rules.specs.Questions.{ready, firstNo}
 use Rattle.printing.specs.Columns.{partitionLine, lastLine}
 
 -- "One line per partition, 0 upward": those of the first n
-unfoldable pub lines : State → ℕ → List ℕ
-lines s zero = []
-lines s (suc q) = lines s q ++ partitionLine q (figures s q)
+unfoldable pub partitionLines : State → ℕ → List ℕ
+partitionLines s zero = []
+partitionLines s (suc q) = partitionLines s q ++ partitionLine q (figures s q)
 
 unfoldable pub page : State → List ℕ
-page s = lines s (s .shape .P) ++ lastLine (allFigures s)
+page s = partitionLines s (s .shape .P) ++ lastLine (allFigures s)
 
 -- no page is longer: 65 lines (`page-le`)
 abbrev pub pageRoom : ℕ

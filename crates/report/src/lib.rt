@@ -16,7 +16,7 @@ ghost use Rattle.ready.specs.Usable.{Usable};
 ghost use Rattle.counting.specs.Counts.{mostPartitions, entryAt, Counted};
 ghost use Rattle.printing.specs.Columns.{lineLength, lastLine};
 ghost use Rattle.printing.specs.Written.{Written};
-ghost use Rattle.report.specs.Page.{lines as linesOf, page as pageOf, Shows};
+ghost use Rattle.report.specs.Page.{partitionLines as linesOf, page as pageOf, Shows};
 
 // The number, and how many bytes the page has; none if it is refused.
 pub struct Shown {

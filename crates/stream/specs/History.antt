@@ -51,7 +51,7 @@ pub record History (host past : List ℕ) (s : State) (chunk line : List ℕ) (b
   -- all that they print has left, but for what the output's buffer holds
   pub text : Holds (printed host past) (b .out) (s .output)
   -- the session that they leave is the one that is kept
-  pub leaves : left host (cut [] past) ≡ keptIn s b
+  pub session : left host (cut [] past) ≡ keptIn s b
   -- until the session ends, the rest of the input gives what the session that is kept gives for it; the line that has begun is in its buffer
   pub goes : s .done ≡ false → Follows host past (coming (s .first) (keptIn s b)) (take (s .len) line)
   -- after its end, what was read and is not taken prints nothing, and leaves the session as it is
@@ -81,8 +81,9 @@ pub record Turned (s : State) (chunk line : List ℕ) (b : Buffers) (r : State) 
 
 -- ---- The end
 
--- What is there when a session was followed to its end: of all that some input prints the first bytes have left, and the others are what the output's buffer
--- holds; the state that the client and the memory stand for is the one that the input leaves; and the output is silent or not
+-- What is there when a session was followed (that it has come to its end is the code of `follow`): of all that some input prints the first bytes have left, and
+-- the others are what the output's buffer holds; the state that the client and the memory stand for is the one that the input leaves; and the output is silent
+-- or not
 pub record Followed (host : List ℕ) (quiet : Bool) (r : State) (memory out : List ℕ) : Type 0 where
   pub input : List ℕ
   pub text : Holds (printed host input) out (r .output)

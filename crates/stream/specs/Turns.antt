@@ -91,7 +91,7 @@ module _ (host past : List ℕ) (s : State) (chunk line : List ℕ) (b : Buffers
     unfolding p
     whole-history = rw with-newline (record {
       text = rw (ap (λ (x : S.Given). x .1) now) (d .holds (printed host past) (h .text));
-      leaves = ap (λ (x : S.Given). x .0) now;
+      session = ap (λ (x : S.Given). x .0) now;
       goes = λ z more. next more ∙ ap (λ t. behindText (printed host (past ++ (p ++ (10 ∷ [])))) (until t (keptIn r e) (cut [] more))) z ∙ (λ j. behindText (printed host (past ++ (p ++ (10 ∷ [])))) (coming (sym first j) (keptIn r e) (cut (take (sym len j) line″) more)));
       over = λ z. nothing-follows host (past ++ (p ++ (10 ∷ []))) [] (until (r .done) (keptIn r e)) next (waiting r chunk′) (ended z (cut [] (waiting r chunk′)));
     })
@@ -116,7 +116,7 @@ module _ (host past : List ℕ) (s : State) (chunk line : List ℕ) (b : Buffers
     pub part-history : History host (past ++ waiting s chunk) r chunk′ line′ (buffers (b .tape) (b .memory) (b .host) out′)
     part-history = record {
       text = rw (ap (λ (x : S.Given). x .1) now) (holds-none (printed host past) (b .out) out′ (s .output) (r .output) (h .text) (omega (arith, f .at, f .gone)) (f .at));
-      leaves = ap (λ (x : S.Given). x .0) now ∙ h .leaves ∙ keptNow;
+      session = ap (λ (x : S.Given). x .0) now ∙ h .session ∙ keptNow;
       goes = λ z more. next more ∙ (λ i. behindText (printed host (past ++ waiting s chunk)) (coming (sym (f .first) i) (keptNow i) (cut (sym text i) more)));
       over = λ z. ap (λ l. given host ((past ++ waiting s chunk) ++ l)) (nothing z) ∙ ap (given host) (append-nil (past ++ waiting s chunk));
     }
@@ -144,7 +144,7 @@ module _ (host past : List ℕ) (s : State) (chunk line : List ℕ) (b : Buffers
     pub long-history : History host (past ++ []) (withDone s) chunk line′ b
     long-history = record {
       text = rw (append-nil past) (h .text);
-      leaves = rw (append-nil past) (h .leaves);
+      session = rw (append-nil past) (h .session);
       goes = λ z. absurd (true≢false z);
       over = λ z. rw (append-nil past) (nothing-follows host past (take (s .len) line) (coming (s .first) (keptIn s b)) (h .goes going) (waiting s chunk) nothing);
     }
@@ -206,7 +206,7 @@ pub history-start : (s : State) (chunk line : List ℕ) (b : Buffers) → s .ses
 unfolding printed cut session left
 history-start s chunk line b new tape going first len at gone = record {
   text = record { all = omega arith; rest = ap (λ n. drop n []) gone ∙ ap (λ n. take n (b .out)) (sym at) };
-  leaves = sym ((λ i. kept (new i) (b .memory) (take (tape i) (b .tape)) (b .host)) ∙ fresh-kept (b .memory) [] (b .host) ∙ ap (begun (b .host)) no-words);
+  session = sym ((λ i. kept (new i) (b .memory) (take (tape i) (b .tape)) (b .host)) ∙ fresh-kept (b .memory) [] (b .host) ∙ ap (begun (b .host)) no-words);
   goes = λ z more. (λ i. coming (sym first i) (keptIn s b) (cut (take (sym len i) line) more));
   over = λ z. absurd (true≢false (sym z ∙ going));
 }
@@ -218,7 +218,7 @@ history-due host past s chunk line b h room count = record { room = room; count 
 -- the session that is kept has the state that was left
 pub history-followed : (host past : List ℕ) (s : State) (chunk line : List ℕ) (b : Buffers) (quiet : Bool) → History host past s chunk line b → s .output .silent ≡ quiet → s .output .at ≤ outRoom → total (s .output) ≤ totalMost
     → Followed host quiet s (b .memory) (b .out)
-history-followed host past s chunk line b quiet h silent room count = record { input = past; text = h .text; state = ap (λ (k : S.Session). k .state) (sym (h .leaves)); silent = silent; room = room; count = count }
+history-followed host past s chunk line b quiet h silent room count = record { input = past; text = h .text; state = ap (λ (k : S.Session). k .state) (sym (h .session)); silent = silent; room = room; count = count }
 
 module _ (host : List ℕ) (quiet : Bool) (r : State) (memory out : List ℕ) (f : Followed host quiet r memory out) where
   pub followed-due : Due out (r .output)

@@ -16,10 +16,10 @@ ghost use Prim.Native.Nat.{ℕ, _≤_};
 ghost use lib.ListN.{length, take};
 ghost use Rattle.client.specs.View.{stateOf};
 ghost use Rattle.lines.specs.Said.{said};
-ghost use Rattle.session.specs.Session.{ends as endsOf};
+ghost use Rattle.report.specs.Page.{shown};
+ghost use Rattle.session.specs.Session.{ends as endsOf, memoryRoom};
 ghost use Rattle.stream.specs.Stream.{Ready, Brings, Responds, Begun, Refilled, buffers, lineRoom};
 ghost use Rattle.output.specs.Printed.{Due};
-ghost use Rattle.output.specs.Paged.{Presented};
 ghost use Rattle.stream.specs.History.{Turned, Followed, Prints, Pages, zeros};
 
 // The bytes that a read may bring.
@@ -268,12 +268,11 @@ pub fn run(fd: i32) -> u64
 // needed any more, and it has room for every page.
 fn present(s: State, memory: &[u8; MEMORY], out: &mut [u8; OUT]) -> u64
     requires { ⌜ Followed zeros true s (now memory) (now out) ⌝ }
-    ensures { λ r. ⌜ Presented (stateOf (s .session .client) (now (memory .entry))) r (now (out .exit)) ⌝ }
+    ensures { λ r. ⌜ r ≡ length (shown (stateOf (s .session .client) (now (memory .entry))) memoryRoom) ⌝ }
 {
     let page = report::write(s.session.client, memory, out);
     let n = page.length;
-    let all: &[u8] = out;
-    output::show(&all[..n], s.output)
+    output::show(out, n, s.output)
 }
 
 // The page program: it follows the session, prints none of its answers and at its end the page. Tells how many bytes it handed to the system's write: as many

@@ -11,19 +11,19 @@ use Rattle.client.specs.Readings.{counter-is}
 use Rattle.printing.specs.Columns.{lineLength, partitionLine}
 use Rattle.printing.specs.Widths.{line-length}
 use Rattle.printing.specs.Written.{Written, nothing, followed, same-text}
-use Rattle.report.specs.Page.{lines}
+use Rattle.report.specs.Page.{partitionLines}
 use Rattle.report.specs.Laws.{each-line, line-figures, line-small}
 use Rattle.report.proofs.partitions.Statement.{statement}
 use Rattle.report.proofs.partitions.Tie as tie
 
 abbrev Inv-loop : tie.InvT-loop
-Inv-loop c m table out₀ p at₀ q₀ out at q = (q ≤ p) × (length out ≡ length out₀) × (at ≡ lineLength * q) × Written out₀ 0 (lines (stateOf c m) q) out at
+Inv-loop c m table out₀ p at₀ q₀ out at q = (q ≤ p) × (length out ≡ length out₀) × (at ≡ lineLength * q) × Written out₀ 0 (partitionLines (stateOf c m) q) out at
 
 abbrev μ-loop : tie.MeasureT-loop
 μ-loop c m table out₀ p at₀ q₀ out at q = p - q
 
 loop-holds : tie.Need-loop-holds Inv-loop μ-loop
-unfolding lines
+unfolding partitionLines
 loop-holds c = (omega arith, search needs, omega arith, nothing _ _)
 
 counter-requires : tie.Need-counter-requires Inv-loop μ-loop
@@ -55,7 +55,7 @@ loop-less : tie.Need-loop-less Inv-loop μ-loop
 loop-less c = search needs
 
 loop-again : tie.Need-loop-again Inv-loop μ-loop
-unfolding lines
+unfolding partitionLines
 loop-again c =
     let d = c .before .before .before .before .before .before .before in
     let l = d .before .before .loop in

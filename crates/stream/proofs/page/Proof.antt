@@ -10,7 +10,7 @@ present-requires : tie.Need-present-requires
 present-requires c κs = c .before .before .follow .ensures
 
 returns : tie.Need-returns
-returns c = followed-pages _ _ _ _ _ (c .before .before .before .follow .ensures) _ (c .present .ensures .all)
+returns c = followed-pages _ _ _ _ _ (c .before .before .before .follow .ensures) _ (c .present .ensures)
 
 pub page-spec : {M : Type 1} → statement M
 page-spec = tie.close (tie.spec follow-requires present-requires returns)
