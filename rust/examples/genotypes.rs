@@ -139,11 +139,9 @@ fn show_page(out: &mut impl Write, summary: &Summary) -> io::Result<()> {
         "\nThe page of the store, to be pinned up where the host does not see it: of each\n\
          partition its counter, the fish stored and waiting, and the queued jobs.\n"
     )?;
-    for line in page.lines().take(MOST) {
-        writeln!(out, "  {line}")?;
-    }
-    writeln!(out, "  .. and {} partitions more", partitions - MOST)?;
-    for line in page.lines().skip(partitions) {
+    let cut = format!(".. and {} partitions more", partitions - MOST);
+    let last = page.lines().skip(partitions);
+    for line in page.lines().take(MOST).chain([cut.as_str()]).chain(last) {
         writeln!(out, "  {line}")?;
     }
     let (stored, waiting) = (summary.stored(), summary.waiting());

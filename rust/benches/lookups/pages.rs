@@ -112,11 +112,11 @@ fn plain_state(proved: &Proved, shape: Shape) -> State {
     let table = |first: usize, count: usize| (first..first + count).map(|k| proved.table(k));
     let mut state = State::fresh(shape, Mistake::None, table(192, n).collect());
     state.counter = table(128, shape.partitions).collect();
-    for (place, number) in state.place.iter_mut().zip(table(192 + n, n)) {
-        if number >= 2 {
-            *place = Place::Stored { level: 0, item: 0 };
-        }
-    }
+    let stored = |number| match number {
+        0 | 1 => Place::Nowhere,
+        _ => Place::Stored { level: 0, item: 0 },
+    };
+    state.place = table(192 + n, n).map(stored).collect();
     for (age, block) in table(192 + 2 * n, proved.waiting().into()).enumerate() {
         state.place[block] = Place::Waiting(age as u64);
     }
