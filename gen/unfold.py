@@ -17,7 +17,7 @@ use Prim.Native.Nat.{ℕ}
 '''
 
 TAIL = '''use Rattle.rules.specs.Shape.{Shape}
-use Rattle.rules.specs.State.{Command}
+use Rattle.rules.specs.State.{Command, Found, foundNowhere}
 use Rattle.rules.specs.Questions.{Ask, Call}
 use Rattle.rules.specs.Run.{Outcome}
 
@@ -33,7 +33,10 @@ abbrev pub call : Ask → ℕ → List ℕ → ℕ → Call
 call a m ws n = record { ask = a; memory = m; words = ws; buffer = n }
 
 abbrev pub out : ℕ → ℕ → Command → List ℕ → Outcome
-out n k c bs = record { number = n; taken = k; command = c; bytes = bs }
+out n k c bs = record { number = n; taken = k; command = c; bytes = bs; found = foundNowhere }
+
+abbrev pub outFound : ℕ → ℕ → Command → List ℕ → Found → Outcome
+outFound n k c bs x = record { number = n; taken = k; command = c; bytes = bs; found = x }
 '''
 
 text, names = HEAD, []

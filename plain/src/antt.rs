@@ -2,18 +2,33 @@
 //! outcomes and the theorem that running the calls gives the outcomes.
 
 use crate::calls::{Ask, Call, Outcome};
+use crate::found::Found;
 use crate::state::Command;
 use std::fmt::Display;
 
-pub const HEADER: &str = "\
+/// The lines of a header.
+pub const HEADER_LINES: usize = 7;
+
+/// The lines before the sessions with this text. Of the names for what is
+/// found, it brings in those that the text has.
+pub fn header(sessions: &str) -> String {
+    let used = |names: &[&str]| -> String {
+        let used = names.iter().filter(|name| sessions.contains(**name));
+        used.map(|name| format!(", {name}")).collect()
+    };
+    let (found, out) = (used(&["foundCache", "foundLevel"]), used(&["outFound"]));
+    format!(
+        "\
 -- Random sessions, with the outcomes of an independent implementation. Written by plain/src/bin/sessions.rs.
-use mathlib.Core.Path.{_≡_, refl}
-use mathlib.Core.List.{List, [], _∷_}
-use Rattle.rules.specs.State.{cmd, closed}
-use Rattle.rules.specs.Questions.{opening, request, turn, completion, collect, Call}
-use Rattle.rules.specs.Run.{Outcome, run}
-use Rattle.rules.specs.Unfold.{model, shape, call, out}
-";
+use mathlib.Core.Path.{{_≡_, refl}}
+use mathlib.Core.List.{{List, [], _∷_}}
+use Rattle.rules.specs.State.{{cmd, closed{found}}}
+use Rattle.rules.specs.Questions.{{opening, request, turn, completion, collect, Call}}
+use Rattle.rules.specs.Run.{{Outcome, run}}
+use Rattle.rules.specs.Unfold.{{model, shape, call, out{out}}}
+"
+    )
+}
 
 fn list<T: Display>(items: &[T]) -> String {
     if items.is_empty() {
@@ -57,13 +72,13 @@ fn call(call: &Call) -> String {
 }
 
 fn outcome(o: &Outcome) -> String {
-    let bytes = list(&o.bytes);
-    format!(
-        "out {} {} {} {bytes}",
-        o.number,
-        o.taken,
-        command(&o.command)
-    )
+    let (command, bytes) = (command(&o.command), list(&o.bytes));
+    let all = format!("{} {} {command} {bytes}", o.number, o.taken);
+    match o.found {
+        Found::Nowhere => format!("out {all}"),
+        Found::Cache => format!("outFound {all} foundCache"),
+        Found::Level(level) => format!("outFound {all} (foundLevel {level})"),
+    }
 }
 
 fn definition(name: &str, kind: &str, lines: Vec<String>) -> String {

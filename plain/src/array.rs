@@ -1,13 +1,15 @@
 //! The plain array: a store behaves, request by request, like an array of
 //! blocks. Random calls are made against an honest host that completes the
-//! outstanding commands in random order.
+//! outstanding commands in random order. Where a block was found is compared
+//! with what the tables of the levels have.
 
 use crate::calls::{Ask, Call, Outcome, Store};
+use crate::found::Found;
 use crate::host::Host;
 use crate::mistakes::Mistake;
 use crate::rng::Rng;
 use crate::shape::Shape;
-use crate::state::{READ, WRITE};
+use crate::state::{READ, State, WRITE};
 
 struct Check {
     shape: Shape,
@@ -17,6 +19,8 @@ struct Check {
     array: Vec<Vec<u8>>,
     /// The kind, block and contents of the request in hand.
     request: Option<(usize, usize, Vec<u8>)>,
+    /// Where its block was when no job for its partition was left.
+    found: Option<Found>,
     /// How often each number was answered.
     numbers: [usize; 16],
     collected: usize,
@@ -37,18 +41,33 @@ pub fn check(
         host: Host::default(),
         array: vec![vec![0; shape.bytes]; shape.blocks],
         request: None,
+        found: None,
         numbers: [0; 16],
         collected: 0,
     };
-    check.make(Ask::Open(shape), shape.blocks);
+    check.make(Ask::Open(shape), shape.blocks)?;
     for place in 0..calls {
         check.random_call().map_err(|e| format!("{e} at {place}"))?;
     }
     Ok((check.numbers, check.collected))
 }
 
+/// Where a block is by the tables of its partition's levels.
+fn found(state: &State, block: usize) -> Found {
+    let levels = &state.levels[state.partition[block]];
+    let level = levels
+        .iter()
+        .position(|l| l.block_at.contains(&Some(block)));
+    match level {
+        Some(level) => Found::Level(level),
+        None if state.is_waiting(block) => Found::Cache,
+        None => Found::Nowhere,
+    }
+}
+
 impl Check {
-    fn make(&mut self, ask: Ask, words: usize) -> Outcome {
+    /// Only an accepted collect tells where a block was found.
+    fn make(&mut self, ask: Ask, words: usize) -> Result<Outcome, String> {
         let call = Call {
             ask,
             memory: self.shape.needed(),
@@ -57,16 +76,21 @@ impl Check {
         };
         let outcome = self.store.call(&call);
         self.numbers[usize::from(outcome.number)] += 1;
-        outcome
+        let tells = outcome.number == 0 && call.ask == Ask::Collect;
+        if !tells && outcome.found != Found::Nowhere {
+            return Err(format!("{:?} is told", outcome.found));
+        }
+        Ok(outcome)
     }
 
     fn random_call(&mut self) -> Result<(), String> {
         let number = match self.rng.below(9) {
-            0 => self.request(),
+            0 => self.request()?,
             1 => self.collect()?,
-            2..=4 if !self.host.pending.is_empty() => self.complete(),
-            _ => self.turn(),
+            2..=4 if !self.host.pending.is_empty() => self.complete()?,
+            _ => self.turn()?,
         };
+        self.watch();
         match number {
             2 | 3 | 11 | 12 => Err(format!("answered {number}")),
             8 if self.shape.places == self.shape.blocks => Err("answered 8 with E = N".into()),
@@ -74,7 +98,18 @@ impl Check {
         }
     }
 
-    fn request(&mut self) -> u8 {
+    /// Notes where the block in hand is, once no job for its partition is
+    /// queued.
+    fn watch(&mut self) {
+        let (Some(state), Some((_, block, _))) = (&self.store.state, &self.request) else {
+            return;
+        };
+        if self.found.is_none() && !state.queue.contains(&state.partition[*block]) {
+            self.found = Some(found(state, *block));
+        }
+    }
+
+    fn request(&mut self) -> Result<u8, String> {
         let block = self.rng.below(self.shape.blocks);
         let writes = self.rng.chance(50);
         let (kind, length) = if writes {
@@ -88,39 +123,42 @@ impl Check {
             block,
             contents: contents.clone(),
         };
-        let outcome = self.make(ask, 2);
+        let outcome = self.make(ask, 2)?;
         if outcome.number == 0 {
             self.request = Some((kind, block, contents));
         }
-        outcome.number
+        Ok(outcome.number)
     }
 
-    fn turn(&mut self) -> u8 {
-        let outcome = self.make(Ask::Turn, (1 << self.shape.levels) - 1);
+    fn turn(&mut self) -> Result<u8, String> {
+        let outcome = self.make(Ask::Turn, (1 << self.shape.levels) - 1)?;
         if outcome.number == 0 {
             self.host.send(outcome.command, outcome.bytes);
         }
-        outcome.number
+        Ok(outcome.number)
     }
 
-    fn complete(&mut self) -> u8 {
+    fn complete(&mut self) -> Result<u8, String> {
         let index = self.rng.below(self.host.pending.len());
         let (command, bytes) = self.host.answer(index);
-        let number = self.make(Ask::Completion { command, bytes }, 0).number;
+        let number = self.make(Ask::Completion { command, bytes }, 0)?.number;
         if number == 0 {
             self.host.done(command);
         }
-        number
+        Ok(number)
     }
 
     fn collect(&mut self) -> Result<u8, String> {
-        let outcome = self.make(Ask::Collect, 0);
+        let outcome = self.make(Ask::Collect, 0)?;
         if outcome.number != 0 {
             return Ok(outcome.number);
         }
         let (kind, block, contents) = self.request.take().ok_or("collected nothing")?;
         if outcome.bytes != self.array[block] {
             return Err(format!("block {block} differs from the array"));
+        }
+        if Some(outcome.found) != self.found.take() {
+            return Err(format!("block {block} was not {:?}", outcome.found));
         }
         if kind == WRITE {
             self.array[block] = contents;

@@ -1,5 +1,6 @@
 //! The five calls, their questions and their outcomes.
 
+use crate::found::Found;
 use crate::mistakes::Mistake;
 use crate::shape::Shape;
 use crate::state::{Command, Place, READ, Request, State, Step, WRITE};
@@ -30,14 +31,16 @@ pub struct Call {
     pub buffer: usize,
 }
 
-/// The number answered, the words taken, a turn's command and the bytes put
-/// in the lent buffer. The default is that of an accepted completion.
+/// The number answered, the words taken, a turn's command, the bytes put in
+/// the lent buffer and where a collected block was found. The default is that
+/// of an accepted completion.
 #[derive(Clone, Debug, Default, PartialEq, Eq)]
 pub struct Outcome {
     pub number: u8,
     pub taken: usize,
     pub command: Command,
     pub bytes: Vec<u8>,
+    pub found: Found,
 }
 
 impl Outcome {
@@ -123,7 +126,15 @@ impl Store {
             Some(state) if call.memory >= state.shape.needed() => state.call(call, &mut draws),
             _ => Err(2),
         };
-        answer.unwrap_or_else(Outcome::refused)
+        answer.unwrap_or_else(|number| self.refuse(&call.ask, number))
+    }
+
+    fn refuse(&self, ask: &Ask, number: u8) -> Outcome {
+        let mut outcome = Outcome::refused(number);
+        if let (Ask::Collect, Some(state)) = (ask, &self.state) {
+            outcome.found = state.found_at_refusal();
+        }
+        outcome
     }
 
     /// Whether this call may draw; if not, it has only one way to go on.
@@ -159,8 +170,9 @@ impl State {
             } => self.ask_for(*kind, *block, contents, draws)?,
             Ask::Turn => (outcome.command, outcome.bytes) = self.turn(call.buffer, draws)?,
             Ask::Completion { command, bytes } => self.complete(*command, bytes)?,
-            Ask::Collect => outcome.bytes = self.collect(call.buffer)?,
+            Ask::Collect => (outcome.bytes, outcome.found) = self.collect(call.buffer)?,
         }
+        self.release();
         outcome.taken = draws.taken();
         if self.mistake == Mistake::WordsInvented && matches!(call.ask, Ask::Request { .. }) {
             outcome.taken = 3;
@@ -191,6 +203,8 @@ impl State {
             next: draws.below(self.shape.partitions),
             evict: self.draw_eviction(draws),
             level: 0,
+            found: None,
+            at_acceptance: self.look_up(block),
         });
         Ok(())
     }
@@ -229,10 +243,11 @@ impl State {
         Ok(())
     }
 
-    /// The contents before the request.
-    fn collect(&mut self, buffer: usize) -> Result<Vec<u8>, u8> {
+    /// The contents before the request, and where its block was found.
+    fn collect(&mut self, buffer: usize) -> Result<(Vec<u8>, Found), u8> {
         let request = self.request.as_ref().ok_or(13)?;
         ask(self.finished(request), 14)?;
+        let found = request.found.ok_or(14)?;
         ask(buffer == self.shape.bytes, 15)?;
         let request = self.request.take().ok_or(13)?;
         let before = self.contents[request.block].clone();
@@ -241,11 +256,12 @@ impl State {
         }
         let after = self.contents[request.block].clone();
         self.enter_cache(&request);
-        Ok(match self.mistake {
+        let bytes = match self.mistake {
             Mistake::ZerosForever => vec![0; self.shape.bytes],
             Mistake::NewContentsHandedOut => after,
             _ => before,
-        })
+        };
+        Ok((bytes, self.found_at_collect(request.block, found)))
     }
 
     /// Moves the block to the young end of the cache under its next partition

@@ -1,12 +1,14 @@
 //! A plain implementation of document 01's block store and of document 02's
-//! page on its state. It is written from these documents alone and made to be
-//! read, so that other implementations and definitions can be compared with it.
-//! Beside it is a fast implementation of the same rules, for benchmarks.
+//! page on its state (P1) and where a block was found (P2). It is written from
+//! these documents alone and made to be read, so that other implementations
+//! and definitions can be compared with it. Beside it is a fast implementation
+//! of the same rules, for benchmarks.
 
 pub mod antt;
 pub mod array;
 pub mod calls;
 pub mod fast;
+pub mod found;
 pub mod host;
 pub mod lists;
 pub mod lookups;

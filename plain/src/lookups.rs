@@ -21,7 +21,7 @@ pub trait Client: Sized {
     fn request(&mut self, kind: u8, block: usize, contents: &[u8], words: &[u16]) -> Answer;
     fn turn(&mut self, words: &[u16], buffer: &mut [u8]) -> Answer;
     fn completion(&mut self, command: Command, bytes: &[u8]) -> u8;
-    fn collect(&mut self, answer: &mut [u8]) -> u8;
+    fn collect(&mut self, answer: &mut [u8]) -> Answer;
 }
 
 impl Client for Store {
@@ -46,7 +46,7 @@ impl Client for Store {
     }
 
     #[inline]
-    fn collect(&mut self, answer: &mut [u8]) -> u8 {
+    fn collect(&mut self, answer: &mut [u8]) -> Answer {
         self.collect(answer)
     }
 }
@@ -151,6 +151,8 @@ pub struct Tape {
 /// The words made at a time and the most that one call is lent.
 const TAPE: usize = 1 << 12;
 const LENT: usize = 255;
+/// The places that an answer tells: nowhere, the cache and eight levels.
+const PLACES: usize = 10;
 
 impl Tape {
     pub fn new(seed: u64) -> Tape {
@@ -200,6 +202,8 @@ pub struct LookUps<C, H> {
     contents: Bytes,
     answer: Bytes,
     pub commands: u64,
+    /// How often a block was found nowhere, in the cache, and in each level.
+    pub found: [u64; PLACES],
 }
 
 /// Look-ups with the time that each so many of them took.
@@ -242,6 +246,7 @@ impl<C: Client, H: Host> LookUps<C, H> {
             contents: Bytes::new(1, shape.bytes),
             answer: Bytes::new(1, shape.bytes),
             commands: 0,
+            found: [0; PLACES],
         })
     }
 
@@ -256,7 +261,9 @@ impl<C: Client, H: Host> LookUps<C, H> {
         self.tape.take(answer.taken);
         accepted(answer.number)?;
         self.run()?;
-        accepted(self.client.collect(self.answer.at(0)))?;
+        let answer = self.client.collect(self.answer.at(0));
+        accepted(answer.number)?;
+        self.found[usize::from(answer.found)] += 1;
         self.run()
     }
 

@@ -43,10 +43,18 @@ pub enum Mistake {
     ZerosForever,
     /// A full partition takes a waiting block nevertheless.
     FullPartitionTakesBlock,
+    /// A held request tells where its block was at acceptance.
+    FoundAtAcceptance,
+    /// The block is looked up after the collect has put it in the cache.
+    FoundAfterCollect,
+    /// A refused collect tells where the block in hand was found.
+    RefusalTells,
+    /// A request is looked up at acceptance in any case, and so is not held.
+    ReleasedAtOnce,
 }
 
 impl Mistake {
-    pub const ALL: [Mistake; 18] = [
+    pub const ALL: [Mistake; 22] = [
         Mistake::LowestDummySlot,
         Mistake::WaitingSendsNothing,
         Mistake::FinishedEarly,
@@ -65,5 +73,25 @@ impl Mistake {
         Mistake::NewContentsHandedOut,
         Mistake::ZerosForever,
         Mistake::FullPartitionTakesBlock,
+        Mistake::FoundAtAcceptance,
+        Mistake::FoundAfterCollect,
+        Mistake::RefusalTells,
+        Mistake::ReleasedAtOnce,
+    ];
+
+    /// Those in where a block is found, and when (document 02, P2).
+    pub const FOUND: [Mistake; 4] = [
+        Mistake::FoundAtAcceptance,
+        Mistake::FoundAfterCollect,
+        Mistake::RefusalTells,
+        Mistake::ReleasedAtOnce,
+    ];
+
+    /// Those of which only what a collect tells is wrong. A session doesn't
+    /// print it, and the host is not told.
+    pub const UNPRINTED: [Mistake; 3] = [
+        Mistake::FoundAtAcceptance,
+        Mistake::FoundAfterCollect,
+        Mistake::RefusalTells,
     ];
 }

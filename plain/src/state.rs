@@ -1,6 +1,7 @@
 //! The client's state: position map, eviction cache, partitions with their
 //! levels, the queue of rebuild jobs and the request in hand.
 
+use crate::found::Found;
 use crate::mistakes::Mistake;
 use crate::shape::Shape;
 use std::collections::VecDeque;
@@ -80,6 +81,18 @@ pub struct Request {
     pub evict: usize,
     /// Levels below this one need no further read.
     pub level: usize,
+    /// Where the block was found; none while the request is held.
+    pub found: Option<Found>,
+    /// Where the block was when the request was accepted; only a mistake
+    /// looks at this.
+    pub at_acceptance: Found,
+}
+
+impl Request {
+    /// It is held until its block's place is looked up, and not again after.
+    pub fn is_held(&self) -> bool {
+        self.found.is_none()
+    }
 }
 
 #[derive(Clone, Debug)]
@@ -169,7 +182,7 @@ impl State {
         let request = self.request.as_ref()?;
         let p = self.partition[request.block];
         let skips = self.mistake == Mistake::WaitingSendsNothing && self.is_waiting(request.block);
-        if self.queue.contains(&p) || skips {
+        if request.is_held() || skips {
             return None;
         }
         (request.level..self.shape.levels).find(|level| self.filled(p, *level))
@@ -178,10 +191,10 @@ impl State {
     /// Not held, and all reads sent and completed. While the request isn't
     /// held no job touches p, so what is outstanding there is the request's.
     pub fn finished(&self, request: &Request) -> bool {
-        let p = self.partition[request.block];
-        if self.queue.contains(&p) {
+        if request.is_held() {
             return false;
         }
+        let p = self.partition[request.block];
         if self.mistake == Mistake::FinishedEarly
             && let Place::Stored { level, item } = self.place[request.block]
         {

@@ -90,10 +90,12 @@ fn cases_print_every_number() {
     assert_eq!(numbers, [0, 1, 2, 3, 4, 5, 6, 7, 8, 10, 13, 14]);
 }
 
+/// What a collect tells beside the contents is not printed.
 #[test]
 fn cases_tell_every_mistake() {
     let cases = cases();
-    for mistake in Mistake::ALL {
+    let printed_ones = |mistake: &Mistake| !Mistake::UNPRINTED.contains(mistake);
+    for mistake in Mistake::ALL.into_iter().filter(printed_ones) {
         let tells = |case: &Case| {
             let input = case.input.clone();
             let output = catch_unwind(move || printed(&input, mistake));

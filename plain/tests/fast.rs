@@ -1,8 +1,10 @@
 //! The fast store and the model make the same random calls: the numbers, the
-//! words taken, the commands and the bytes in the lent buffers are equal.
+//! words taken, the commands, the bytes in the lent buffers and where blocks
+//! were found are equal.
 
 use plain::calls::{Ask, Call, Outcome, Store as Model};
 use plain::fast::{self, Answer, Store};
+use plain::found::Found;
 use plain::host::Host;
 use plain::mistakes::Mistake;
 use plain::rng::Rng;
@@ -24,6 +26,12 @@ struct Pair {
     most_jobs: usize,
     full: usize,
     wraps: usize,
+    /// Where the block in hand was at acceptance, how often a block was found
+    /// nowhere, in the cache and in each level, and how often elsewhere than
+    /// at acceptance.
+    accepted: Found,
+    found: [usize; 10],
+    moved: usize,
 }
 
 fn narrow(command: Command) -> fast::Command {
@@ -59,6 +67,9 @@ impl Pair {
             most_jobs: 0,
             full: 0,
             wraps: 0,
+            accepted: Found::Nowhere,
+            found: [0; 10],
+            moved: 0,
         }
     }
 
@@ -72,13 +83,13 @@ impl Pair {
         let mut bytes = self.rng.bytes(buffer);
         let mut after = bytes.clone();
         let answer = self.call_fast(&ask, &words, &mut bytes);
-        let memory = self.shape.needed();
-        let outcome = self.model.call(&Call {
+        let call = Call {
             ask,
-            memory,
+            memory: self.shape.needed(),
             words,
             buffer,
-        });
+        };
+        let outcome = self.model.call(&call);
         if !outcome.bytes.is_empty() {
             after.copy_from_slice(&outcome.bytes);
         }
@@ -86,9 +97,24 @@ impl Pair {
         assert_eq!(answer.number, outcome.number);
         assert_eq!(usize::from(answer.taken), outcome.taken);
         assert_eq!(answer.command, narrow(outcome.command));
+        assert_eq!(usize::from(answer.found), outcome.found.number());
+        if outcome.number == 0 {
+            self.count_found(&call.ask, outcome.found);
+        }
         self.numbers[usize::from(outcome.number)] += 1;
         self.most_jobs = self.most_jobs.max(self.state().queue.len());
         outcome
+    }
+
+    fn count_found(&mut self, ask: &Ask, found: Found) {
+        match ask {
+            Ask::Request { block, .. } => self.accepted = self.state().look_up(*block),
+            Ask::Collect => {
+                self.found[found.number()] += 1;
+                self.moved += usize::from(found != self.accepted);
+            }
+            _ => {}
+        }
     }
 
     fn call_fast(&mut self, ask: &Ask, words: &[u16], buffer: &mut [u8]) -> Answer {
@@ -101,7 +127,7 @@ impl Pair {
             } => return self.fast.request(*kind as u8, *block, contents, words),
             Ask::Turn => return self.fast.turn(words, buffer),
             Ask::Completion { command, bytes } => self.fast.completion(narrow(*command), bytes),
-            Ask::Collect => self.fast.collect(buffer),
+            Ask::Collect => return self.fast.collect(buffer),
         };
         Answer {
             number,
@@ -276,6 +302,7 @@ const PLANS: [(Shape, usize); 14] = [
 fn random_calls_answer_as_the_model_does() {
     let mut numbers = [0; 16];
     let (mut most_jobs, mut full, mut wraps, mut calls) = (0, 0, 0, 0);
+    let (mut found, mut moved) = ([0; 10], 0);
     for (seed, (shape, steps)) in PLANS.iter().enumerate() {
         let mut pair = Pair::open(*shape, seed as u64);
         for _ in 0..*steps {
@@ -285,16 +312,22 @@ fn random_calls_answer_as_the_model_does() {
         most_jobs = most_jobs.max(pair.most_jobs);
         full += pair.full;
         wraps += pair.wraps;
+        moved += pair.moved;
         for (all, number) in numbers.iter_mut().zip(pair.numbers) {
             *all += number;
         }
+        for (all, times) in found.iter_mut().zip(pair.found) {
+            *all += times;
+        }
     }
     println!("{calls} calls, {numbers:?}, {full} full, {wraps} wraps");
+    println!("found {found:?}, {moved} moved");
     assert!(calls > 200_000);
     for number in (0..16).filter(|n| *n != 1) {
         assert!(numbers[number] > 100, "{number} is answered too rarely");
     }
     assert!(most_jobs == 64 && full > 100 && wraps > 100);
+    assert!(found.iter().all(|times| *times > 50) && moved > 100);
 }
 
 #[test]

@@ -50,6 +50,7 @@ impl Slow {
         }
         Answer {
             number: outcome.number,
+            found: outcome.found.number() as u8,
             taken: outcome.taken as u16,
             command: Command {
                 kind: outcome.command.kind as u8,
@@ -98,8 +99,8 @@ impl Client for Slow {
         self.call(ask, &[], &mut []).number
     }
 
-    fn collect(&mut self, answer: &mut [u8]) -> u8 {
-        self.call(Ask::Collect, &[], answer).number
+    fn collect(&mut self, answer: &mut [u8]) -> Answer {
+        self.call(Ask::Collect, &[], answer)
     }
 }
 
@@ -119,6 +120,12 @@ fn the_model_goes_through_the_same_loop() {
         assert_eq!(commands, blank.measure(look_ups).expect("accepts").commands);
     }
     assert!(slow.commands > 5000);
+    assert_eq!((slow.found, slow.found), (fast.found, blank.found));
+    assert!(
+        slow.found[..2 + SHAPE.levels]
+            .iter()
+            .all(|times| *times > 0)
+    );
 }
 
 #[test]

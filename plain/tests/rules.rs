@@ -2,6 +2,7 @@
 //! changes, and the bound of the memory needed.
 
 use plain::calls::{Ask, Store};
+use plain::found::Found;
 use plain::mistakes::Mistake;
 use plain::script::{Script, replay};
 use plain::shape::Shape;
@@ -19,6 +20,7 @@ fn refusals_leave_the_state() {
                 assert_eq!(format!("{:?}", store.state), before);
                 assert_eq!((outcome.taken, outcome.command), (0, Command::default()));
                 assert!(outcome.bytes.is_empty());
+                assert_eq!(outcome.found, Found::Nowhere);
             }
         }
     }

@@ -1,19 +1,17 @@
 //! Document 01's worked session and edges, some refusals, and the comparison
 //! with a plain array.
 
+#[path = "common/run.rs"]
+mod run;
+
 use plain::array;
-use plain::calls::{Ask, Call, Draws, Outcome, Store};
-use plain::host::Host;
+use plain::calls::{Ask, Call, Draws, Store};
+use plain::found::Found;
 use plain::mistakes::Mistake;
 use plain::shape::Shape;
-use plain::state::{Command, READ, WRITE};
+use plain::state::{Command, READ};
 use plain::turn::order;
-
-struct Run {
-    store: Store,
-    host: Host,
-    bytes: usize,
-}
+use run::{Run, read, write};
 
 /// One job as the host sees it, with the counter of its partition before and
 /// after it.
@@ -25,68 +23,13 @@ struct Job {
 }
 
 impl Run {
-    /// An opened store.
-    fn new(shape: Shape, words: &[u16]) -> Run {
-        let mut run = Run {
-            store: Store::new(Mistake::None),
-            host: Host::default(),
-            bytes: shape.bytes,
-        };
-        assert_eq!(run.call(Ask::Open(shape), words).taken, shape.blocks);
-        run
-    }
-
-    fn call(&mut self, ask: Ask, words: &[u16]) -> Outcome {
-        self.store.call(&Call {
-            ask,
-            memory: 1_000_000,
-            words: words.to_vec(),
-            buffer: self.bytes,
-        })
-    }
-
-    fn number(&mut self, ask: Ask, words: &[u16]) -> u8 {
-        self.call(ask, words).number
-    }
-
-    /// A turn, then completion of its command.
-    fn t(&mut self, words: &[u16]) -> Outcome {
-        let outcome = self.call(Ask::Turn, words);
-        if outcome.number == 0 {
-            self.host.send(outcome.command, outcome.bytes.clone());
-            let (command, bytes) = self.host.answer(0);
-            self.host.done(command);
-            assert_eq!(self.number(Ask::Completion { command, bytes }, &[]), 0);
-        }
-        outcome
-    }
-
-    /// Makes a request, its reads and its collect.
-    fn serve(&mut self, ask: Ask, words: [u16; 2]) -> Vec<u8> {
-        assert_eq!(self.number(ask, &words), 0);
-        loop {
-            let answer = self.call(Ask::Collect, &[]);
-            if answer.number == 0 {
-                return answer.bytes;
-            }
-            assert_eq!((answer.number, self.t(&[]).number), (14, 0));
-        }
-    }
-
-    fn queued(&self) -> usize {
-        self.store
-            .state
-            .as_ref()
-            .map_or(0, |state| state.queue.len())
-    }
-
     fn counter(&self, partition: usize) -> usize {
-        self.store.state.as_ref().unwrap().counter[partition]
+        self.state().counter[partition]
     }
 
     /// Runs the front job; its order takes words of zero.
     fn job(&mut self) -> Job {
-        let (left, q) = (self.queued(), self.store.state.as_ref().unwrap().queue[0]);
+        let (left, q) = (self.queued(), self.state().queue[0]);
         let before = self.counter(q);
         let (mut reads, mut writes) = (Vec::new(), Vec::new());
         while self.queued() == left {
@@ -106,22 +49,6 @@ impl Run {
     }
 }
 
-fn read(block: usize) -> Ask {
-    Ask::Request {
-        kind: READ,
-        block,
-        contents: Vec::new(),
-    }
-}
-
-fn write(block: usize, contents: &[u8]) -> Ask {
-    Ask::Request {
-        kind: WRITE,
-        block,
-        contents: contents.to_vec(),
-    }
-}
-
 fn cmd(kind: usize, partition: usize, level: usize, slot: usize) -> Command {
     Command {
         kind,
@@ -136,7 +63,8 @@ fn worked_session() {
     let tape = [0, 0, 0, 1, 0, 0, 0];
     let mut run = Run::new(Shape::new(1, 1, 1, 1, 1, 1), &tape);
     assert_eq!(run.call(write(0, &[7]), &tape[1..]).taken, 2);
-    assert_eq!(run.call(Ask::Collect, &tape[3..]).bytes, [0]);
+    let fresh = run.call(Ask::Collect, &tape[3..]);
+    assert_eq!((fresh.bytes, fresh.found), (vec![0], Found::Nowhere));
     let mut left = 3;
     for (kind, slot) in [(2, 0), (2, 1), (1, 0), (1, 1), (2, 0), (2, 1)] {
         let outcome = run.t(&tape[left..]);
@@ -149,7 +77,8 @@ fn worked_session() {
     assert_eq!(run.call(read(0), &tape[left..]).taken, 2);
     assert_eq!(left + 2, tape.len());
     assert_eq!(run.t(&[]).command, cmd(1, 0, 0, 1));
-    assert_eq!(run.call(Ask::Collect, &[]).bytes, [7]);
+    let stored = run.call(Ask::Collect, &[]);
+    assert_eq!((stored.bytes, stored.found), (vec![7], Found::Level(0)));
 }
 
 #[test]
@@ -253,7 +182,7 @@ fn full_partition_takes_a_dummy() {
     let mut bytes: Vec<Vec<u8>> = job.writes.into_iter().map(|(_, bytes)| bytes).collect();
     bytes.sort();
     assert_eq!(bytes, [[0], [7]]);
-    assert!(run.store.state.as_ref().unwrap().is_waiting(1));
+    assert!(run.state().is_waiting(1));
 }
 
 #[test]
@@ -335,8 +264,10 @@ fn plain_array() {
         let (numbers, collected) = array::check(shape, Mistake::None, seed as u64, 30_000)
             .unwrap_or_else(|error| panic!("{shape:?}: {error}"));
         assert!(collected > 200, "{shape:?}: {collected} {numbers:?}");
-        for mistake in [Mistake::ZerosForever, Mistake::NewContentsHandedOut] {
-            assert!(array::check(shape, mistake, seed as u64, 30_000).is_err());
+        let contents = [Mistake::ZerosForever, Mistake::NewContentsHandedOut];
+        for mistake in contents.into_iter().chain(Mistake::FOUND) {
+            let told = array::check(shape, mistake, seed as u64, 30_000);
+            assert!(told.is_err(), "{shape:?}: {mistake:?}");
         }
     }
 }

@@ -19,7 +19,7 @@ extern "C" {
 #endif
 
 /* The bytes of a state, and the kinds of requests and commands. */
-enum { RINWOLFEDD_STATE = 64, RINWOLFEDD_READ = 1, RINWOLFEDD_WRITE = 2 };
+enum { RINWOLFEDD_STATE = 68, RINWOLFEDD_READ = 1, RINWOLFEDD_WRITE = 2 };
 
 /* The bytes of a line of a page, its newline among them, and of the longest
  * page: of 64 partitions. */
@@ -48,17 +48,29 @@ enum {
                                            page: as long as the page, or longer */
 };
 
-/* Each call answers one number of 64 bits: the number, the command that a turn
- * sent, and the words taken from the tape. */
-static inline unsigned rinwolfedd_number(uint64_t a) { return a & 255; }
-static inline unsigned rinwolfedd_kind(uint64_t a) { return a >> 8 & 255; }
-static inline unsigned rinwolfedd_partition(uint64_t a) { return a >> 16 & 255; }
-static inline unsigned rinwolfedd_level(uint64_t a) { return a >> 24 & 255; }
-static inline unsigned rinwolfedd_slot(uint64_t a) { return a >> 32 & 65535; }
-static inline unsigned rinwolfedd_taken(uint64_t a) { return a >> 48 & 65535; }
+/* Where a collect found the block: RINWOLFEDD_LEVEL + l is level l. */
+enum { RINWOLFEDD_NOWHERE = 0, RINWOLFEDD_CACHE = 1, RINWOLFEDD_LEVEL = 2 };
+
+/* Each call answers one number of 64 bits, from the lowest on: the number (5),
+ * the command that a turn sent, of kind (2), partition (6), level (4) and slot
+ * (11), where a collect found the block (4), and the words taken from the tape
+ * (32). What does not apply is 0. */
+static inline unsigned rinwolfedd_number(uint64_t a) { return a & 31; }
+static inline unsigned rinwolfedd_kind(uint64_t a) { return a >> 5 & 3; }
+static inline unsigned rinwolfedd_partition(uint64_t a) { return a >> 7 & 63; }
+static inline unsigned rinwolfedd_level(uint64_t a) { return a >> 13 & 15; }
+static inline unsigned rinwolfedd_slot(uint64_t a) { return a >> 17 & 2047; }
+static inline size_t rinwolfedd_taken(uint64_t a) { return a >> 32; }
+
+/* Where the block was found when its request ceased to be held by jobs of its
+ * partition, or was accepted if none held it; RINWOLFEDD_NOWHERE of a refused
+ * collect and of every other call. It is for the owner of the store, not for its
+ * host: it tells what the commands hide, such as whether the block was asked for
+ * not long ago. */
+static inline unsigned rinwolfedd_found(uint64_t a) { return a >> 28 & 15; }
 
 /* A page takes no word, and has its length in bytes in that place. */
-static inline size_t rinwolfedd_length(uint64_t a) { return a >> 48 & 65535; }
+static inline size_t rinwolfedd_length(uint64_t a) { return a >> 32; }
 
 /* The bytes of memory that a shape within bounds needs. */
 static inline size_t rinwolfedd_needed(size_t n, size_t p, size_t l, size_t b)
@@ -104,7 +116,8 @@ uint64_t rinwolfedd_completion(uint8_t *state, size_t state_len,
                                size_t kind, size_t partition, size_t level, size_t slot,
                                const uint8_t *bytes, size_t bytes_len);
 
-/* Hands out the contents before the request, into a buffer of exactly B bytes. */
+/* Hands out the contents before the request, into a buffer of exactly B bytes,
+ * and tells in the answer where the block was found. */
 uint64_t rinwolfedd_collect(uint8_t *state, size_t state_len,
                             uint8_t *memory, size_t memory_len,
                             uint8_t *buffer, size_t buffer_len);

@@ -1,6 +1,6 @@
 /* Document 01's worked session from C: one block of one byte, written, its jobs
- * done, and read again; then the page of the store as the session left it. From
- * the repository's top:
+ * done, and read again; after each collect, where the block was found; then the
+ * page of the store as the session left it. From the repository's top:
  *
  *     cc -std=c99 rust/c/worked.c target/staticlib/librinwolfedd.a -o worked
  */
@@ -31,15 +31,21 @@ static void request(size_t kind, const uint8_t *contents, size_t length)
                                             kind, 0, contents, length, tape, left())));
 }
 
+/* Where the block was found is for the owner of the store, as its contents are. */
 static void collect(void)
 {
     uint8_t byte = 0;
-    unsigned number = rinwolfedd_number(
-        rinwolfedd_collect(state, sizeof state, memory, sizeof memory, &byte, 1));
-    if (number != RINWOLFEDD_ACCEPTED)
+    uint64_t answer = rinwolfedd_collect(state, sizeof state, memory, sizeof memory, &byte, 1);
+    unsigned number = rinwolfedd_number(answer), found = rinwolfedd_found(answer);
+    if (number != RINWOLFEDD_ACCEPTED) {
         printf("%u\n", number);
+        return;
+    }
+    printf("0 %02x\n", byte);
+    if (found < RINWOLFEDD_LEVEL)
+        printf("found %s\n", found == RINWOLFEDD_CACHE ? "in the cache" : "nowhere");
     else
-        printf("0 %02x\n", byte);
+        printf("found in level %u\n", found - RINWOLFEDD_LEVEL);
 }
 
 /* A refused completion would mean that host and store no longer agree. */

@@ -4,7 +4,8 @@
 //! Each block is the record of one fish: who it is, and its genotypes at 1,904
 //! SNPs, two bits each. The example stores them, looks two fish up, and shows
 //! side by side the commands that the host saw of either look-up. Then it shows
-//! the page of the store, which is for the owner alone.
+//! the page of the store, and where its look-ups found the fish; both are for the
+//! owner alone.
 //!
 //! The commands hide the fish; the bytes do not. This example does not seal
 //! them, so whoever reads the file sees the records, and where each one goes. A
@@ -16,7 +17,7 @@
 //! cargo run --offline --example genotypes -- PATH    in a new file, which stays
 //! ```
 
-use rinwolfedd::{Command, FileHost, Kind, Progress, Reader, Recorded, Shape, Summary};
+use rinwolfedd::{Command, FileHost, Kind, Progress, Reader, Recorded, Shape, Summary, Tally};
 use std::error::Error;
 use std::io::{self, Write};
 use std::path::{Path, PathBuf};
@@ -151,6 +152,15 @@ fn show_page(out: &mut impl Write, summary: &Summary) -> io::Result<()> {
     )
 }
 
+/// Shows where the look-ups found their fish: nowhere while the fish were stored,
+/// as each was new then.
+fn show_tally(out: &mut impl Write, tally: &Tally) -> io::Result<()> {
+    writeln!(
+        out,
+        "\nWhere the look-ups found their fish, which is not for the host either:\n\n  {tally}"
+    )
+}
+
 /// Stores the fish in a new file and looks two of them up.
 pub fn run(path: &Path, out: &mut impl Write) -> Result<(), Box<dyn Error>> {
     let shape = Shape::hiding(FISH, BYTES)?;
@@ -164,13 +174,14 @@ pub fn run(path: &Path, out: &mut impl Write) -> Result<(), Box<dyn Error>> {
     let fish = [1234, 17];
     let mut seen = [Vec::new(), Vec::new()];
     for (fish, seen) in fish.into_iter().zip(&mut seen) {
-        let found = reader.read(fish)?;
-        assert_eq!(found, record(fish), "the host brings what was written");
-        writeln!(out, "fish {fish}: {}", described(&found))?;
+        let contents = reader.read(fish)?.contents;
+        assert_eq!(contents, record(fish), "the host brings what was written");
+        writeln!(out, "fish {fish}: {}", described(&contents))?;
         *seen = reader.host_mut().take();
     }
     show(out, fish, &seen)?;
     show_page(out, &reader.summary())?;
+    show_tally(out, reader.tally())?;
     Ok(())
 }
 

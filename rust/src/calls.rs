@@ -12,7 +12,7 @@
 //!
 //! let answer = calls::open(&mut state, &mut memory, numbers, tape);
 //! assert_eq!((answer.number(), answer.taken()), (0, 1));
-//! tape = &tape[2 * usize::from(answer.taken())..];
+//! tape = &tape[2 * answer.taken()..];
 //!
 //! let answer = calls::request(&mut state, &mut memory, WRITE, 0, &[7], tape);
 //! assert_eq!((answer.number(), answer.taken()), (0, 2));
@@ -22,14 +22,19 @@
 //! let mut page = [0; calls::PAGE]; // long enough for every store
 //! let answer = calls::page(&state, &memory, &mut page);
 //! assert_eq!((answer.number(), answer.length()), (0, 58));
+//!
+//! let mut contents = [1];
+//! let answer = calls::collect(&mut state, &mut memory, &mut contents);
+//! assert_eq!((answer.number(), contents), (0, [0])); // those before the write
+//! assert_eq!(answer.found(), rinwolfedd::Found::Nowhere); // nobody asked before
 //! ```
 
-use crate::command::{Command, Kind};
-use crate::refusal::Refusal;
-use std::fmt;
+pub use crate::answer::Answer;
+
+use crate::command::Kind;
 
 /// The bytes of a client's state.
-pub const STATE: usize = 64;
+pub const STATE: usize = 68;
 
 /// The bytes of a line of a page: 28 characters and a newline.
 pub const LINE: usize = 29;
@@ -41,87 +46,6 @@ pub const PAGE: usize = 65 * LINE;
 pub const READ: usize = Kind::Read.number() as usize;
 /// The kind of a write.
 pub const WRITE: usize = Kind::Write.number() as usize;
-
-/// What a call reports, in the 64 bits that the library answers.
-#[derive(Clone, Copy, PartialEq, Eq)]
-#[must_use = "the call may have been refused"]
-pub struct Answer(u64);
-
-impl Answer {
-    /// The number answered: 0, or that of a [`Refusal`].
-    #[inline]
-    #[must_use]
-    pub const fn number(self) -> u8 {
-        self.0 as u8
-    }
-
-    /// The words taken from the tape. A page takes none, and has its
-    /// [length](Answer::length) here.
-    #[inline]
-    #[must_use]
-    pub const fn taken(self) -> u16 {
-        (self.0 >> 48) as u16
-    }
-
-    /// The bytes of a page, which lie at the start of its buffer; 0 if it was
-    /// refused. They stand in the same bits as the words that a call took.
-    #[inline]
-    #[must_use]
-    pub const fn length(self) -> usize {
-        self.taken() as usize
-    }
-
-    /// The command that a turn sent.
-    #[inline]
-    #[must_use]
-    pub fn command(self) -> Option<Command> {
-        let kind = Kind::try_from((self.0 >> 8) as u8).ok()?;
-        Some(Command {
-            kind,
-            partition: (self.0 >> 16) as u8,
-            level: (self.0 >> 24) as u8,
-            slot: (self.0 >> 32) as u16,
-        })
-    }
-
-    /// All of it: the number in the lowest byte, then kind, partition and
-    /// level, a byte each, then the slot and the words taken (or a page's
-    /// length), two bytes each. What does not apply is 0.
-    #[inline]
-    #[must_use]
-    pub const fn bits(self) -> u64 {
-        self.0
-    }
-
-    /// The number by its name.
-    ///
-    /// # Errors
-    ///
-    /// The [`Refusal`] with the number, unless it is 0.
-    ///
-    /// # Panics
-    ///
-    /// If the number is above 15, which neither a call of the proved library
-    /// nor its page ever answers (theorems `number-le`, `page-numbers`):
-    /// another library is linked.
-    #[inline]
-    pub fn accepted(self) -> Result<(), Refusal> {
-        match self.number() {
-            0 => Ok(()),
-            number => Err(Refusal::try_from(number).expect("the library is the proved one")),
-        }
-    }
-}
-
-impl fmt::Debug for Answer {
-    fn fmt(&self, f: &mut fmt::Formatter<'_>) -> fmt::Result {
-        f.debug_struct("Answer")
-            .field("number", &self.number())
-            .field("taken", &self.taken())
-            .field("command", &self.command())
-            .finish()
-    }
-}
 
 mod raw {
     unsafe extern "C" {
@@ -203,7 +127,7 @@ pub fn open(state: &mut [u8], memory: &mut [u8], numbers: [usize; 6], tape: &[u8
     // one. Slices that the call changes come from `&mut`, so they overlap no
     // other; those that are shared it only reads. It touches nothing outside of
     // them, keeps no pointer after it returns, and does not unwind.
-    Answer(unsafe {
+    Answer::new(unsafe {
         raw::rinwolfedd_open(
             state.as_mut_ptr(),
             state.len(),
@@ -233,7 +157,7 @@ pub fn request(
     tape: &[u8],
 ) -> Answer {
     // Safety: as in `open`.
-    Answer(unsafe {
+    Answer::new(unsafe {
         raw::rinwolfedd_request(
             state.as_mut_ptr(),
             state.len(),
@@ -253,7 +177,7 @@ pub fn request(
 #[inline]
 pub fn turn(state: &mut [u8], memory: &mut [u8], tape: &[u8], buffer: &mut [u8]) -> Answer {
     // Safety: as in `open`.
-    Answer(unsafe {
+    Answer::new(unsafe {
         raw::rinwolfedd_turn(
             state.as_mut_ptr(),
             state.len(),
@@ -277,7 +201,7 @@ pub fn completion(
     bytes: &[u8],
 ) -> Answer {
     // Safety: as in `open`.
-    Answer(unsafe {
+    Answer::new(unsafe {
         raw::rinwolfedd_completion(
             state.as_mut_ptr(),
             state.len(),
@@ -293,11 +217,12 @@ pub fn completion(
     })
 }
 
-/// Hands out the contents before the request.
+/// Hands out the contents before the request; the answer tells where the block
+/// was [found](Answer::found).
 #[inline]
 pub fn collect(state: &mut [u8], memory: &mut [u8], buffer: &mut [u8]) -> Answer {
     // Safety: as in `open`.
-    Answer(unsafe {
+    Answer::new(unsafe {
         raw::rinwolfedd_collect(
             state.as_mut_ptr(),
             state.len(),
@@ -324,7 +249,7 @@ pub fn collect(state: &mut [u8], memory: &mut [u8], buffer: &mut [u8]) -> Answer
 #[inline]
 pub fn page(state: &[u8], memory: &[u8], buffer: &mut [u8]) -> Answer {
     // Safety: as in `open`.
-    Answer(unsafe {
+    Answer::new(unsafe {
         raw::rinwolfedd_page(
             state.as_ptr(),
             state.len(),
@@ -334,50 +259,4 @@ pub fn page(state: &[u8], memory: &[u8], buffer: &mut [u8]) -> Answer {
             buffer.len(),
         )
     })
-}
-
-#[cfg(test)]
-mod tests {
-    use super::Answer;
-    use crate::command::{Command, Kind};
-    use crate::refusal::Refusal;
-
-    #[test]
-    fn an_answer_is_taken_apart() {
-        let answer = Answer(0x00FF_0102_0304_0200);
-        let command = Command {
-            kind: Kind::Write,
-            partition: 4,
-            level: 3,
-            slot: 0x0102,
-        };
-        assert_eq!((answer.number(), answer.taken()), (0, 255));
-        assert_eq!(
-            (answer.command(), answer.accepted()),
-            (Some(command), Ok(()))
-        );
-        let text = format!("{answer:?}");
-        assert!(text.starts_with("Answer { number: 0, taken: 255, command: Some(Command {"));
-    }
-
-    #[test]
-    fn the_length_of_a_page_stands_where_words_do() {
-        let answer = Answer(1885 << 48);
-        assert_eq!((answer.number(), answer.length()), (0, super::PAGE));
-        assert_eq!((answer.taken(), answer.command()), (1885, None));
-        assert_eq!((Answer(15).length(), Answer(u64::MAX).length()), (0, 65535));
-    }
-
-    #[test]
-    fn a_refused_answer_names_its_number() {
-        assert_eq!(Answer(8).accepted(), Err(Refusal::CacheFull));
-        assert_eq!(Answer(15).accepted(), Err(Refusal::BufferLength));
-        assert_eq!((Answer(8).taken(), Answer(8).command()), (0, None));
-    }
-
-    #[test]
-    #[should_panic(expected = "the library is the proved one: UnknownNumber(16)")]
-    fn a_number_that_no_call_answers_is_not_lost() {
-        let _ = Answer(16).accepted();
-    }
 }

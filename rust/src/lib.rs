@@ -17,8 +17,8 @@
 //! let mut reader = Reader::open(shape, Recorded::new(host))?;
 //!
 //! reader.write(42, b"genotype")?;
-//! assert_eq!(reader.read(42)?, b"genotype");
-//! assert_eq!(reader.read(7)?, [0; 8]); // never written
+//! assert_eq!(reader.read(42)?.contents, b"genotype");
+//! assert_eq!(reader.read(7)?.contents, [0; 8]); // never written
 //!
 //! for command in reader.host().commands() {
 //!     println!("{command}"); // each command that the host saw, such as "w 3 0 1"
@@ -39,6 +39,32 @@
 //! ([`Summary`]). They are for the owner: nothing is sent for them, and they
 //! tell what the host must not learn, such as how many blocks wait and where.
 //!
+//! # Where blocks were found
+//!
+//! A look-up also tells where its block was [found](Found): nowhere, in the
+//! cache or in a level. The reader's [tally](Reader::tally) has how many look-ups
+//! were served from where. Both are for the owner, too: nothing is sent for them,
+//! and they tell what the commands hide, such as whether a block was asked for
+//! not long ago.
+//!
+//! ```
+//! use rinwolfedd::{Error, Found, MemoryHost, Reader, Shape};
+//!
+//! let shape = Shape::hiding(64, 8)?;
+//! let mut reader = Reader::open(shape, MemoryHost::new(shape, 1)?)?;
+//! assert_eq!(reader.write(42, b"genotype")?.found, Found::Nowhere);
+//! for _ in 0..9 {
+//!     let looked_up = reader.read(42)?;
+//!     assert_eq!(looked_up.contents, b"genotype");
+//!     println!("found {}", looked_up.found); // "found in the cache", "found in level 0"
+//! }
+//!
+//! let tally = reader.tally();
+//! println!("{} of {} from the cache", tally.cache(), tally.total());
+//! assert_eq!((tally.total(), tally.nowhere()), (10, 1));
+//! # Ok::<(), Error>(())
+//! ```
+//!
 //! # Linking
 //!
 //! The calls are in the library `librinwolfedd.a`, which `scripts/library`
@@ -56,11 +82,14 @@
 #![deny(missing_docs)]
 #![warn(clippy::missing_errors_doc, clippy::must_use_candidate)]
 
+mod answer;
 pub mod calls;
 mod command;
 mod error;
 mod file_host;
+mod found;
 mod host;
+mod looked_up;
 mod memory_host;
 mod progress;
 mod reader;
@@ -69,12 +98,15 @@ mod shape;
 mod slots;
 mod store;
 mod summary;
+mod tally;
 mod tape;
 
 pub use command::{Command, Kind};
 pub use error::Error;
 pub use file_host::FileHost;
+pub use found::Found;
 pub use host::{Host, Recorded};
+pub use looked_up::LookedUp;
 pub use memory_host::MemoryHost;
 pub use progress::Progress;
 pub use reader::Reader;
@@ -83,4 +115,5 @@ pub use shape::Shape;
 pub use slots::Slots;
 pub use store::{Request, Store};
 pub use summary::{Figures, Summary};
+pub use tally::Tally;
 pub use tape::Tape;

@@ -2,11 +2,14 @@
 
 use crate::command::Kind;
 use crate::error::Error;
+use crate::found::Found;
 use crate::host::Host;
+use crate::looked_up::LookedUp;
 use crate::refusal::Refusal;
 use crate::shape::Shape;
 use crate::store::{Request, Store};
 use crate::summary::Summary;
+use crate::tally::Tally;
 use crate::tape::Supply;
 use std::fmt;
 use std::fs::File;
@@ -30,6 +33,9 @@ const RANDOM: &str = "/dev/urandom";
 /// [`with_words`](Reader::with_words). All that a look-up can take are there
 /// before it begins, so that only the host can fail midway. Then all later
 /// look-ups answer [`Error::Unfinished`].
+///
+/// Each look-up also tells the owner of the store where its block was
+/// [found](Found), and a [tally](Reader::tally) has how often it was where.
 pub struct Reader<H, R = File> {
     store: Store,
     host: H,
@@ -39,6 +45,7 @@ pub struct Reader<H, R = File> {
     outstanding: usize,
     /// Whether a look-up has begun and not come to its end.
     unfinished: bool,
+    tally: Tally,
 }
 
 /// The store's shape and the host.
@@ -93,6 +100,7 @@ impl<H: Host, R: Read> Reader<H, R> {
             arrived: vec![0; shape.bytes()],
             outstanding: 0,
             unfinished: false,
+            tally: Tally::new(shape.levels()),
         })
     }
 
@@ -142,7 +150,25 @@ impl<H: Host, R: Read> Reader<H, R> {
         self.store.summary()
     }
 
-    /// Looks a block up.
+    /// How many look-ups found their block nowhere, in the cache and in each
+    /// level, since the reader was opened: for the owner of the store, not for
+    /// its host.
+    #[must_use]
+    pub fn tally(&self) -> &Tally {
+        &self.tally
+    }
+
+    /// Looks a block up: hands out its contents, and tells where it was found.
+    ///
+    /// ```
+    /// # use rinwolfedd::{Error, Found, MemoryHost, Reader, Shape};
+    /// # let shape = Shape::hiding(64, 8)?;
+    /// # let mut reader = Reader::open(shape, MemoryHost::new(shape, 1)?)?;
+    /// let first = reader.read(7)?;
+    /// assert_eq!((first.contents, first.found), (vec![0; 8], Found::Nowhere));
+    /// assert_ne!(reader.read(7)?.found, Found::Nowhere); // in the cache, or stored
+    /// # Ok::<(), Error>(())
+    /// ```
     ///
     /// # Errors
     ///
@@ -151,33 +177,35 @@ impl<H: Host, R: Read> Reader<H, R> {
     /// are left than a look-up can take, 2^(L+1). Nothing was sent then, and the
     /// reader goes on. [`Error::Host`] if the host fails or completes what it
     /// was not sent, which ends the reader: [`Error::Unfinished`] from then on.
-    pub fn read(&mut self, block: usize) -> Result<Vec<u8>, Error> {
+    pub fn read(&mut self, block: usize) -> Result<LookedUp, Error> {
         let mut contents = vec![0; self.shape().bytes()];
-        self.read_into(block, &mut contents)?;
-        Ok(contents)
+        let found = self.read_into(block, &mut contents)?;
+        Ok(LookedUp { contents, found })
     }
 
-    /// Looks a block up and puts its contents into the buffer, which has B
-    /// bytes.
+    /// Looks a block up, puts its contents into the buffer, which has B bytes,
+    /// and tells where it was found.
     ///
     /// # Errors
     ///
     /// Those of [`read`](Reader::read), and [`Error::Refused`] for a buffer of
     /// another length.
-    pub fn read_into(&mut self, block: usize, buffer: &mut [u8]) -> Result<(), Error> {
+    pub fn read_into(&mut self, block: usize, buffer: &mut [u8]) -> Result<Found, Error> {
         self.look_up(Request::Read { block }, buffer)
     }
 
-    /// Gives a block new contents of B bytes, and hands out those before.
+    /// Gives a block new contents of B bytes: hands out those before, and tells
+    /// where they were found.
     ///
     /// # Errors
     ///
     /// Those of [`read`](Reader::read), and [`Error::Refused`] for contents of
     /// another length.
-    pub fn write(&mut self, block: usize, contents: &[u8]) -> Result<Vec<u8>, Error> {
+    pub fn write(&mut self, block: usize, contents: &[u8]) -> Result<LookedUp, Error> {
         let mut before = vec![0; self.shape().bytes()];
-        self.look_up(Request::Write { block, contents }, &mut before)?;
-        Ok(before)
+        let found = self.look_up(Request::Write { block, contents }, &mut before)?;
+        let contents = before;
+        Ok(LookedUp { contents, found })
     }
 
     /// Writes block 0, 1, 2, .. as long as there are contents, and hands back
@@ -254,7 +282,7 @@ impl<H: Host, R: Read> Reader<H, R> {
     }
 
     /// One whole look-up; the contents before it go into the buffer.
-    fn look_up(&mut self, request: Request<'_>, before: &mut [u8]) -> Result<(), Error> {
+    fn look_up(&mut self, request: Request<'_>, before: &mut [u8]) -> Result<Found, Error> {
         if self.unfinished {
             return Err(Error::Unfinished);
         }
@@ -270,11 +298,12 @@ impl<H: Host, R: Read> Reader<H, R> {
         self.words.take(taken);
         self.unfinished = true;
         self.run()?;
-        let contents = self.store.collect().map_err(Error::midway)?;
+        let (contents, found) = self.store.collect().map_err(Error::midway)?;
         before.copy_from_slice(contents);
+        self.tally.count(found);
         self.run()?;
         self.unfinished = false;
-        Ok(())
+        Ok(found)
     }
 
     /// Turns and completions until nothing is left to send or to complete. It

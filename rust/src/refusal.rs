@@ -114,8 +114,8 @@ impl TryFrom<u8> for Refusal {
     }
 }
 
-/// A number that is none of those asked for: of no [`Refusal`], or of no
-/// [`Kind`](crate::Kind).
+/// A number that is none of those asked for: of no [`Refusal`], of no
+/// [`Kind`](crate::Kind), or of no [`Found`](crate::Found).
 #[derive(Clone, Copy, Debug, PartialEq, Eq, Hash)]
 pub struct UnknownNumber(u8);
 

@@ -2,6 +2,7 @@
 
 use crate::calls::{self, PAGE, STATE};
 use crate::command::{Command, Kind};
+use crate::found::Found;
 use crate::refusal::Refusal;
 use crate::shape::Shape;
 use crate::summary::Summary;
@@ -47,7 +48,7 @@ impl fmt::Debug for Request<'_> {
 /// them itself decides when a command is sent and when jobs are done.
 ///
 /// ```
-/// use rinwolfedd::{Refusal, Request, Shape, Store, Tape};
+/// use rinwolfedd::{Found, Refusal, Request, Shape, Store, Tape};
 ///
 /// let shape = Shape::new(1, 1, 1, 1).with_window(1);
 /// // This tape is fixed, to show the calls; one that hides anything is random.
@@ -55,7 +56,8 @@ impl fmt::Debug for Request<'_> {
 /// let mut store = Store::open(shape, &mut tape)?;
 /// assert_eq!(tape.taken(), 1); // a partition for the one block
 /// store.request(Request::Write { block: 0, contents: &[7] }, &mut tape)?;
-/// assert_eq!(store.collect()?, [0]); // the contents before
+/// let (contents, found) = store.collect()?;
+/// assert_eq!((contents, found), (&[0][..], Found::Nowhere)); // the contents before
 ///
 /// // Its jobs are still to be done: their first command is a write.
 /// let (command, bytes) = store.turn(&mut tape)?;
@@ -169,15 +171,17 @@ impl Store {
     }
 
     /// Hands out the block's contents before the request, once all its reads
-    /// have completed, and queues its two jobs.
+    /// have completed, with where the block was found, and queues its two jobs.
+    /// Where it was found is for the owner of the store, not for its host
+    /// ([`Found`]).
     ///
     /// # Errors
     ///
     /// [`Refusal::NoRequest`] or [`Refusal::NotFinished`].
-    pub fn collect(&mut self) -> Result<&[u8], Refusal> {
+    pub fn collect(&mut self) -> Result<(&[u8], Found), Refusal> {
         let answer = calls::collect(&mut self.state, &mut self.memory, &mut self.buffer);
         answer.accepted()?;
-        Ok(&self.buffer)
+        Ok((&self.buffer, answer.found()))
     }
 
     /// The page on the state of the store, a text of P + 1 lines of 28

@@ -44,8 +44,8 @@ impl<'a> Tape<'a> {
         self.bytes.get(2 * self.taken..).unwrap_or(&[])
     }
 
-    pub(crate) fn take(&mut self, words: u16) {
-        self.taken += usize::from(words);
+    pub(crate) fn take(&mut self, words: usize) {
+        self.taken += words;
     }
 }
 

@@ -6,7 +6,7 @@
 mod folder;
 
 use folder::Folder;
-use rinwolfedd::{Command, Error, FileHost, Host, Kind, MemoryHost};
+use rinwolfedd::{Command, Error, FileHost, Found, Host, Kind, LookedUp, MemoryHost};
 use rinwolfedd::{Reader, Recorded, Refusal, Request, Shape, Store, Tape};
 use std::error::Error as _;
 use std::fs::File;
@@ -62,7 +62,7 @@ fn files_that_fail_later() {
 fn lengths_and_blocks_that_are_none_of_the_stores() {
     let mut reader = Reader::open(SHAPE, MemoryHost::new(SHAPE, 1).unwrap()).unwrap();
     reader.write(3, &[1, 2, 3, 4]).unwrap();
-    let refused = |result: Result<Vec<u8>, Error>| match result {
+    let refused = |result: Result<LookedUp, Error>| match result {
         Err(Error::Refused(refusal)) => refusal,
         other => panic!("{other:?}"),
     };
@@ -76,13 +76,15 @@ fn lengths_and_blocks_that_are_none_of_the_stores() {
         assert_eq!(refused(reader.read(block)), Refusal::NoSuchBlock);
         assert_eq!(refused(reader.write(block, &[0; 4])), Refusal::NoSuchBlock);
     }
-    let small = reader.read_into(3, &mut [0; 3]).map(|()| Vec::new());
-    assert_eq!(refused(small), Refusal::BufferLength);
-    let all = reader.write_all([[1; 4]; 9]).map(|_| Vec::new());
-    assert_eq!(refused(all), Refusal::NoSuchBlock);
+    let small = reader.read_into(3, &mut [0; 3]);
+    assert!(matches!(small, Err(Error::Refused(Refusal::BufferLength))));
+    assert_eq!(reader.tally().total(), 1, "nothing that was refused counts");
+    let all = reader.write_all([[1; 4]; 9]);
+    assert!(matches!(all, Err(Error::Refused(Refusal::NoSuchBlock))));
+    assert_eq!(reader.tally().total(), 9);
     // none of it ended the reader, and the blocks are as they were
     assert!(!reader.is_unfinished());
-    assert_eq!(reader.read(3).unwrap(), [1; 4]);
+    assert_eq!(reader.read(3).unwrap().contents, [1; 4]);
 }
 
 #[test]
@@ -129,6 +131,7 @@ fn words_that_end() {
         assert_eq!(words_kind(reader.read(0)), ended);
         assert_eq!(words_kind(reader.write(0, &[1; 4])), ended);
         assert!(reader.host().commands().is_empty() && !reader.is_unfinished());
+        assert_eq!(reader.tally().total(), 0);
     }
     // however the words fall, they never end midway
     for words in 24..400 {
@@ -169,7 +172,7 @@ fn words_that_fail() {
     for tag in 0..100 {
         match reader.write(3, &[tag; 4]) {
             Ok(before) => {
-                assert_eq!(before, stored);
+                assert_eq!(before.contents, stored);
                 stored = [tag; 4];
             }
             Err(Error::Words(_)) => failures += 1,
@@ -178,6 +181,7 @@ fn words_that_fail() {
         assert!(!reader.is_unfinished());
     }
     assert!((10..90).contains(&failures), "{failures} failures");
+    assert_eq!(reader.tally().total(), 100 - failures);
 }
 
 /// A host that completes commands which were never submitted.
@@ -220,7 +224,7 @@ fn a_store_refuses_with_the_documents_numbers() {
     assert_eq!(store.request(read, &mut tape), Ok(()));
     assert_eq!(store.request(read, &mut tape), Err(Refusal::RequestInHand));
     assert_eq!(tape.taken(), 10);
-    assert_eq!(store.collect().unwrap(), [0; 4]);
+    assert_eq!(store.collect(), Ok((&[0; 4][..], Found::Nowhere)));
     let (command, bytes) = store.turn(&mut tape).unwrap();
     assert_eq!((command.kind, bytes), (Kind::Write, &[0; 4][..]));
     assert_eq!(tape.taken(), 11, "the order of two slots");

@@ -1,8 +1,9 @@
 //! The library links from C and C++ by the prototypes in c/rinwolfedd.h:
-//! document 01's worked session prints what the document says, and the page of
-//! the store after it; the header has a name for each number.
+//! document 01's worked session prints what the document says, after each
+//! collect where the block was found, and the page of the store after it; the
+//! header has a name for each number.
 
-use rinwolfedd::{Refusal, Shape, calls};
+use rinwolfedd::{Found, Refusal, Shape, calls};
 use std::io::ErrorKind;
 use std::path::Path;
 use std::process::Command;
@@ -10,6 +11,7 @@ use std::process::Command;
 const WORKED: &str = "0
 0
 0 00
+found nowhere
 0 w 0 0 0
 0 w 0 0 1
 0 r 0 0 0
@@ -19,6 +21,7 @@ const WORKED: &str = "0
 0
 0 r 0 0 1
 0 07
+found in level 0
 ";
 
 /// The last collect left the block waiting and two jobs queued.
@@ -93,6 +96,11 @@ fn the_header_has_a_name_for_each_number() {
         assert!(has(&name, refusal.number().into()), "{name}");
     }
     assert!(has("RINWOLFEDD_ACCEPTED", 0) && !has("RINWOLFEDD_ACCEPTED", 1));
+    let places = [Found::Nowhere, Found::Cache, Found::Level(0)];
+    for (name, found) in ["NOWHERE", "CACHE", "LEVEL"].into_iter().zip(places) {
+        let name = format!("RINWOLFEDD_{name}");
+        assert!(has(&name, found.number().into()), "{name}");
+    }
     assert!(has("RINWOLFEDD_STATE", calls::STATE));
     assert!(has("RINWOLFEDD_READ", calls::READ) && has("RINWOLFEDD_WRITE", calls::WRITE));
     assert!(has("RINWOLFEDD_LINE", calls::LINE) && has("RINWOLFEDD_PAGE", calls::PAGE));

@@ -7,8 +7,8 @@ mod lent;
 
 use lent::Lent;
 use plain::rng::Rng;
-use rinwolfedd::Shape;
 use rinwolfedd::calls::{self, Answer, STATE};
+use rinwolfedd::{Found, Shape};
 
 const SHAPE: Shape = Shape::new(3, 2, 2, 4).with_window(2);
 
@@ -18,12 +18,13 @@ fn state(rng: &mut Rng, len: usize) -> Vec<u8> {
     if len != STATE || rng.chance(20) {
         return rng.bytes(len);
     }
-    let mut words = [3, 2, 2, 4, 3, 2, 0, 0, 0, 0, 0, 0, 0, 0, 0, 0u16];
+    let mut words = [3, 2, 2, 4, 3, 2, 0, 0, 0, 0, 0, 0, 0, 0, 0, 0, 0u16];
     for word in &mut words[6..] {
         *word = rng.below(4) as u16;
     }
+    words[11] = rng.below(6) as u16; // where a block was found; in range below 5
     if rng.chance(30) {
-        words[rng.below(16)] = rng.step() as u16;
+        words[rng.below(words.len())] = rng.step() as u16;
     }
     // The two bytes behind each number are not used.
     let mut bytes = rng.bytes(STATE);
@@ -101,8 +102,8 @@ fn between(state: &[u8]) -> Vec<&[u8]> {
 }
 
 /// The numbers of a request in a state: kind, block, next partition, eviction
-/// partition, level.
-fn request_numbers(state: &[u8]) -> [u16; 5] {
+/// partition, level, and where its block was found.
+fn request_numbers(state: &[u8]) -> [u16; 6] {
     std::array::from_fn(|k| u16::from_le_bytes([state[24 + 4 * k], state[25 + 4 * k]]))
 }
 
@@ -132,12 +133,35 @@ const NUMBERS: [&[u8]; CALLS] = [
 fn check_page(before: &[Vec<u8>; 3], answer: Answer, after: &[Vec<u8>; 3]) {
     assert_eq!(after[..2], before[..2], "it only reads");
     let length = answer.length();
-    assert_eq!(answer.bits(), (length as u64) << 48, "and nothing else");
+    assert_eq!(answer.bits(), (length as u64) << 32, "and nothing else");
     let (page, tail) = after[2].split_at(length);
     assert_eq!(tail, &before[2][length..]);
     assert!((2 * calls::LINE..=calls::PAGE).contains(&length));
     for line in page.chunks(calls::LINE) {
         assert!(line.len() == calls::LINE && line.is_ascii() && line.ends_with(b"\n"));
+    }
+}
+
+/// What an accepted call leaves of the state, and what it answers: only a
+/// collect tells where a block was found, as the state had it.
+fn check_accepted(which: usize, before: &[Vec<u8>; 3], answer: Answer, after: &[Vec<u8>; 3]) {
+    assert_eq!(between(&after[0]), between(&before[0]));
+    let [asked, left] = [before, after].map(|lent| request_numbers(&lent[0]));
+    if kind_of_request(&after[0]) == 0 {
+        let wanted = match which {
+            OPEN | COLLECT => [0; 6],
+            _ => asked,
+        };
+        assert_eq!(left, wanted, "call {which}");
+    }
+    if which == COLLECT {
+        let told = u64::from(asked[5]) - 1;
+        assert_eq!(answer.bits(), told << 28, "and nothing else");
+    } else {
+        assert_eq!(answer.found(), Found::Nowhere, "call {which}");
+    }
+    if which == PAGE {
+        check_page(before, answer, after);
     }
 }
 
@@ -152,28 +176,16 @@ fn check(rng: &mut Rng, state_len: usize, memory: usize, seen: &mut [[usize; 16]
             NUMBERS[which].contains(&answer.number()),
             "{which}: {answer:?}"
         );
-        if answer.number() != 0 {
-            let mut after = lending.bytes();
+        let mut after = lending.bytes();
+        if answer.number() == 0 {
+            check_accepted(which, &before, answer, &after);
+        } else {
             if which == OPEN {
                 assert_eq!(after[0], vec![0; state_len]);
                 after[0].clone_from(&before[0]);
             }
             assert_eq!(after, before, "call {which} answers {answer:?}");
             assert_eq!(answer.bits(), answer.number().into(), "and nothing else");
-        } else {
-            let after = lending.bytes();
-            assert_eq!(between(&after[0]), between(&before[0]));
-            if kind_of_request(&after[0]) == 0 {
-                let left = if [OPEN, COLLECT].contains(&which) {
-                    [0; 5]
-                } else {
-                    request_numbers(&before[0])
-                };
-                assert_eq!(request_numbers(&after[0]), left, "call {which}");
-            }
-            if which == PAGE {
-                check_page(&before, answer, &after);
-            }
         }
         seen[which][usize::from(answer.number())] += 1;
     }

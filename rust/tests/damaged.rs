@@ -1,9 +1,9 @@
 //! Damaged state and tables. Bytes that no call wrote are answered too: where
 //! a number of the state is out of its range, with 2 and nothing changed; all
 //! else as the rules say of the state for which the bytes stand (`view`), in
-//! number, words, command, buffer and the state after the call, and so is the
-//! page of that state. The same view is held to the independent model where
-//! nothing is damaged.
+//! number, words, command, buffer, where a block was found and the state after
+//! the call, and so is the page of that state. The same view is held to the
+//! independent model where nothing is damaged.
 //!
 //! `RINWOLFEDD_CALLS` says how many calls are made to damaged states.
 
@@ -28,7 +28,7 @@ use plain::shape::Shape;
 use plain::state::{READ, WRITE};
 use random::{Random, SLACK};
 use std::time::Instant;
-use view::{View, cells, decode, step};
+use view::{NUMBERS, View, cells, decode, step};
 
 /// Shapes with their share of the calls in a thousand.
 const SHAPES: [(Shape, usize); 10] = [
@@ -60,6 +60,11 @@ struct Counts {
     /// Pages shown, and those of a state that lists a block too often.
     pages: usize,
     too_often: usize,
+    /// States in range whose request is held though no job holds it, or the
+    /// other way round.
+    odd: usize,
+    /// Collects that told nowhere, the cache and a level.
+    told: [usize; 3],
 }
 
 fn copy(of: &Linked) -> Linked {
@@ -81,23 +86,23 @@ fn number(rng: &mut Rng, bound: usize) -> u16 {
     any as u16
 }
 
-/// Puts numbers into some of the state's sixteen; the shape's are seldom
-/// touched, as little is in range after that.
+/// Puts numbers into some of the state's; the shape's are seldom touched, as
+/// little is in range after that.
 fn damage_state(state: &mut [u8], shape: Shape, rng: &mut Rng) {
     let (p, cursor) = (shape.partitions, (2 << shape.levels) - 2);
     let jobs = [4, 62, 64][rng.below(3)];
     let last = [jobs, cursor, 1 << shape.levels, shape.places, shape.window];
-    let bounds = [2, shape.blocks, p, p, shape.levels];
+    let bounds = [2, shape.blocks, p, p, shape.levels, shape.levels + 2];
     for _ in 0..1 + rng.below(3) {
         let k = if rng.chance(5) {
             rng.below(6)
         } else {
-            6 + rng.below(10)
+            6 + rng.below(NUMBERS - 6)
         };
         let bound = match k {
             0..6 => [4096, 64, 8, 512, shape.blocks, 32][k],
-            6..11 => bounds[k - 6],
-            _ => last[k - 11],
+            6..12 => bounds[k - 6],
+            _ => last[k - 12],
         };
         let value = number(rng, bound).to_le_bytes();
         state[4 * k..4 * k + 2].copy_from_slice(&value);
@@ -212,6 +217,8 @@ fn damaged(honest: &Linked, random: &mut Random, shape: Shape, counts: &mut Coun
         counts.pages += usize::from(compare_page(&linked, view.as_ref()).is_some());
         let too_often = view.as_ref().is_some_and(View::lists_a_block_too_often);
         counts.too_often += usize::from(too_often);
+        let odd = view.as_ref().is_some_and(View::is_held_oddly);
+        counts.odd += usize::from(odd);
         let call = match view {
             Some(view) if random.rng.chance(65) => {
                 suited(&view, linked.memory.bytes().len(), &mut random.rng)
@@ -223,6 +230,9 @@ fn damaged(honest: &Linked, random: &mut Random, shape: Shape, counts: &mut Coun
         counts.out_of_range += usize::from(!in_range);
         let late = in_range && outcome.number == 2 && matches!(call.ask, Ask::Turn);
         counts.late += usize::from(late);
+        if outcome.number == 0 && call.ask == Ask::Collect {
+            counts.told[outcome.found.number().min(2)] += 1;
+        }
     }
 }
 
@@ -245,22 +255,33 @@ fn damaged_states_are_answered_as_the_rules_say() {
             damaged(&linked, &mut random, shape, &mut counts);
         }
     }
-    let Counts {
-        numbers,
-        out_of_range,
-        late,
-        pages,
-        too_often,
-    } = counts;
-    let made: usize = numbers.iter().sum();
     let seconds = start.elapsed().as_secs_f64();
-    println!("{made} calls to damaged states in {seconds:.1} s");
-    println!("  numbers 0 to 15: {numbers:?}");
-    println!("  {out_of_range} out of range, {late} turns without a dummy or room");
-    println!("  {pages} pages, {too_often} of a state that lists a block too often");
-    for (number, count) in numbers.iter().enumerate() {
-        assert!(*count > calls / 10_000, "{number} is answered too rarely");
+    counts.check(calls, seconds);
+}
+
+impl Counts {
+    /// Prints them, and asks that nothing was met too rarely in so many calls.
+    fn check(&self, calls: usize, seconds: f64) {
+        let Counts {
+            numbers,
+            out_of_range,
+            late,
+            pages,
+            too_often,
+            odd,
+            told,
+        } = self;
+        let made: usize = numbers.iter().sum();
+        println!("{made} calls to damaged states in {seconds:.1} s");
+        println!("  numbers 0 to 15: {numbers:?}");
+        println!("  {out_of_range} out of range, {late} turns without a dummy or room");
+        println!("  {pages} pages, {too_often} of a state that lists a block too often");
+        println!("  {odd} requests held oddly; found nowhere, in the cache, in a level: {told:?}");
+        for (number, count) in numbers.iter().enumerate() {
+            assert!(*count > calls / 10_000, "{number} is answered too rarely");
+        }
+        assert!(made >= calls && *out_of_range > calls / 20 && *late > calls / 1000);
+        assert!(*pages > calls / 4 && *too_often > calls / 100 && *odd > calls / 100);
+        assert!(told.iter().all(|count| *count > calls / 2000));
     }
-    assert!(made >= calls && out_of_range > calls / 20 && late > calls / 1000);
-    assert!(pages > calls / 4 && too_often > calls / 100);
 }

@@ -28,7 +28,13 @@ fn the_example_stores_fish_and_shows_two_look_ups() {
         .find(|line| line.contains("partition"))
         .unwrap();
     assert_eq!(first.matches("read  partition").count(), 2, "{first}");
-    check_page(text.split("The page of the store").nth(1).unwrap());
+    let (page, tally) = text
+        .split("The page of the store")
+        .nth(1)
+        .and_then(|rest| rest.split_once("Where the look-ups found their fish"))
+        .unwrap();
+    check_page(page);
+    check_tally(tally);
 }
 
 /// The page is cut after four partitions. By its last line no fish is nowhere,
@@ -45,6 +51,21 @@ fn check_page(page: &str) {
     assert_eq!(stored + waiting, 4096);
     let said = format!("\n{stored} fish are in the file, and {waiting} wait ");
     assert!(page.contains(&said), "{page}");
+}
+
+/// The look-ups are those that stored each fish, which was nowhere then, and two
+/// more; where these found theirs adds up.
+fn check_tally(told: &str) {
+    let tally = told.lines().last().unwrap();
+    let places = tally
+        .strip_prefix("  4098 look-ups: 4096 found nowhere, ")
+        .unwrap();
+    let found = places.split(", ").map(|place| {
+        let (count, place) = place.split_once(" in ").unwrap();
+        assert!(place == "the cache" || place.starts_with("level "));
+        count.parse::<usize>().unwrap()
+    });
+    assert_eq!(found.sum::<usize>(), 2, "{told}");
 }
 
 #[test]

@@ -2,9 +2,9 @@
 //! the errors may grow.
 
 use rinwolfedd::calls::Answer;
-use rinwolfedd::{Command, Error, Figures, FileHost, Host, Kind, MemoryHost, Progress};
-use rinwolfedd::{Reader, Recorded, Refusal, Request, Shape, Slots, Store, Summary};
-use rinwolfedd::{Tape, UnknownNumber, calls};
+use rinwolfedd::{Command, Error, Figures, FileHost, Found, Host, Kind, LookedUp, MemoryHost};
+use rinwolfedd::{Progress, Reader, Recorded, Refusal, Request, Shape, Slots, Store};
+use rinwolfedd::{Summary, Tally, Tape, UnknownNumber, calls};
 use std::fs::File;
 use std::io::{self, Write};
 
@@ -27,6 +27,9 @@ const _: () = {
     both::<Store>();
     both::<Summary>();
     both::<Figures>();
+    both::<Found>();
+    both::<LookedUp>();
+    both::<Tally>();
     both::<MemoryHost>();
     both::<FileHost>();
     both::<Progress>();
@@ -61,7 +64,8 @@ fn a_reader_works_in_another_thread() {
     })
     .join()
     .unwrap();
-    assert_eq!(reader.read(3).unwrap(), b"fish");
+    assert_eq!(reader.read(3).unwrap().contents, b"fish");
+    assert_eq!(reader.tally().total(), 2);
 }
 
 /// A match that names every variant needs one more arm: another version may
@@ -121,11 +125,12 @@ fn numbers_without_a_name() {
         Refusal::try_from(16).map_err(UnknownNumber::number),
         Err(16)
     );
+    assert_eq!(Found::try_from(10).map_err(UnknownNumber::number), Err(10));
     assert_eq!([calls::READ, calls::WRITE], [1, 2]);
 }
 
-/// What is printed for a log has neither blocks nor contents nor words, nor how
-/// many blocks are where.
+/// What is printed for a log has neither blocks nor contents nor words, nor where
+/// a block was found, nor how many blocks are where.
 #[test]
 fn nothing_secret_is_printed() {
     let contents = &[222, 223];
@@ -143,11 +148,13 @@ fn nothing_secret_is_printed() {
     let shape = Shape::new(4, 2, 2, 2);
     let mut reader = Reader::open(shape, MemoryHost::new(shape, 1).unwrap()).unwrap();
     reader.write_all([contents; 4]).unwrap();
+    let looked_up = reader.read(3).unwrap();
+    assert_eq!(looked_up.contents, contents);
+    assert_eq!(format!("{looked_up:?}"), "LookedUp { .. }");
+    assert_eq!(format!("{:?}", reader.tally()), "Tally { levels: 2, .. }");
     let text = format!("{reader:?}");
-    assert!(
-        text.contains("MemoryHost") && !text.contains("222"),
-        "{text}"
-    );
+    let secret = text.contains("222") || text.contains("Tally");
+    assert!(text.contains("MemoryHost") && !secret, "{text}");
     let summary = reader.summary();
     let text = format!("{summary:?} {:?}", summary.partitions());
     assert_eq!(

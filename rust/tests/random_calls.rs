@@ -1,5 +1,6 @@
 //! Random calls, compared with the independent model one by one: numbers,
-//! words, commands and every lent byte are equal, and no other byte changes.
+//! words, commands, where blocks were found and every lent byte are equal, and no
+//! other byte changes.
 //!
 //! `RINWOLFEDD_CALLS` says how many are made; without it, few enough for every
 //! day.
@@ -14,6 +15,7 @@ mod linked;
 mod random;
 
 use linked::Linked;
+use plain::calls::Ask;
 use plain::mistakes::Mistake;
 use plain::shape::Shape;
 use random::{Random, SLACK};
@@ -42,11 +44,13 @@ const SHAPES: [(Shape, usize); 16] = [
 /// The calls made where nothing else is said.
 const FEW: usize = 200_000;
 
-/// What was met: how often each number was answered, the most jobs queued, the
-/// rebuilds of a full partition, and those with all levels filled.
+/// What was met: how often each number was answered, and a block found at each
+/// place, by its number; the most jobs queued, the rebuilds of a full partition,
+/// and those with all levels filled.
 #[derive(Default)]
 struct Met {
     numbers: [usize; 16],
+    found: [usize; 10],
     most_jobs: usize,
     full: usize,
     wraps: usize,
@@ -68,6 +72,9 @@ fn compare(
         let told = linked.compare(&call, &outcome);
         told.map_err(|told| format!("{shape:?}, seed {seed}, call {index}: {told}"))?;
         met.numbers[usize::from(outcome.number)] += 1;
+        if outcome.number == 0 && call.ask == Ask::Collect {
+            met.found[outcome.found.number()] += 1;
+        }
     }
     met.most_jobs = met.most_jobs.max(random.most_jobs);
     met.full += random.full;
@@ -86,6 +93,7 @@ fn random_calls_answer_as_the_model_does() {
     }
     let Met {
         numbers,
+        found,
         most_jobs,
         full,
         wraps,
@@ -94,8 +102,10 @@ fn random_calls_answer_as_the_model_does() {
     let seconds = start.elapsed().as_secs_f64();
     println!("{made} calls in {seconds:.1} s");
     println!("  numbers 0 to 15: {numbers:?}");
+    println!("  found nowhere, in the cache, in level 0 to 7: {found:?}");
     println!("  rebuilds: {full} of a full partition, {wraps} with all levels filled");
     assert!(made >= calls && most_jobs == 64);
+    assert!(found[..5].iter().all(|count| *count > calls / 2000));
     assert!(full > calls / 2000 && wraps > calls / 2000);
     for (number, count) in numbers.iter().enumerate() {
         assert!(*count > calls / 20_000, "{number} is answered too rarely");

@@ -3,8 +3,8 @@
 //! plain client sends from the same words.
 
 use plain::rng::Rng;
-use rinwolfedd::{Command, Error, FileHost, Host, Kind, MemoryHost};
-use rinwolfedd::{Progress, Reader, Recorded, Refusal, Shape};
+use rinwolfedd::{Command, Error, FileHost, Found, Host, Kind, LookedUp, MemoryHost};
+use rinwolfedd::{Progress, Reader, Recorded, Refusal, Shape, Tally};
 use std::collections::HashSet;
 use std::io;
 
@@ -21,28 +21,58 @@ const SHAPES: [Shape; 6] = [
     shape(256, 16, 5, 512, 32),
 ];
 
-/// Random reads and writes, held to an array.
+/// Random reads and writes, held to an array. A block is found nowhere the first
+/// time and never again, and the tally has what each look-up told.
 fn look_ups<H: Host>(shape: Shape, host: H, seed: u64, count: usize) -> H {
     let mut reader = Reader::open(shape, host).unwrap();
     let mut array = vec![vec![0; shape.bytes()]; shape.blocks()];
-    let mut rng = Rng::new(seed);
+    let (mut rng, mut told, mut met) = (Rng::new(seed), Vec::new(), HashSet::new());
     let mut buffer = vec![0; shape.bytes()];
     for _ in 0..count {
         let block = rng.below(shape.blocks());
-        match rng.below(3) {
-            0 => assert_eq!(reader.read(block).unwrap(), array[block]),
+        let found = match rng.below(3) {
+            0 => {
+                let LookedUp { contents, found } = reader.read(block).unwrap();
+                assert_eq!(contents, array[block]);
+                found
+            }
             1 => {
-                reader.read_into(block, &mut buffer).unwrap();
+                let found = reader.read_into(block, &mut buffer).unwrap();
                 assert_eq!(buffer, array[block]);
+                found
             }
             _ => {
-                let contents = rng.bytes(shape.bytes());
-                assert_eq!(reader.write(block, &contents).unwrap(), array[block]);
-                array[block] = contents;
+                let new = rng.bytes(shape.bytes());
+                let LookedUp { contents, found } = reader.write(block, &new).unwrap();
+                assert_eq!(contents, array[block]);
+                array[block] = new;
+                found
             }
-        }
+        };
+        assert_eq!(found == Found::Nowhere, met.insert(block));
+        told.push(found);
     }
+    assert_eq!(tallied(reader.tally()), counted(shape, &told));
+    assert_eq!(reader.tally().total(), count as u64);
     reader.into_host()
+}
+
+/// The figures of a tally: nowhere, in the cache, in each level.
+fn tallied(tally: &Tally) -> Vec<u64> {
+    let levels = tally.levels().iter().copied();
+    [tally.nowhere(), tally.cache()]
+        .into_iter()
+        .chain(levels)
+        .collect()
+}
+
+/// The same of what look-ups told.
+fn counted(shape: Shape, told: &[Found]) -> Vec<u64> {
+    let mut figures = vec![0; 2 + shape.levels()];
+    for found in told {
+        figures[usize::from(found.number())] += 1;
+    }
+    figures
 }
 
 #[test]
@@ -158,7 +188,8 @@ fn a_recorded_host_has_all_commands_in_order() {
         .concat();
     let host = Recorded::new(MemoryHost::new(shape, 1).unwrap());
     let mut reader = Reader::with_words(shape, host, &words[..]).unwrap();
-    assert_eq!(reader.write(0, &[7]).unwrap(), [0]);
+    let before = reader.write(0, &[7]).unwrap();
+    assert_eq!((before.contents, before.found), (vec![0], Found::Nowhere));
     let text: Vec<String> = reader
         .host_mut()
         .take()
@@ -169,7 +200,8 @@ fn a_recorded_host_has_all_commands_in_order() {
         "w 0 0 0", "w 0 0 1", "r 0 0 0", "r 0 0 1", "w 0 0 0", "w 0 0 1",
     ];
     assert_eq!(text, first);
-    assert_eq!(reader.read(0).unwrap(), [7]);
+    let stored = reader.read(0).unwrap();
+    assert_eq!((stored.contents, stored.found), (vec![7], Found::Level(0)));
     assert_eq!(reader.host().commands()[0].to_string(), "r 0 0 1");
     assert_eq!(reader.host().commands()[0].kind, Kind::Read);
 }
@@ -214,27 +246,27 @@ fn write_all_says_how_many_are_stored() {
     let stored = reader.write_all_with(contents, |stored| said.push(stored));
     assert_eq!(stored.unwrap(), 50);
     assert_eq!(said, (1..=50).collect::<Vec<usize>>());
-    assert_eq!(reader.read(49).unwrap(), [49, 1]);
-    assert_eq!(reader.read(50).unwrap(), [0, 0]);
+    assert_eq!(reader.read(49).unwrap().contents, [49, 1]);
+    assert_eq!(reader.read(50).unwrap().contents, [0, 0]);
 
     // from another block on
     said = Vec::new();
     let stored = reader.write_from_with(60, [[9; 2]; 4], |stored| said.push(stored));
     assert_eq!((stored.unwrap(), &said[..]), (4, &[1, 2, 3, 4][..]));
     assert_eq!(reader.write_from(10, [[8; 2]; 2]).unwrap(), 2);
-    let all = [9, 10, 11, 12, 59, 60, 63].map(|block| reader.read(block).unwrap()[0]);
+    let all = [9, 10, 11, 12, 59, 60, 63].map(|block| reader.read(block).unwrap().contents[0]);
     assert_eq!(all, [9, 8, 8, 12, 0, 9, 9]);
     // at the end there is no block more; the last one is stored
     let past = reader.write_from(63, [[7; 2]; 2]);
     assert!(matches!(past, Err(Error::Refused(Refusal::NoSuchBlock))));
-    assert_eq!(reader.read(63).unwrap(), [7, 7]);
+    assert_eq!(reader.read(63).unwrap().contents, [7, 7]);
     let past = reader.write_from(usize::MAX, [[7; 2]; 2]);
     assert!(matches!(past, Err(Error::Refused(Refusal::NoSuchBlock))));
 
     // without a callback, and with a line of progress
     assert_eq!(reader.write_all([[2; 2]; 5]).unwrap(), 5);
-    assert_eq!(reader.read(4).unwrap(), [2, 2]);
-    assert_eq!(reader.read(5).unwrap(), [5, 1]);
+    assert_eq!(reader.read(4).unwrap().contents, [2, 2]);
+    assert_eq!(reader.read(5).unwrap().contents, [5, 1]);
     let mut lines = Vec::new();
     let progress = Progress::new(&mut lines, "storing", 2).into_callback();
     assert_eq!(reader.write_all_with([[3; 2]; 2], progress).unwrap(), 2);
@@ -276,7 +308,7 @@ fn a_small_cache_refuses_and_goes_on() {
         let before = reader.host().commands().len();
         match reader.write(block, &tag.to_le_bytes()) {
             Ok(old) => {
-                assert_eq!(old, stored[block]);
+                assert_eq!(old.contents, stored[block]);
                 stored[block] = tag.to_le_bytes();
             }
             Err(Error::Refused(Refusal::CacheFull)) => {
@@ -289,4 +321,5 @@ fn a_small_cache_refuses_and_goes_on() {
         }
     }
     assert!((100..1980).contains(&full), "{full} of 2000 refused");
+    assert_eq!(reader.tally().total(), 2000 - full);
 }

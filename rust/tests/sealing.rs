@@ -118,7 +118,7 @@ fn look_ups<H: Host>(
         if look_up < SHAPE.blocks() {
             reader.write(block, &stored(block)).unwrap();
         } else {
-            assert_eq!(reader.read(block).unwrap(), stored(block));
+            assert_eq!(reader.read(block).unwrap().contents, stored(block));
         }
         let file = std::fs::read(path).unwrap();
         seen.plain |= file.windows(7).any(|bytes| bytes == b" is hot");

@@ -1,6 +1,7 @@
 //! The linked calls replay sessions of the generator that also writes those for
-//! the proof checker: numbers, words, commands and every lent byte are equal,
-//! and no byte outside changes. Stores are opened anew with another shape.
+//! the proof checker: numbers, words, commands, where blocks were found and every
+//! lent byte are equal, and no byte outside changes. Stores are opened anew with
+//! another shape.
 
 #[path = "common/convert.rs"]
 mod convert;

@@ -48,7 +48,7 @@ fn a_hiding_store_holds_every_block() {
             reader.write(block, &contents(block)).unwrap();
         }
         for block in 0..blocks {
-            assert_eq!(reader.read(block).unwrap(), contents(block));
+            assert_eq!(reader.read(block).unwrap().contents, contents(block));
         }
     }
 }

@@ -9,7 +9,7 @@ mod convert;
 #[path = "common/random.rs"]
 mod random;
 
-use plain::calls::{Ask, Call};
+use plain::calls::{Ask, Call, Outcome};
 use plain::mistakes::Mistake;
 use plain::page;
 use plain::shape::Shape as Plain;
@@ -38,8 +38,9 @@ fn open(shape: Plain, tape: &mut Tape<'_>) -> Store {
     Store::open(shape, tape).unwrap()
 }
 
-/// Makes a call other than an open, which the model accepted.
-fn make(store: &mut Store, call: &Call, tape: &mut Tape<'_>) {
+/// Makes a call other than an open, which the model accepted. A collect hands
+/// out what the model does.
+fn make(store: &mut Store, call: &Call, outcome: &Outcome, tape: &mut Tape<'_>) {
     match &call.ask {
         Ask::Request {
             kind,
@@ -62,7 +63,11 @@ fn make(store: &mut Store, call: &Call, tape: &mut Tape<'_>) {
             };
             store.completion(command, bytes).unwrap();
         }
-        Ask::Collect => assert!(store.collect().is_ok()),
+        Ask::Collect => {
+            let (contents, found) = store.collect().unwrap();
+            let told = (contents, usize::from(found.number()));
+            assert_eq!(told, (&outcome.bytes[..], outcome.found.number()));
+        }
         Ask::Turn | Ask::Open(_) => assert!(store.turn(tape).is_ok()),
     }
 }
@@ -105,7 +110,9 @@ fn a_store_has_the_page_of_the_model() {
             let mut tape = Tape::new(convert::tape(&call.words));
             match (&call.ask, &mut store) {
                 (Ask::Open(h), _) => store = (outcome.number == 0).then(|| open(*h, &mut tape)),
-                (_, Some(store)) if outcome.number == 0 => make(store, &call, &mut tape),
+                (_, Some(store)) if outcome.number == 0 => {
+                    make(store, &call, &outcome, &mut tape);
+                }
                 _ => {}
             }
             let (Some(store), Some(state)) = (&store, &random.model.state) else {

@@ -74,11 +74,11 @@ fn pages() {
     };
     let shown = page(&state);
     assert_eq!(shown.0, 0);
-    for number in 0..16 {
+    for number in 0..17 {
         let mut wide = state;
         wide[4 * number + 1] += 2; // 2^9 more
         let wanted = match number {
-            7..11 => shown.clone(),
+            7..12 => shown.clone(),
             _ => (2, vec![1; 87]),
         };
         assert_eq!(page(&wide), wanted, "number {number}");
@@ -86,6 +86,30 @@ fn pages() {
         wide[4 * number + 2..4 * number + 4].fill(255);
         assert_eq!(page(&wide), shown, "number {number}");
     }
+}
+
+/// Where the block of a request in hand was found is in its range below L + 3: 0
+/// while it is held, and else 1 more than what a collect tells.
+#[test]
+fn places_of_blocks() {
+    const FOUND: usize = 4 * 11;
+    let (mut state, mut memory) = opened();
+    let asked = calls::request(&mut state, &mut memory, READ, 3, &[], &[0; 4]);
+    assert_eq!((asked.number(), state[FOUND]), (0, 1)); // nowhere
+    let collected = |number: usize| {
+        let (mut state, mut memory, mut buffer) = (state, memory.clone(), [1; 4]);
+        state[FOUND..FOUND + 2].copy_from_slice(&(number as u16).to_le_bytes());
+        let answer = calls::collect(&mut state, &mut memory, &mut buffer);
+        assert_eq!(buffer == [0; 4], answer.number() == 0);
+        answer.bits()
+    };
+    assert_eq!(collected(0), 14, "it is held");
+    for number in 1..6 {
+        assert_eq!(collected(number), (number as u64 - 1) << 28);
+        let [wide, wider] = [8, 15].map(|bit| collected(number + (1 << bit)));
+        assert_eq!([wide, wider], [2; 2], "{number}");
+    }
+    assert_eq!([6, 7, 16, 17, 65535].map(collected), [2; 5]);
 }
 
 #[test]

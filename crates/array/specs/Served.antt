@@ -2,7 +2,7 @@
 -- words, lengths and calls, is as it was.
 use mathlib.Core.Path.{_≡_, refl, ap, sym, _∙_}
 use mathlib.Core.Logic.{_⊎_, inl, inr, ⊎-elim}
-use mathlib.Core.Bool.{Bool, true, false, not, true≢false}
+use mathlib.Core.Bool.{Bool, true, false, true≢false}
 use mathlib.Core.List.{List, [], _∷_, _++_}
 use mathlib.Core.Option.{Option, none, some}
 use Prim.Native.Nat.{ℕ, zero, suc, _<_}
@@ -22,11 +22,13 @@ use Rattle.rules.specs.Draws.{draws}
 use Rattle.rules.specs.Laws.Answers.{Passed, opens, accepted-passed, step-accepted, step-refused, step-number, refuse-keeps}
 use Rattle.rules.specs.Laws.Lengths.{Whole, slot-length, contents-length}
 use Rattle.rules.specs.Laws.Range.{RequestIn}
+use Rattle.rules.specs.Laws.Released.{written-release}
 use Rattle.rules.specs.Laws.Shapes.{act-shape}
 use Rattle.rules.specs.Open.{fresh}
 use Rattle.rules.specs.Questions.{Ask, opening, request, turn, completion, collect, Call, bounds, number, questions}
 use Rattle.rules.specs.Ranges.{bytesOf}
 use Rattle.rules.specs.Rebuild.{doRebuild}
+use Rattle.rules.specs.Request
 use Rattle.rules.specs.Request.{accept}
 use Rattle.rules.specs.Run
 use Rattle.rules.specs.Run.{act, step, run}
@@ -166,19 +168,36 @@ module _ (s : State) (w : Whole s) (q ℓ i : ℕ) where
   collect-out none z = z
   collect-out (some r) z = z
 
-  -- an accepted call that is no open
-  act-effect : (a : Ask) (m : ℕ) (ws : List ℕ) (n : ℕ) (js : List ℕ) → opens a ≡ false → Was s → Passed (questions s a m ws n) →
-      Effect s q ℓ i (act s a js) (Run.sentCommand s a) (Run.handed s a (act s a js))
-  unfolding act Run.sentCommand Run.handed questions opens bytesOf
-  act-effect (opening h) m ws n js o l p = absurd (true≢false o)
-  act-effect (request k b bs) m ws n js o l p = quiet (accept k b bs js s) [] (unfold accept in w) (unfold accept in refl) (unfold accept in (λ z. z))
-  act-effect turn m ws n js o l p = turn-effect (decide s) js
-  act-effect (completion c bs) m ws n js o l p =
+  -- an accepted call that is no open, before a request is released
+  perform-effect : (a : Ask) (m : ℕ) (ws : List ℕ) (n : ℕ) (js : List ℕ) → opens a ≡ false → Was s → Passed (questions s a m ws n) →
+      Effect s q ℓ i (Run.perform s a js) (Run.sentCommand s a) (Run.handed s a (Run.perform s a js))
+  unfolding act Run.perform Run.sentCommand Run.handed questions opens bytesOf
+  perform-effect (opening h) m ws n js o l p = absurd (true≢false o)
+  perform-effect (request k b bs) m ws n js o l p = quiet (accept k b bs js s) [] (unfold accept in w) (unfold accept in refl) (unfold accept in (λ z. z))
+  perform-effect turn m ws n js o l p = turn-effect (decide s) js
+  perform-effect (completion c bs) m ws n js o l p =
       quiet (complete c bs s) [] (complete-whole c bs (λ e. eqb-true (length bs) (s .shape .B) (rw e at (p .1 .1 .0))))
       (ap (λ (h : Shape). h .B) (act-shape s (completion c bs) js o)) (complete-out c bs)
-  act-effect collect m ws n js o l p =
+  perform-effect collect m ws n js o l p =
       quiet (Collect.collected (s .request) s) (Collect.answer s (s .request)) (collect-whole (s .request) (was-reached s m l (p .0) .range .request))
       (ap (λ (h : Shape). h .B) (act-shape s collect js o)) (collect-out (s .request))
+
+  -- a request released changes nothing of these
+  released : (s′ : State) (c : Command) (bs : List ℕ) → Effect s q ℓ i s′ c bs → Effect s q ℓ i (Request.release s′) c bs
+  released s′ c bs e = record { whole = e .whole; shape = e .shape; kind = e .kind; sized = e .sized; out = e .out }
+
+  handed-release : (a : Ask) (s′ : State) → Run.handed s a (Request.release s′) ≡ Run.handed s a s′
+  unfolding Run.handed
+  handed-release (opening h) s′ = refl
+  handed-release (request k b bs) s′ = refl
+  handed-release turn s′ = written-release s′ (command (decide s))
+  handed-release (completion c bs) s′ = refl
+  handed-release collect s′ = refl
+
+  act-effect : (a : Ask) (m : ℕ) (ws : List ℕ) (n : ℕ) (js : List ℕ) → opens a ≡ false → Was s → Passed (questions s a m ws n) →
+      Effect s q ℓ i (act s a js) (Run.sentCommand s a) (Run.handed s a (act s a js))
+  unfolding act
+  act-effect a m ws n js o l p = rw (handed-release a (Run.perform s a js)) (released (Run.perform s a js) _ _ (perform-effect a m ws n js o l p))
 
   -- every call that is no open
   step-effect : (c : Call) → opens (c .ask) ≡ false → Was s → Effect s q ℓ i (step s c .0) (step s c .1 .command) (step s c .1 .bytes)
@@ -257,7 +276,7 @@ module _ (s : State) (c : Call) (h : Shape) (e : c .ask ≡ opening h) where
   open-whole = rw (open-first s c h e) (go (eqb (number closed c) 0) refl)
     where
       zeros : (a : Ask) → a ≡ opening h → (js : List ℕ) → Whole (act closed a js)
-      zeros a e js = rw e (unfold act fresh in (λ b. length-replicate (h .B) 0))
+      zeros a e js = rw e (unfold act Run.perform fresh in (λ b. length-replicate (h .B) 0))
 
       none-there : (a : Ask) → a ≡ opening h → Whole (Run.refuse closed a)
       none-there a e = rw e (unfold Run.refuse closed in (λ b. refl))
@@ -270,7 +289,7 @@ module _ (s : State) (c : Call) (h : Shape) (e : c .ask ≡ opening h) where
   open-out q ℓ i = rw (open-first s c h e) (go (eqb (number closed c) 0) refl)
     where
       quiet-open : (a : Ask) → a ≡ opening h → (js : List ℕ) → ¬ Out (act closed a js) q ℓ i
-      quiet-open a e js = rw e (unfold act fresh any in (λ z. true≢false (sym z)))
+      quiet-open a e js = rw e (unfold act Run.perform fresh any in (λ z. true≢false (sym z)))
 
       quiet-shut : (a : Ask) → a ≡ opening h → ¬ Out (Run.refuse closed a) q ℓ i
       quiet-shut a e = rw e (unfold Run.refuse closed any in (λ z. true≢false (sym z)))

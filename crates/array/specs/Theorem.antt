@@ -18,6 +18,7 @@ use Rattle.rules.specs.Draws.{Drawn, draws, newOrder, Drew}
 use Rattle.rules.specs.Laws.Answers.{Passed, accepted-passed, step-accepted, step-refused, step-number}
 use Rattle.rules.specs.Laws.Decided.{StepIn, decide-in, stepBounds-pos}
 use Rattle.rules.specs.Laws.Kept.{completed-in, given-in, drew-of}
+use Rattle.rules.specs.Laws.Released.{released-same, written-release}
 use Rattle.rules.specs.Open.{fresh}
 use Rattle.rules.specs.Questions
 use Rattle.rules.specs.Questions.{Ask, opening, request, turn, completion, collect, Call, bounds, number, questions}
@@ -36,7 +37,7 @@ use Rattle.reachable.specs.Decided.{Decided, decided}
 use Rattle.reachable.specs.Invariant.{Reached}
 use Rattle.reachable.specs.Kept.Completion.{completed-kept}
 use Rattle.reachable.specs.Kept.Rebuild.Drawing.{drawing}
-use Rattle.reachable.specs.Reached.{Was, shut, live, closed-out, accepted-kept, open-first}
+use Rattle.reachable.specs.Reached.{Was, shut, live, closed-out, performed-kept, accepted-kept, open-first}
 use Rattle.array.specs.Claim.{Asked, store, Slots, Host, Expected, Brings, Has, change, Hands, sends, next, expects, Moves, Honest, Plain, Claim}
 use Rattle.array.specs.Collects.{collected-has, collect-contents, fresh-contents}
 use Rattle.array.specs.Completions.{completeRead-contents, completeWrite-contents}
@@ -84,6 +85,11 @@ module _ (s : State) (last has : Slots) (array : ℕ → List ℕ) (f : Reached 
       go true e = let z = eqb-true (c .kind) read e in completeRead-contents s f last has array k c z out bs (brings .1 z)
       go false e = let z = other-kind (c .kind) kind (eqb-false (c .kind) read e) in completeWrite-contents s last has array k c z (brings .0 z) (completed-kept s f c (completed-in s (f .range) c))
 
+  -- a request released
+  release-contents : Contents (Request.release s) last has array
+  unfolding Blocks.zeros
+  release-contents = record { absent = k .absent; waiting = k .waiting; drawn = k .drawn; known = k .known; written = k .written; settled = k .settled }
+
   accept-contents : (j b : ℕ) (bs js : List ℕ) → Contents (accept j b bs js s) last has array
   unfolding accept Blocks.zeros
   accept-contents j b bs js = record { absent = k .absent; waiting = k .waiting; drawn = k .drawn; known = k .known; written = k .written; settled = k .settled }
@@ -101,6 +107,10 @@ step-asked s (readForRequest q ℓ i) js = go (s .request)
 step-asked s (readForJob q ℓ i) js = refl
 step-asked s (rebuild q t) js = refl
 step-asked s (writeNext q t i) js = refl
+
+release-asked : (s : State) → askedOf (Request.release s .request) ≡ askedOf (s .request)
+unfolding askedOf
+release-asked s = released-same askedOf (λ r x. refl) s (s .request)
 
 complete-asked : (s : State) (c : Command) (bs : List ℕ) → complete c bs s .request ≡ s .request
 unfolding complete Completion.completeRead Completion.completeWrite Completion.completed Completion.gatherBytes Completion.finishJob Completion.endJob
@@ -157,52 +167,65 @@ module _ (s : State) (host : Host) (m : Expected) (memory : ℕ) (ws : List ℕ)
   abbrev drawn : Ask → List ℕ
   drawn a = Run.numbersOf (draws (bounds s a) ws)
 
-  call-tied : (a : Ask) → Passed (questions s a memory ws n) → Brings (host .last) (host .has) a → Hands m a (result a .1) × Tied (result a .0) (record { last = sends (host .last) (result a .1); has = host .has }) (next m a)
-  unfolding Run.accepted next act questions Run.sentCommand Run.handed bounds sends store
-  call-tied (opening h) p w = (
+  done-tied : (a : Ask) → Passed (questions s a memory ws n) → Brings (host .last) (host .has) a → Hands m a (result a .1) × Tied (Run.perform s a (drawn a)) (record { last = sends (host .last) (result a .1); has = host .has }) (next m a)
+  unfolding Run.accepted next act Run.perform questions Run.sentCommand Run.handed bounds sends store
+  done-tied (opening h) p w = (
     tt,
     record {
-      reached = accepted-kept s (opening h) memory ws n (kept-was s host m l) p;
+      reached = performed-kept s (opening h) memory ws n (kept-was s host m l) p;
       asked = unfold fresh askedOf in refl;
       contents = fresh-contents h (drawn (opening h)) (host .last) (host .has);
     },
   )
-  call-tied (request j b bs) p w =
+  done-tied (request j b bs) p w =
       let t = kept-tied s host m memory l (and-l (Questions.ready s memory) (isKind j) (p .0)) in (
         tt,
         record {
-          reached = accepted-kept s (request j b bs) memory ws n (kept-was s host m l) p;
+          reached = performed-kept s (request j b bs) memory ws n (kept-was s host m l) p;
           asked = unfold accept askedOf in refl;
           contents = accept-contents s (host .last) (host .has) (m .array) (t .reached) (t .contents) j b bs (drawn (request j b bs));
         },
       )
-  call-tied turn p w =
+  done-tied turn p w =
       let t = kept-tied s host m memory l (p .0) in
-      let f = accepted-kept s turn memory ws n (kept-was s host m l) p in (
+      let f = performed-kept s turn memory ws n (kept-was s host m l) p in (
         tt,
         record {
           reached = f;
           asked = step-asked s (decide s) (drawn turn) ∙ t .asked;
-          contents = turn-contents s (host .last) (host .has) (m .array) (t .reached) (t .contents) (decide s) (drawn turn) (decided s) (decide-in s (t .reached .range)) (drew-of (Turn.stepBounds (decide s)) ws (stepBounds-pos (decide s)) (p .1 .1 .1 .1 .0)) f;
+          contents = rw (written-release (doStep (decide s) (drawn turn) s) (command (decide s))) (turn-contents s (host .last) (host .has) (m .array) (t .reached) (t .contents) (decide s) (drawn turn) (decided s) (decide-in s (t .reached .range)) (drew-of (Turn.stepBounds (decide s)) ws (stepBounds-pos (decide s)) (p .1 .1 .1 .1 .0)) f);
         },
       )
-  call-tied (completion c bs) p w =
+  done-tied (completion c bs) p w =
       let t = kept-tied s host m memory l (and-l (Questions.ready s memory) (isKind (c .kind)) (p .0)) in (
         tt,
         record {
-          reached = accepted-kept s (completion c bs) memory ws n (kept-was s host m l) p;
+          reached = performed-kept s (completion c bs) memory ws n (kept-was s host m l) p;
           asked = ap askedOf (complete-asked s c bs) ∙ t .asked;
           contents = complete-contents s (host .last) (host .has) (m .array) (t .reached) (t .contents) c bs (and-r (Questions.ready s memory) (isKind (c .kind)) (p .0)) (p .1 .0) w;
         },
       )
-  call-tied collect p w =
+  done-tied collect p w =
       let t = kept-tied s host m memory l (p .0) in
       let x = collect-hands s host m t (s .request) refl (p .1 .1 .0) in (
         x .0,
         record {
-          reached = accepted-kept s collect memory ws n (kept-was s host m l) p;
+          reached = performed-kept s collect memory ws n (kept-was s host m l) p;
           asked = collect-asked s (s .request) refl;
           contents = x .1;
+        },
+      )
+
+  -- ..and then a request may be released
+  call-tied : (a : Ask) → Passed (questions s a memory ws n) → Brings (host .last) (host .has) a → Hands m a (result a .1) × Tied (result a .0) (record { last = sends (host .last) (result a .1); has = host .has }) (next m a)
+  unfolding Run.accepted act
+  call-tied a p w =
+      let t = done-tied a p w in (
+        t .0,
+        record {
+          reached = accepted-kept s a memory ws n (kept-was s host m l) p;
+          asked = release-asked (Run.perform s a (drawn a)) ∙ t .1 .asked;
+          contents = release-contents (Run.perform s a (drawn a)) (sends (host .last) (result a .1)) (host .has) (next m a .array) (t .1 .reached) (t .1 .contents);
         },
       )
 

@@ -15,8 +15,8 @@ use Rattle.codec.specs.Codec.{stateLength}
 use Rattle.claims.specs.Claim.{Made, Called, made, FromOpen, callMade, outcomeOf}
 use Rattle.claims.specs.Theorem.{exported-run}
 
--- The open takes a word, the request two. The collect hands out the block as it was before. The turn draws an order, by one word, and sends the
--- first of two writes: a dummy, since the word puts the block into the other slot
+-- The open takes a word, the request two. The collect hands out the block as it was before, and tells that it was nowhere. The turn draws an order,
+-- by one word, and sends the first of two writes: a dummy, since the word puts the block into the other slot
 abbrev pub told : List Outcome
 told =
     out 0 1 (cmd 0 0 0 0) []

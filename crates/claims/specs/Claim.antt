@@ -1,4 +1,4 @@
--- Demands 2 and 3 for exported calls, as a host program makes them: an open, then any calls. Each is handed the 64 bytes of state and the memory
+-- Demands 2 and 3 for exported calls, as a host program makes them: an open, then any calls. Each is handed the 68 bytes of state and the memory
 -- that the last one left, or a part of that memory from its start. All that is known of a call is its contract.
 -- To believe the claims, read this file, `Exported` and `Opened` of crate `exports`, and the claims of crates `array` and `hiding`. They are
 -- proved in Theorem.antt, the last of them in Words.antt.
@@ -11,11 +11,13 @@ use lib.ListN.{length}
 use lib.Dec.{eqb}
 use Rattle.lists.specs.All.{All}
 use Rattle.lists.specs.Tests.{if_then_else_}
+use Rattle.rules.specs.Before.{untold, before}
 use Rattle.rules.specs.Shape.{Shape}
 use Rattle.rules.specs.State.{closed, write}
 use Rattle.rules.specs.Questions.{Ask, opening, request, turn, completion, collect, Call}
 use Rattle.rules.specs.Run.{Outcome, run}
 use Rattle.memory.specs.Fits.{shapeOf}
+use Rattle.client.specs.View.{foundAs}
 use Rattle.tape.specs.Tape.{wordsOf}
 use Rattle.contract.specs.Meets.{callOf, commandOf}
 use Rattle.codec.specs.Codec.{answerOf, stateLength}
@@ -96,17 +98,21 @@ handsOut turn n k buffer = if eqb n 0 && eqb k write then buffer else []
 handsOut (completion c bs) n k buffer = []
 handsOut collect n k buffer = if eqb n 0 then buffer else []
 
--- number, count of words and command are read off the number answered
+-- number, count of words, command, and where a block was found (`foundAs` of crate `client`) are read off the number answered
 abbrev pub outcomeOf : Made → Outcome
 outcomeOf x =
     let r = answerOf (x .answer) (clientIn (x .state′)) in
-    record { number = r .number; taken = r .taken; command = commandOf r; bytes = handsOut (x .ask) (r .number) (r .kind) (x .buffer′) }
+    record { number = r .number; taken = r .taken; command = commandOf r; bytes = handsOut (x .ask) (r .number) (r .kind) (x .buffer′); found = foundAs (r .found) }
 
 -- ---- The claims
 
 -- A run's outcomes are those of the rules, "no more and no fewer". (The rules' open looks at no state before it; `closed` stands for any)
 abbrev pub RulesClaim : Type 0
 RulesClaim = (xs : List Made) → FromOpen xs → map outcomeOf xs ≡ run closed (map callMade xs)
+
+-- Document 02, P2: "Nothing the host is sent may change by it": but for where blocks were found, a run's outcomes are those of document 01's rules
+abbrev pub BeforeClaim : Type 0
+BeforeClaim = (xs : List Made) → FromOpen xs → map untold (map outcomeOf xs) ≡ before closed (map callMade xs)
 
 -- Demand 2: with an honest host, what is collected is a plain array's
 abbrev pub ArrayClaim : Type 0
@@ -154,7 +160,7 @@ CacheClaim = (h : Shape) (e : ℕ) → 1 ≤ e → e < h .N → (m n : ℕ) (ws 
     → map callMade xs ≡ openOver (h .N) h m ws n ∷ cs → map callMade ys ≡ openOver e h m ws n ∷ ds
     → AgreeUntil8 told (map outcomeOf xs) (map outcomeOf ys)
 
--- .. and with the same bytes brought in both, the bytes handed out too
+-- .. and with the same bytes brought in both, the bytes handed out too, and where each block was found
 abbrev pub CacheBytesClaim : Type 0
 CacheBytesClaim = (h : Shape) (e : ℕ) → 1 ≤ e → e < h .N → (m n : ℕ) (ws : List ℕ) (cs : List Call) → NoOpen cs → (xs ys : List Made) → FromOpen xs → FromOpen ys
     → map callMade xs ≡ openOver (h .N) h m ws n ∷ cs → map callMade ys ≡ openOver e h m ws n ∷ cs

@@ -9,7 +9,7 @@ use Rattle.rules.specs.Run.{refuse, refused}
 use Rattle.rules.specs.Shape.{Shape}
 use Rattle.rules.specs.State.{closed}
 use Rattle.rules.specs.Unfold.{model}
-use Rattle.client.specs.View.{stateOf}
+use Rattle.client.specs.View.{stateOf, foundAs}
 use Rattle.contract.specs.Answers.{clearedClient}
 use Rattle.contract.specs.Meets.{Meets, callOf, meets-no, closed-is}
 use Rattle.codec.specs.Codec.{answerOf, stateLength}
@@ -82,5 +82,5 @@ example = record {
 }
 
 pub example-told : map outcomeOf (opened ∷ turned ∷ []) ≡ refused 1 ∷ refused 2 ∷ []
-unfolding refused handsOut
+unfolding refused handsOut foundAs
 example-told = refl

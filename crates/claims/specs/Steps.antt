@@ -2,7 +2,7 @@
 use mathlib.Core.Path.{_≡_, refl, ap, sym, _∙_}
 use mathlib.Core.Bool.{true, false, true≢false}
 use mathlib.Core.List.{List, [], _++_}
-use Prim.Native.Nat.{ℕ, _%_, _≤_, _<_}
+use Prim.Native.Nat.{ℕ, suc, _+_, _%_, _≤_, _<_}
 use native.Mathlib.Omega.{arith}
 use native.Mathlib.Decide.{ℕ-discrete, decLt}
 use lib.ListN.{length}
@@ -13,11 +13,11 @@ use Rattle.rules.specs.Laws.Shapes.{act-shape}
 use Rattle.rules.specs.Memory.{needed}
 use Rattle.rules.specs.Open.{fresh}
 use Rattle.rules.specs.Questions.{Ask, opening, request, turn, completion, collect, Call, ready, questions, firstNo, bounds, number}
-use Rattle.rules.specs.Run.{Outcome, act, step, accepted, refused, refuse, numbersOf, sentCommand, handed}
+use Rattle.rules.specs.Run.{Outcome, perform, act, step, accepted, refused, refuse, numbersOf, sentCommand, handed, handedFound}
 use Rattle.rules.specs.Shape.{Shape}
-use Rattle.rules.specs.State.{State, closed}
+use Rattle.rules.specs.State.{State, Found, foundNowhere, foundCache, foundLevel, foundNumber, closed}
 use Rattle.client.specs.declared.Client.{Client}
-use Rattle.client.specs.View.{stateOf, view}
+use Rattle.client.specs.View.{stateOf, view, foundAs}
 use Rattle.contract.specs.declared.Answer.{Answer}
 use Rattle.contract.specs.Answers.{clearedClient}
 use Rattle.contract.specs.Meets.{Meets, callOf, commandOf, closed-is}
@@ -49,14 +49,24 @@ short-unready s m l = rw (lt-leb (needed (s .shape)) m l)
 -- ---- What is read off an answer
 
 abbrev readOff : Ask → Answer → List ℕ → Outcome
-readOff a r b′ = record { number = r .number; taken = r .taken; command = commandOf r; bytes = handsOut a (r .number) (r .kind) b′ }
+readOff a r b′ = record { number = r .number; taken = r .taken; command = commandOf r; bytes = handsOut a (r .number) (r .kind) b′; found = foundAs (r .found) }
+
+-- the number by which an answer tells where a block was found says just that
+found-again : (x : Found) → foundAs (foundNumber x) ≡ x
+unfolding foundAs foundNumber
+found-again foundNowhere = refl
+found-again foundCache = refl
+found-again (foundLevel ℓ) = let e : ℓ + 2 ≡ suc (suc ℓ) = omega arith in ap foundAs e
 
 meets-outcome : (c : Client) (s : State) (a : Ask) (m tape b : List ℕ) (r : Answer) (m′ b′ : List ℕ) → (number s (callOf a m tape b) ≡ 0 → Whole s) → Meets c s a m tape b r m′ b′
     → readOff a r b′ ≡ step s (callOf a m tape b) .1
-meets-outcome c s a m tape b r m′ b′ w k = λ i. record { number = k .number i; taken = k .taken i; command = k .command i; bytes = bytes i }
+meets-outcome c s a m tape b r m′ b′ w k = λ i. record { number = k .number i; taken = k .taken i; command = k .command i; bytes = bytes i; found = found i }
   where
     o : Outcome
     o = step s (callOf a m tape b) .1
+
+    found : foundAs (r .found) ≡ o .found
+    found = ap foundAs (k .found) ∙ found-again (o .found)
 
     bytes : handsOut a (r .number) (r .kind) b′ ≡ o .bytes
     bytes = (λ i. handsOut a (k .number i) (k .command i .kind) (k .buffer i)) ∙ hands-out s (callOf a m tape b) w b
@@ -74,7 +84,7 @@ module _ (a : Ask) (four : opens a ≡ false) (st m tape b : List ℕ) (u : ℕ)
   abbrev whole : State
   whole = stateOf (clientIn st) (m ++ rest)
 
-  answers : u % 256 ≡ number lent asked
+  answers : u % 32 ≡ number lent asked
   answers = k .meets l .number ∙ step-number lent asked
 
   lent-outcome : readOff a (answerOf u (clientIn st′)) b′ ≡ step lent asked .1
@@ -84,7 +94,7 @@ module _ (a : Ask) (four : opens a ≡ false) (st m tape b : List ℕ) (u : ℕ)
       full z = state-whole (clientIn st) m (ready-long lent (length m) (ready-of lent a (length m) _ (length b) four (accepted-passed lent asked z)))
 
   -- after a refusal
-  refused-state : (u % 256 ≡ 0 → ⊥) → (number whole asked ≡ 0 → ⊥) → stateOf (clientIn st′) (m′ ++ rest) ≡ step whole asked .0
+  refused-state : (u % 32 ≡ 0 → ⊥) → (number whole asked ≡ 0 → ⊥) → stateOf (clientIn st′) (m′ ++ rest) ≡ step whole asked .0
   refused-state z n = rw (k .refused z, k .meets l .refused z .0) (sym (refused-keeps whole asked four n))
 
   -- lent what the shape needs
@@ -92,21 +102,21 @@ module _ (a : Ask) (four : opens a ≡ false) (st m tape b : List ℕ) (u : ℕ)
     lent-is : lent ≡ whole
     lent-is = sym (state-lent (clientIn st) m rest long)
 
-    kept-shape : u % 256 ≡ 0 → stateOf (clientIn st′) m′ .shape ≡ lent .shape
+    kept-shape : u % 32 ≡ 0 → stateOf (clientIn st′) m′ .shape ≡ lent .shape
     unfolding accepted
     kept-shape z = ap (λ (s : State). s .shape) (k .meets l .state)
         ∙ ap (λ (x : State × Outcome). x .0 .shape) (step-accepted lent asked (sym answers ∙ z))
         ∙ act-shape lent a (numbersOf (draws (bounds lent a) (asked .words))) four
 
-    accepted-state : u % 256 ≡ 0 → stateOf (clientIn st′) (m′ ++ rest) ≡ step whole asked .0
+    accepted-state : u % 32 ≡ 0 → stateOf (clientIn st′) (m′ ++ rest) ≡ step whole asked .0
     accepted-state z =
         let e : needed (stateOf (clientIn st′) m′ .shape) ≤ length m′ = omega (arith, ap needed (kept-shape z)) in
         state-lent (clientIn st′) m′ rest e ∙ k .meets l .state ∙ ap (λ s. step s asked .0) lent-is
 
     long-step : (readOff a (answerOf u (clientIn st′)) b′ ≡ step whole asked .1) × (stateOf (clientIn st′) (m′ ++ rest) ≡ step whole asked .0)
-    long-step = (lent-outcome ∙ ap (λ s. step s asked .1) lent-is, go (ℕ-discrete (u % 256) 0))
+    long-step = (lent-outcome ∙ ap (λ s. step s asked .1) lent-is, go (ℕ-discrete (u % 32) 0))
       where
-        go : Dec (u % 256 ≡ 0) → stateOf (clientIn st′) (m′ ++ rest) ≡ step whole asked .0
+        go : Dec (u % 32 ≡ 0) → stateOf (clientIn st′) (m′ ++ rest) ≡ step whole asked .0
         go (yes z) = accepted-state z
         go (no z) = refused-state z (λ n. z (answers ∙ ap (λ s. number s asked) lent-is ∙ n))
 
@@ -139,29 +149,29 @@ module _ (a : Ask) (four : opens a ≡ false) (st m tape b : List ℕ) (u : ℕ)
 
 -- it looks neither at the state nor at a buffer
 open-alone : (s : State) (h : Shape) (m tape b : List ℕ) → step s (callOf (opening h) m tape b) ≡ step closed (callOf (opening h) m tape [])
-unfolding step number questions bounds accepted act refuse sentCommand handed
+unfolding step number questions bounds accepted perform act refuse sentCommand handed handedFound
 open-alone s h m tape b = refl
 
 module _ (h : Shape) (st m tape : List ℕ) (u : ℕ) (st′ m′ rest : List ℕ) (l : length st ≡ stateLength) (same : length m′ ≡ length m) (k : Opened h st m tape u st′ m′) where
   abbrev opened : Call
   opened = callOf (opening h) m tape []
 
-  says : u % 256 ≡ number closed opened
+  says : u % 32 ≡ number closed opened
   says = k .meets l .number ∙ step-number closed opened
 
   open-outcome : (b′ : List ℕ) → readOff (opening h) (answerOf u (clientIn st′)) b′ ≡ step closed opened .1
   unfolding handsOut
   open-outcome b′ = meets-outcome clearedClient closed (opening h) m tape [] (answerOf u (clientIn st′)) m′ [] (λ z b. unfold closed in refl) (k .meets l)
 
-  open-long : u % 256 ≡ 0 → needed h ≤ length m
+  open-long : u % 32 ≡ 0 → needed h ≤ length m
   unfolding questions
   open-long z = leb-true (needed h) (length m) (accepted-passed closed opened (sym says ∙ z) .1 .0)
 
-  open-shape : u % 256 ≡ 0 → stateOf (clientIn st′) m′ .shape ≡ h
-  unfolding accepted act fresh
+  open-shape : u % 32 ≡ 0 → stateOf (clientIn st′) m′ .shape ≡ h
+  unfolding accepted perform act fresh
   open-shape z = ap (λ (s : State). s .shape) (k .meets l .state) ∙ ap (λ (x : State × Outcome). x .0 .shape) (step-accepted closed opened (sym says ∙ z))
 
-  open-state : Dec (u % 256 ≡ 0) → stateOf (clientIn st′) (m′ ++ rest) ≡ step closed opened .0
+  open-state : Dec (u % 32 ≡ 0) → stateOf (clientIn st′) (m′ ++ rest) ≡ step closed opened .0
   open-state (yes z) =
       let e : needed (stateOf (clientIn st′) m′ .shape) ≤ length m′ = omega (arith, ap needed (open-shape z), open-long z) in
       state-lent (clientIn st′) m′ rest e ∙ k .meets l .state
@@ -182,7 +192,7 @@ module _ (x : Made) (rest : List ℕ) (l : length (x .state) ≡ stateLength) (s
   open-steps h c =
       let e = open-alone before h (x .memory) (x .tape) (x .buffer) in (
         open-outcome h (x .state) (x .memory) (x .tape) (x .answer) (x .state′) (x .memory′) rest l same c (x .buffer′) ∙ sym (ap (λ (y : State × Outcome). y .1) e),
-        open-state h (x .state) (x .memory) (x .tape) (x .answer) (x .state′) (x .memory′) rest l same c (ℕ-discrete (x .answer % 256) 0) ∙ sym (ap (λ (y : State × Outcome). y .0) e),
+        open-state h (x .state) (x .memory) (x .tape) (x .answer) (x .state′) (x .memory′) rest l same c (ℕ-discrete (x .answer % 32) 0) ∙ sym (ap (λ (y : State × Outcome). y .0) e),
       )
 
   four-steps : (a : Ask) → opens a ≡ false → Exported a (x .state) (x .memory) (x .tape) (x .buffer) (x .answer) (x .state′) (x .memory′) (x .buffer′) → Steps before rest a x

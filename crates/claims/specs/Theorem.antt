@@ -3,6 +3,7 @@ use mathlib.Core.Path.{_≡_, refl, ap, sym, subst, _∙_}
 use mathlib.Core.List.{List, [], _∷_, _++_, map}
 use Prim.Native.Nat.{ℕ}
 use lib.ListN.{length}
+use Rattle.rules.specs.Before.{untold}
 use Rattle.rules.specs.Laws.Answers.{step-number}
 use Rattle.rules.specs.Questions.{request, number}
 use Rattle.rules.specs.Run.{Outcome, run}
@@ -12,6 +13,7 @@ use Rattle.contract.specs.Meets.{callOf}
 use Rattle.codec.specs.Codec.{stateLength}
 use Rattle.exports.specs.Exported.{clientIn}
 use Rattle.reachable.specs.Reached.{open-first}
+use Rattle.reachable.specs.Theorems.{as-before}
 use Rattle.array.specs.Claim.{Honest, Plain}
 use Rattle.array.specs.Hosts.{at-once}
 use Rattle.array.specs.Served.{served, served-at-once}
@@ -20,7 +22,7 @@ use Rattle.hiding.specs.Claim.{told}
 use Rattle.hiding.specs.Chosen.{chosen-hidden}
 use Rattle.hiding.specs.Names.{only-eight}
 use Rattle.hiding.specs.Theorem.{hidden}
-use Rattle.claims.specs.Claim.{Made, Contract, Called, Runs, Opens, callMade, outcomeOf, RulesClaim, ArrayClaim, ServedClaim, HidingClaim, HonestClaim, ChosenExported, CacheClaim, CacheBytesClaim, NamesClaim}
+use Rattle.claims.specs.Claim.{Made, Contract, Called, Runs, Opens, callMade, outcomeOf, RulesClaim, BeforeClaim, ArrayClaim, ServedClaim, HidingClaim, HonestClaim, ChosenExported, CacheClaim, CacheBytesClaim, NamesClaim}
 use Rattle.claims.specs.Steps.{made-step}
 
 -- from any bytes of state and memory: each call finds the state that the last one left
@@ -40,6 +42,10 @@ from-closed s (x ∷ xs) o = ap (λ (y : State × Outcome). y .1 ∷ run (y .0) 
 
 pub exported-run : RulesClaim
 exported-run xs r = runs-are (r .state) (r .memory) xs (r .runs) ∙ from-closed (stateOf (clientIn (r .state)) (r .memory)) xs (r .opens)
+
+pub exported-before : BeforeClaim
+exported-before [] r = absurd (r .opens)
+exported-before (x ∷ xs) r = ap (map untold) (exported-run (x ∷ xs) r) ∙ as-before closed (callMade x) (r .opens .0) (r .opens .1) (map callMade xs)
 
 -- Demand 2
 pub exported-array : ArrayClaim

@@ -13,11 +13,15 @@ use Rattle.client.specs.View.{view, stateOf}
 
 -- the same request, to go on from level n
 abbrev pub atLevel : ℕ → Request → Request
-atLevel n r = record { kind = r .kind; block = r .block; next = r .next; evict = r .evict; level = n }
+atLevel n r = record { kind = r .kind; block = r .block; next = r .next; evict = r .evict; level = n; found = r .found }
+
+-- the same request, whose block was found where the number n says
+abbrev pub atFound : ℕ → Request → Request
+atFound n r = record { kind = r .kind; block = r .block; next = r .next; evict = r .evict; level = r .level; found = n }
 
 -- no request in hand
 abbrev pub noRequest : Request
-noRequest = record { kind = 0; block = 0; next = 0; evict = 0; level = 0 }
+noRequest = record { kind = 0; block = 0; next = 0; evict = 0; level = 0; found = 0 }
 
 abbrev pub withRequest : Request → Client → Client
 withRequest x c = record { shape = c .shape; request = x; jobs = c .jobs; cursor = c .cursor; sent = c .sent; waiting = c .waiting; out = c .out }

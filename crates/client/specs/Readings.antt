@@ -1,18 +1,35 @@
 -- What the code reads of the client and of the tables is what the state has.
-use mathlib.Core.Path.{_≡_, ap, sym, _∙_}
+use mathlib.Core.Path.{_≡_, refl, ap, sym, _∙_}
+use mathlib.Core.Bool.{true, false}
 use mathlib.Core.List.{List}
 use mathlib.Core.Option.{none, some}
-use Prim.Native.Nat.{ℕ, _^_, _<_}
+use Prim.Native.Nat.{ℕ, zero, suc, _+_, _^_, _<_}
+use native.Mathlib.Omega.{arith}
 use lib.ListN.{length, getD}
 use borrow.Author.Tests.{eq-eqb, ne-eqb, lt-ltb}
+use Rattle.lists.specs.Search.{isNone}
 use Rattle.rules.specs.Shape.{slots}
 use Rattle.rules.specs.State as R
+use Rattle.rules.specs.Request.{held}
 use Rattle.rules.specs.Levels.{trailingOnes, sources}
 use Rattle.memory.specs.Tables.{Tables, tablesOf}
 use Rattle.memory.specs.Fits.{shapeOf, fit}
 use Rattle.client.specs.declared.Client.{Client}
-use Rattle.client.specs.View.{stateOf, view, handBy, requestOf, bytesIn, placeOf}
+use Rattle.client.specs.View.{stateOf, view, foundAs, foundBy, handBy, requestOf, bytesIn, placeOf}
 use Rattle.client.specs.Rows.{length-rows, getD-rows}
+
+-- a number says where a block was found, and back
+pub number-as : (n : ℕ) → R.foundNumber (foundAs n) ≡ n
+unfolding R.foundNumber foundAs
+number-as zero = refl
+number-as (suc zero) = refl
+number-as (suc (suc ℓ)) = omega arith
+
+pub said : (x : R.Found) → foundBy (suc (R.foundNumber x)) ≡ some x
+unfolding foundBy foundAs R.foundNumber
+said R.foundNowhere = refl
+said R.foundCache = refl
+said (R.foundLevel ℓ) = let e : ℓ + 2 ≡ suc (suc ℓ) = omega arith in ap (λ n. some (foundAs n)) e
 
 -- how many jobs are queued, and blocks wait
 module _ (c : Client) (t : Tables) where
@@ -44,6 +61,19 @@ module _ (c : Client) (m : List ℕ) where
   pub hand-some : (c .request .kind ≡ 0 → ⊥) → stateOf c m .request ≡ some handOf
   unfolding stateOf view requestOf
   hand-some n = rw (ne-eqb (c .request .kind) 0 n)
+
+  -- it is held while its number is 0
+  pub hand-held : c .request .found ≡ 0 → held handOf ≡ true
+  unfolding held isNone foundBy
+  hand-held e = ap (λ x. isNone (foundBy x)) e
+
+  pub hand-released : (c .request .found ≡ 0 → ⊥) → held handOf ≡ false
+  unfolding held isNone foundBy
+  hand-released n = go (c .request .found) n
+    where
+      go : (x : ℕ) → (x ≡ 0 → ⊥) → isNone (foundBy x) ≡ false
+      go zero n = absurd (n refl)
+      go (suc x) n = refl
 
   -- numbers of the tables
   pub partition-is : (b p : ℕ) → p ≡ fit (c .shape .p) (tablesOf (shapeOf (c .shape)) m .partition b) → stateOf c m .partition b ≡ p

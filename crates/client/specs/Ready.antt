@@ -20,19 +20,20 @@ use Rattle.rules.specs.State.{read, write, nowhere, stored}
 use Rattle.rules.specs.Ranges.{isKind, bytesOf, inRange}
 use Rattle.rules.specs.Laws.Levels.{levels-pos, partitions-pos}
 use Rattle.rules.specs.Laws.Waiting.{Waits, waits-le, others-room, room-others}
-use Rattle.rules.specs.Laws.Range.{PlaceIn, CommandIn, RequestIn, JobsIn, InRange, range-facts, facts-range}
+use Rattle.rules.specs.Laws.Range.{PlaceIn, FoundIn, CommandIn, RequestIn, JobsIn, InRange, range-facts, facts-range}
 use Rattle.memory.specs.Tables.{Tables}
 use Rattle.memory.specs.Fits.{shapeOf, fit, fit-lt}
 use Rattle.client.specs.declared.Client.{Client}
 use Rattle.client.specs.declared.Request.{Request}
-use Rattle.client.specs.View.{levelOf, placeOf, spotOf, commandBy, handBy, requestOf, rows, view, writeFrom}
+use Rattle.client.specs.View.{levelOf, placeOf, spotOf, commandBy, foundAs, foundBy, handBy, requestOf, rows, view, writeFrom}
 use Rattle.client.specs.Rows.{length-rows}
 use Rattle.client.specs.Readings.{jobs-are, waiting-are}
 use Rattle.client.specs.Changes.{cell-level}
 
 -- the numbers of a request in hand
 unfoldable pub requestFits : Shape → Request → Bool
-requestFits h r = ((((leb 1 (r .kind) && leb (r .kind) 2) && ltb (r .block) (h .N)) && ltb (r .next) (h .P)) && ltb (r .evict) (h .P)) && leb (r .level) (h .L)
+requestFits h r =
+    (((((leb 1 (r .kind) && leb (r .kind) 2) && ltb (r .block) (h .N)) && ltb (r .next) (h .P)) && ltb (r .evict) (h .P)) && leb (r .level) (h .L)) && ltb (r .found) (h .L + 3)
 
 -- with a request in hand at most 62 jobs, and fewer than E blocks besides its own; `waits`: its own is among them
 unfoldable pub handFits : Client → Bool → Bool
@@ -143,12 +144,14 @@ pub record Asked (h : Shape) (r : Request) : Type 0 where
   pub next : r .next < h .P
   pub evict : r .evict < h .P
   pub level : r .level ≤ h .L
+  pub found : r .found < h .L + 3
 
 pub asked-facts : (h : Shape) (r : Request) → requestFits h r ≡ true → Asked h r
 unfolding requestFits
 asked-facts h r e =
     let k = leb 1 (r .kind) && leb (r .kind) 2 in
-    let a = and-l (((k && ltb (r .block) (h .N)) && ltb (r .next) (h .P)) && ltb (r .evict) (h .P)) (leb (r .level) (h .L)) e in
+    let g = and-l ((((k && ltb (r .block) (h .N)) && ltb (r .next) (h .P)) && ltb (r .evict) (h .P)) && leb (r .level) (h .L)) (ltb (r .found) (h .L + 3)) e in
+    let a = and-l (((k && ltb (r .block) (h .N)) && ltb (r .next) (h .P)) && ltb (r .evict) (h .P)) (leb (r .level) (h .L)) g in
     let b = and-l ((k && ltb (r .block) (h .N)) && ltb (r .next) (h .P)) (ltb (r .evict) (h .P)) a in
     let d = and-l (k && ltb (r .block) (h .N)) (ltb (r .next) (h .P)) b in
     let f = and-l k (ltb (r .block) (h .N)) d in
@@ -158,12 +161,30 @@ asked-facts h r e =
       block = ltb-true _ _ (and-r k (ltb (r .block) (h .N)) d);
       next = ltb-true _ _ (and-r (k && ltb (r .block) (h .N)) (ltb (r .next) (h .P)) b);
       evict = ltb-true _ _ (and-r ((k && ltb (r .block) (h .N)) && ltb (r .next) (h .P)) (ltb (r .evict) (h .P)) a);
-      level = leb-true _ _ (and-r (((k && ltb (r .block) (h .N)) && ltb (r .next) (h .P)) && ltb (r .evict) (h .P)) (leb (r .level) (h .L)) e);
+      level = leb-true _ _ (and-r (((k && ltb (r .block) (h .N)) && ltb (r .next) (h .P)) && ltb (r .evict) (h .P)) (leb (r .level) (h .L)) g);
+      found = ltb-true _ _ (and-r ((((k && ltb (r .block) (h .N)) && ltb (r .next) (h .P)) && ltb (r .evict) (h .P)) && leb (r .level) (h .L)) (ltb (r .found) (h .L + 3)) e);
     }
 
 facts-asked : (h : Shape) (r : Request) → Asked h r → requestFits h r ≡ true
 unfolding requestFits
-facts-asked h r f = and-true (and-true (and-true (and-true (and-true (le-leb _ _ (f .some)) (le-leb _ _ (f .kind))) (lt-ltb _ _ (f .block))) (lt-ltb _ _ (f .next))) (lt-ltb _ _ (f .evict))) (le-leb _ _ (f .level))
+facts-asked h r f =
+    and-true (and-true (and-true (and-true (and-true (and-true (le-leb _ _ (f .some)) (le-leb _ _ (f .kind))) (lt-ltb _ _ (f .block))) (lt-ltb _ _ (f .next))) (lt-ltb _ _ (f .evict)))
+    (le-leb _ _ (f .level))) (lt-ltb _ _ (f .found))
+
+-- a number says where a block was found exactly if it is below L + 3
+found-range : (top n : ℕ) → n < top + 3 → FoundIn top (foundBy n)
+unfolding foundBy foundAs
+found-range top zero l = tt
+found-range top (suc zero) l = tt
+found-range top (suc (suc zero)) l = tt
+found-range top (suc (suc (suc ℓ))) l = omega arith
+
+pub range-found : (top n : ℕ) → FoundIn top (foundBy n) → n < top + 3
+unfolding foundBy foundAs
+range-found top zero f = omega arith
+range-found top (suc zero) f = omega arith
+range-found top (suc (suc zero)) f = omega arith
+range-found top (suc (suc (suc ℓ))) f = omega (arith, f)
 
 -- ---- The question
 
@@ -209,6 +230,7 @@ module _ (c : Client) (t : Tables) (w : within (shapeOf (c .shape)) ≡ true) (f
               next = a .next;
               evict = a .evict;
               level = a .level;
+              found = found-range (h .L) (c .request .found) (a .found);
             },
             omega (arith, jobs-are c t, j),
             (omega (arith, waiting-are c t), others-room (h .E) (c .request .block) (view c t .waiting) (omega (arith, waiting-are c t)) (room-is y)),
@@ -233,6 +255,7 @@ module _ (c : Client) (t : Tables) (w : within (shapeOf (c .shape)) ≡ true) (f
             next = f .0 .next;
             evict = f .0 .evict;
             level = f .0 .level;
+            found = range-found (h .L) (c .request .found) (f .0 .found);
           } in
           and-true (and-true (facts-asked h (c .request) a) (le-leb (c .jobs) 62 (omega (arith, jobs-are c t, f .1)))) (room-is (room-others (h .E) (c .request .block) (view c t .waiting) (f .2 .1)))
         where

@@ -43,9 +43,20 @@ commandBy h a x =
 unfoldable pub levelAt : Shape → ℕ → ℕ
 levelAt h x = levelOf (h .L) (x % slots (h .L))
 
+-- where a block was found, by the number by which an answer tells it; of a request, by its own number: 0 while it is held, and then one more
+unfoldable pub foundAs : ℕ → R.Found
+foundAs zero = R.foundNowhere
+foundAs (suc zero) = R.foundCache
+foundAs (suc (suc ℓ)) = R.foundLevel ℓ
+
+unfoldable pub foundBy : ℕ → Option R.Found
+foundBy zero = none
+foundBy (suc n) = some (foundAs n)
+
 -- a request in hand, with these contents if it is a write; of kind 0 there is none
 abbrev pub handBy : Request → List ℕ → R.Request
-handBy r bs = record { kind = r .kind; block = r .block; bytes = if eqb (r .kind) write then bs else []; next = r .next; evict = r .evict; level = r .level }
+handBy r bs =
+    record { kind = r .kind; block = r .block; bytes = if eqb (r .kind) write then bs else []; next = r .next; evict = r .evict; level = r .level; found = foundBy (r .found) }
 
 unfoldable pub requestOf : Request → List ℕ → Option R.Request
 requestOf r bs = if eqb (r .kind) 0 then none else some (handBy r bs)

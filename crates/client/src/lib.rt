@@ -9,13 +9,15 @@ pub const READ: usize = 1;
 
 pub const WRITE: usize = 2;
 
-// A request in hand, of one of these kinds; or none, of kind 0. The contents of a write are block N of the memory.
+// A request in hand, of one of these kinds; or none, of kind 0. The contents of a write are block N of the memory. While it is held, `found` is 0;
+// then it is one more than the number by which a collect tells where the block was found.
 pub struct Request {
     pub kind: usize,
     pub block: usize,
     pub next: usize,
     pub evict: usize,
     pub level: usize,
+    pub found: usize,
 }
 
 // How many jobs are queued, blocks wait and commands are outstanding; how far the front job is.
@@ -53,6 +55,7 @@ impl Request {
             next: 0,
             evict: 0,
             level: 0,
+            found: 0,
         }
     }
 }

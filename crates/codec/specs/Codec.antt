@@ -10,24 +10,24 @@ use Rattle.memory.specs.Words.{wordAt, setWord, word-same, word-other}
 use Rattle.memory.specs.declared.Shape.{Shape}
 use Rattle.client.specs.declared.Client.{Client}
 use Rattle.client.specs.declared.Request.{Request}
-use Rattle.client.specs.Moves.{atLevel}
+use Rattle.client.specs.Moves.{atLevel, atFound}
 use Rattle.contract.specs.declared.Answer.{Answer}
 
--- The state lies in 64 bytes
+-- The state lies in 68 bytes
 abbrev pub stateLength : ℕ
-stateLength = 64
+stateLength = 68
 
 -- the client that they say. Number k is word 2k: four bytes for each number, of which the first two are used, so that the compiler reads each as it
 -- was stored and not several at once
 abbrev pub clientOf : (ℕ → ℕ) → Client
 clientOf w = record {
   shape = record { n = w 0; p = w 2; l = w 4; b = w 6; e = w 8; w = w 10 };
-  request = record { kind = w 12; block = w 14; next = w 16; evict = w 18; level = w 20 };
-  jobs = w 22;
-  cursor = w 24;
-  sent = w 26;
-  waiting = w 28;
-  out = w 30;
+  request = record { kind = w 12; block = w 14; next = w 16; evict = w 18; level = w 20; found = w 22 };
+  jobs = w 24;
+  cursor = w 26;
+  sent = w 28;
+  waiting = w 30;
+  out = w 32;
 }
 
 -- words with six numbers from number k on
@@ -42,9 +42,9 @@ withShape h w = withSix 0 (h .n) (h .p) (h .l) (h .b) (h .e) (h .w) w
 abbrev pub withAsked : Request → (ℕ → ℕ) → ℕ → ℕ
 withAsked r w = put 18 (r .evict % 65536) (put 16 (r .next % 65536) (put 14 (r .block % 65536) (put 12 (r .kind % 65536) w)))
 
--- words with the numbers that tell how far a client is, and with all but its shape
+-- words with the numbers that tell how far a client is and where its request's block was found; with all but its shape
 abbrev pub withProgress : Client → (ℕ → ℕ) → ℕ → ℕ
-withProgress c w = withSix 10 (c .request .level) (c .jobs) (c .cursor) (c .sent) (c .waiting) (c .out) w
+withProgress c w = withSix 11 (c .request .found) (c .jobs) (c .cursor) (c .sent) (c .waiting) (c .out) (put 20 (c .request .level % 65536) w)
 
 abbrev pub withRest : Client → (ℕ → ℕ) → ℕ → ℕ
 withRest c w = withProgress c (withAsked (c .request) w)
@@ -54,7 +54,8 @@ abbrev pub lowShape : Shape → Shape
 lowShape h = record { n = h .n % 65536; p = h .p % 65536; l = h .l % 65536; b = h .b % 65536; e = h .e % 65536; w = h .w % 65536 }
 
 abbrev pub lowRequest : Request → Request
-lowRequest r = record { kind = r .kind % 65536; block = r .block % 65536; next = r .next % 65536; evict = r .evict % 65536; level = r .level % 65536 }
+lowRequest r =
+    record { kind = r .kind % 65536; block = r .block % 65536; next = r .next % 65536; evict = r .evict % 65536; level = r .level % 65536; found = r .found % 65536 }
 
 abbrev pub lowClient : Client → Client
 lowClient c = record {
@@ -71,11 +72,11 @@ lowClient c = record {
 abbrev pub reshaped : Shape → Client → Client
 reshaped h c = record { shape = h; request = c .request; jobs = c .jobs; cursor = c .cursor; sent = c .sent; waiting = c .waiting; out = c .out }
 
--- how far d is, with what c's request asks for and c's shape
+-- how far d is and where its request's block was found, with what c's request asks for and c's shape
 abbrev pub progressed : Client → Client → Client
 progressed c d = record {
   shape = c .shape;
-  request = atLevel (d .request .level) (c .request);
+  request = atFound (d .request .found) (atLevel (d .request .level) (c .request));
   jobs = d .jobs;
   cursor = d .cursor;
   sent = d .sent;
@@ -107,7 +108,7 @@ between-six : (k a b c d e f : ℕ) (w w′ : ℕ → ℕ) → Between w w′ �
 between-six k a b c d e f w w′ h = between (k + 5) _ w _ (between (k + 4) _ w _ (between (k + 3) _ w _ (between (k + 2) _ w _ (between (k + 1) _ w _ (between k _ w w′ h)))))
 
 pub between-progress : (c : Client) (w w′ : ℕ → ℕ) → Between w w′ → Between w (withProgress c w′)
-between-progress c w w′ h = between-six 10 (c .request .level) (c .jobs) (c .cursor) (c .sent) (c .waiting) (c .out) w w′ h
+between-progress c w w′ h = between-six 11 (c .request .found) (c .jobs) (c .cursor) (c .sent) (c .waiting) (c .out) w _ (between 10 _ w w′ h)
 
 pub between-rest : (c : Client) (w w′ : ℕ → ℕ) → Between w w′ → Between w (withRest c w′)
 between-rest c w w′ h = between-progress c w _ (between 9 _ w _ (between 8 _ w _ (between 7 _ w _ (between 6 _ w w′ h))))
@@ -117,16 +118,19 @@ between-shape h w = between-six 0 (h .n) (h .p) (h .l) (h .b) (h .e) (h .w) w w 
 
 -- the answer as a number, and back
 abbrev pub packed : Answer → ℕ
-packed r = (r .number % 256 + 256 * (r .kind % 256) + 65536 * (r .partition % 256) + 16777216 * (r .level % 256)) + 4294967296 * (r .slot % 65536 + 65536 * (r .taken % 65536))
+packed r =
+    (r .number % 32 + 32 * (r .kind % 4) + 128 * (r .partition % 64) + 8192 * (r .level % 16) + 131072 * (r .slot % 2048) + 268435456 * (r .found % 16))
+    + 4294967296 * (r .taken % 4294967296)
 
 abbrev pub answerOf : ℕ → Client → Answer
 answerOf u c = record {
-  number = u % 256;
-  taken = u / 281474976710656;
-  kind = u / 256 % 256;
-  partition = u / 65536 % 256;
-  level = u / 16777216 % 256;
-  slot = u / 4294967296 % 65536;
+  number = u % 32;
+  taken = u / 4294967296;
+  kind = u / 32 % 4;
+  partition = u / 128 % 64;
+  level = u / 8192 % 16;
+  slot = u / 131072 % 2048;
+  found = u / 268435456 % 16;
   client = c;
 }
 

@@ -1,4 +1,4 @@
-// The client's state as 64 bytes, and an answer as one number.
+// The client's state as 68 bytes, and an answer as one number.
 use client::Client;
 use client::Request;
 use contract::Answer;
@@ -11,18 +11,18 @@ ghost use Rattle.memory.specs.Words.{wordAt};
 ghost use Rattle.codec.specs.Codec.{stateLength, clientOf, withSix, withShape, withAsked, withProgress, withRest, packed};
 
 // The bytes of a state.
-pub const STATE: usize = 64;
+pub const STATE: usize = 68;
 
 // Number k of the state.
 fn number(s: &[u8], k: usize) -> usize
-    requires { ⌜ (length (now s) ≡ stateLength) × (k < 16) ⌝ }
+    requires { ⌜ (length (now s) ≡ stateLength) × (k < 17) ⌝ }
     ensures { λ r. ⌜ r ≡ wordAt (now (s .entry)) (k * 2) ⌝ }
 {
     memory::word(s, k * 2)
 }
 
 fn set_number(s: &mut [u8], k: usize, v: usize)
-    requires { ⌜ (length (now s) ≡ stateLength) × (k < 16) ⌝ }
+    requires { ⌜ (length (now s) ≡ stateLength) × (k < 17) ⌝ }
     ensures { λ _. ⌜ wordAt (now (s .exit)) ≡ putAt (k * 2) (v % 65536) (wordAt (now (s .entry))) ⌝ }
 {
     memory::set_word(s, k * 2, v % 65536);
@@ -30,7 +30,7 @@ fn set_number(s: &mut [u8], k: usize, v: usize)
 
 // Stores six numbers from number k on. It takes plain numbers, since a struct lies in memory where this is a call.
 fn set_six(s: &mut [u8], k: usize, a: usize, b: usize, c: usize, d: usize, e: usize, f: usize)
-    requires { ⌜ (length (now s) ≡ stateLength) × (k ≤ 10) ⌝ }
+    requires { ⌜ (length (now s) ≡ stateLength) × (k ≤ 11) ⌝ }
     ensures { λ _. ⌜ wordAt (now (s .exit)) ≡ withSix k a b c d e f (wordAt (now (s .entry))) ⌝ }
 {
     set_number(s, k, a);
@@ -65,6 +65,7 @@ fn request(s: &[u8]) -> Request
         next: number(s, 8),
         evict: number(s, 9),
         level: number(s, 10),
+        found: number(s, 11),
     }
 }
 
@@ -75,11 +76,11 @@ pub fn decode(s: &[u8]) -> Client
     Client {
         shape: shape(s),
         request: request(s),
-        jobs: number(s, 11),
-        cursor: number(s, 12),
-        sent: number(s, 13),
-        waiting: number(s, 14),
-        out: number(s, 15),
+        jobs: number(s, 12),
+        cursor: number(s, 13),
+        sent: number(s, 14),
+        waiting: number(s, 15),
+        out: number(s, 16),
     }
 }
 
@@ -101,15 +102,16 @@ fn put_request(s: &mut [u8], r: Request)
     set_number(s, 9, r.evict);
 }
 
-// Stores how far the client is: all that a turn or a completion changes.
+// Stores how far the client is, and where its request's block was found: all that a turn or a completion changes.
 pub fn encode_progress(s: &mut [u8], c: Client)
     requires { ⌜ length (now s) ≡ stateLength ⌝ }
     ensures { λ _. ⌜ wordAt (now (s .exit)) ≡ withProgress c (wordAt (now (s .entry))) ⌝ }
 {
+    set_number(s, 10, c.request.level);
     set_six(
         s,
-        10,
-        c.request.level,
+        11,
+        c.request.found,
         c.jobs,
         c.cursor,
         c.sent,
@@ -135,14 +137,16 @@ pub fn encode(s: &mut [u8], c: Client)
     encode_rest(s, c);
 }
 
-// The number in the lowest byte, then kind, partition and level, a byte each, then the slot and the words taken, two bytes each.
+// From the lowest bit on: the number in 5 bits, the kind in 2, the partition in 6, the level in 4, the slot in 11 and where a block was found in 4;
+// the words taken in the upper 32.
 pub fn pack(r: Answer) -> u64
     ensures { λ u. ⌜ u ≡ packed r ⌝ }
 {
-    let low = r.number % 256
-        + 256 * (r.kind % 256)
-        + 65536 * (r.partition % 256)
-        + 16777216 * (r.level % 256);
-    let high = r.slot % 65536 + 65536 * (r.taken % 65536);
-    (low + 4294967296 * high) as u64
+    let low = r.number % 32
+        + 32 * (r.kind % 4)
+        + 128 * (r.partition % 64)
+        + 8192 * (r.level % 16)
+        + 131072 * (r.slot % 2048)
+        + 268435456 * (r.found % 16);
+    (low + 4294967296 * (r.taken % 4294967296)) as u64
 }

@@ -2,8 +2,8 @@
 use mathlib.Core.Path.{_≡_, refl, ap, sym, _∙_, subst}
 use mathlib.Core.Bool.{true, false, not, _&&_, true≢false}
 use mathlib.Core.List.{List, [], _∷_, _++_, append-assoc}
-use mathlib.Core.Option.{Option, none, some}
-use Prim.Native.Nat.{ℕ, suc, _+_, _-_, _*_, _≤_, _<_}
+use mathlib.Core.Option.{Option, none, some, Option·getD}
+use Prim.Native.Nat.{ℕ, zero, suc, _+_, _-_, _*_, _≤_, _<_}
 use native.Mathlib.Omega.{arith}
 use lib.ListN.{length, replicate}
 use lib.Dec.{eqb}
@@ -14,27 +14,32 @@ use Rattle.lists.specs.Search.{any, member, keep, count}
 use Rattle.lists.specs.Tables.{put}
 use Rattle.rules.specs.Shape.{Shape, slots, cell}
 use Rattle.rules.specs.State as R
-use Rattle.rules.specs.State.{State, Command, write, nowhere}
+use Rattle.rules.specs.State.{State, Command, write, nowhere, foundNowhere, foundNumber}
 use Rattle.rules.specs.Setters.{_▷_, setPartition, setPlace, setBytes, setWaiting, setHolds, setQueue, setRequest}
 use Rattle.rules.specs.Ranges.{others}
 use Rattle.rules.specs.Levels.{filled}
 use Rattle.rules.specs.Blocks.{isNowhere, zeros, contents}
-use Rattle.rules.specs.Request.{held, levelsLeft}
-use Rattle.rules.specs.Collect.{finished, emptied, finish, collected, answer}
+use Rattle.rules.specs.Request.{held, levelsLeft, release}
+use Rattle.rules.specs.Collect.{finished, emptied, finish, collected, answer, carried}
 use Rattle.rules.specs.Questions.{collect, Call, inHand, questions, number}
 use Rattle.rules.specs.Laws.Answers.{accepted-passed}
 use Rattle.rules.specs.Laws.Waiting.{Waits}
 use Rattle.memory.specs.Tables.{Tables, tablesOf, withBlocks, withHolds, withPlace, withPartition}
 use Rattle.memory.specs.Fits.{shapeOf}
 use Rattle.client.specs.declared.Client.{Client}
-use Rattle.client.specs.View.{stateOf, view, requestOf, placeOf, levelOf}
-use Rattle.client.specs.Readings.{handOf, hand-none, hand-some}
+use Rattle.client.specs.View.{stateOf, view, foundBy, requestOf, placeOf, levelOf}
+use Rattle.client.specs.Readings.{handOf, hand-none, hand-some, hand-held, number-as}
 use Rattle.client.specs.Changes.{view-bytes, view-holds, view-place, view-partition, place-nowhere, level-le, nowhere-is}
 use Rattle.client.specs.Ready.{Asked}
 use Rattle.client.specs.Moves.{noRequest, withRequest, withWaiting, withJobs, Room, Stands, stands, then as next}
 use Rattle.tape.specs.Tape.{wordsOf}
 use Rattle.contract.specs.Meets.{handedTo}
 use Rattle.ready.specs.Usable.{Usable, usable}
+
+-- a held request is not finished
+pub unfinished-held : (s : State) (r : R.Request) → held r ≡ true → finished s r ≡ false
+unfolding finished
+unfinished-held s r h = rw h
 
 -- the call, by the length of its buffer
 abbrev pub callWith : List ℕ → ℕ → Call
@@ -102,6 +107,7 @@ module _ (c : Client) (m : List ℕ) where
   -- where the number is 0, all answers are yes
   pub record Passed (len : ℕ) : Type 0 where
     pub some : c .request .kind ≡ 0 → ⊥
+    pub free : c .request .found ≡ 0 → ⊥
     pub hand : Hand c m
     pub size : len ≡ c .shape .b
 
@@ -110,12 +116,21 @@ module _ (c : Client) (m : List ℕ) where
   collect-passed len e =
       let y = accepted-passed (stateOf c m) (callWith m len) e in
       let some : c .request .kind ≡ 0 → ⊥ = λ z. true≢false (sym (y .1 .0) ∙ asked-none z) in
-      record { some = some; hand = hand (usable c m (y .0)) some; size = eqb-true len (stateOf c m .shape .B) (y .1 .1 .1 .0) ∙ size-is }
+      let done : finished (stateOf c m) (handOf c m) ≡ true = sym (asked-finished some) ∙ y .1 .1 .0 in
+      record { some = some; free = λ z. true≢false (sym done ∙ unfinished-held (stateOf c m) (handOf c m) (hand-held c m z)); hand = hand (usable c m (y .0)) some; size = eqb-true len (stateOf c m .shape .B) (y .1 .1 .1 .0) ∙ size-is }
 
   -- what the accepted call leaves and hands out
-  pub collected-is : (c .request .kind ≡ 0 → ⊥) → collected (stateOf c m .request) (stateOf c m) ≡ finish (handOf c m) (stateOf c m)
-  unfolding collected
-  collected-is n = ap (λ o. collected o (stateOf c m)) (hand-some c m n)
+  pub collected-is : (c .request .kind ≡ 0 → ⊥) → release (collected (stateOf c m .request) (stateOf c m)) ≡ finish (handOf c m) (stateOf c m)
+  unfolding collected finish
+  collected-is n = ap (λ o. release (collected o (stateOf c m))) (hand-some c m n)
+
+  pub found-is : (c .request .kind ≡ 0 → ⊥) → (c .request .found ≡ 0 → ⊥) → c .request .found - 1 ≡ foundNumber (carried (stateOf c m .request))
+  unfolding carried foundBy
+  found-is n f = go (c .request .found) f ∙ sym (ap (λ o. foundNumber (carried o)) (hand-some c m n))
+    where
+      go : (x : ℕ) → (x ≡ 0 → ⊥) → x - 1 ≡ foundNumber (Option·getD (foundBy x) foundNowhere)
+      go zero f = absurd (f refl)
+      go (suc x) f = let e : suc x - 1 ≡ x = omega arith in e ∙ sym (number-as x)
 
   pub answer-is : (xs ys : List ℕ) → (c .request .kind ≡ 0 → ⊥) → ys ≡ contents (stateOf c m) (c .request .block) → 1 ≤ length ys → ys ≡ handedTo xs (answer (stateOf c m) (stateOf c m .request))
   unfolding answer
@@ -124,22 +139,18 @@ module _ (c : Client) (m : List ℕ) where
 -- ---- Whether it is finished
 
 module _ (s : State) (r : R.Request) (p : ℕ) (e : s .partition (r .block) ≡ p) where
-  pub unfinished-held : member p (s .queue) ≡ true → finished s r ≡ false
-  unfolding finished held
-  unfinished-held h = rw (e, h)
-
-  module _ (h : member p (s .queue) ≡ false) (x : ℕ) (k : s .counter p ≡ x) where
+  module _ (h : held r ≡ false) (x : ℕ) (k : s .counter p ≡ x) where
     left-is : levelsLeft s r ≡ keep (filled x) (count (r .level) (s .shape .L - r .level))
     unfolding levelsLeft
     left-is = rw (e, k)
 
     pub unfinished-reads : (ℓ : ℕ) (ls : List ℕ) → keep (filled x) (count (r .level) (s .shape .L - r .level)) ≡ ℓ ∷ ls → finished s r ≡ false
-    unfolding finished held
-    unfinished-reads ℓ ls f = rw (e, h, left-is, f, ne-eqb (suc (length ls)) 0 (λ z. omega arith))
+    unfolding finished
+    unfinished-reads ℓ ls f = rw (h, left-is, f, ne-eqb (suc (length ls)) 0 (λ z. omega arith))
 
     pub finished-sent : keep (filled x) (count (r .level) (s .shape .L - r .level)) ≡ [] → finished s r ≡ not (any (λ (c : Command). eqb (c .partition) p) (s .outstanding))
-    unfolding finished held
-    finished-sent f = rw (e, h, left-is, f)
+    unfolding finished
+    finished-sent f = rw (h, left-is, f, e)
 
 -- ---- What is handed out
 

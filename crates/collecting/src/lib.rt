@@ -23,11 +23,11 @@ fn is_finished(c: Client, m: &[u8]) -> bool
     requires { ⌜ Hand c (now m) ⌝ }
     ensures { λ r. ⌜ r ≡ finished (stateOf c (now (m .entry))) (handOf c (now (m .entry))) ⌝ }
 {
-    let levels = c.shape.l;
-    let p = memory::tables::partition(c.shape, m, c.request.block);
-    if jobs::is_queued(c, m, p) {
+    if c.request.found == 0 {
         return false;
     }
+    let levels = c.shape.l;
+    let p = memory::tables::partition(c.shape, m, c.request.block);
     let counter = memory::tables::counter(c.shape, m, p);
     if levels::next_filled(levels, counter, c.request.level) < levels {
         return false;
@@ -147,5 +147,5 @@ pub fn collect(c: Client, m: &mut [u8], buffer: &mut [u8]) -> Answer
     }
     hand_out(c, m, buffer);
     let d = finish(c, m, buffer);
-    contract::accepted(d, 0)
+    contract::collected(d, c.request.found - 1)
 }

@@ -3,7 +3,7 @@ use mathlib.Core.Path.{_≡_, refl, ap, sym, _∙_, subst}
 use mathlib.Core.Bool.{Bool, true, false, not, _&&_, true≢false}
 use mathlib.Core.Logic.{_⊎_, inl, inr}
 use mathlib.Core.List.{List, [], _∷_}
-use mathlib.Core.Option.{some}
+use mathlib.Core.Option.{Option, some}
 use Prim.Native.Nat.{ℕ, zero, suc, _+_, _-_, _^_, _≤_, _<_, min}
 use native.Mathlib.Omega.{arith}
 use lib.ListN.{length}
@@ -14,7 +14,8 @@ use Rattle.lists.specs.Search.{any, without, below, count}
 use Rattle.lists.specs.All.{All, nil, cons}
 use Rattle.lists.specs.Tables.{put}
 use Rattle.rules.specs.Shape.{Shape, cell}
-use Rattle.rules.specs.State.{Command, cmd, read, write}
+use Rattle.rules.specs.State as R
+use Rattle.rules.specs.State.{Command, cmd, read, write, foundNumber}
 use Rattle.rules.specs.Setters.{setOutstanding, setQueue, setCounter, setCursor, setSent}
 use Rattle.rules.specs.Ranges.{isKind}
 use Rattle.rules.specs.Levels.{sources, target, grown, trailingOnes}
@@ -22,8 +23,10 @@ use Rattle.rules.specs.Blocks.{holder, named}
 use Rattle.rules.specs.Completion.{isCommand, completed, gatherBytes, completeRead, jobDone, endJob, finishJob, completeWrite, complete}
 use Rattle.rules.specs.Draws.{draws}
 use Rattle.rules.specs.Questions.{completion, ready, bounds, questions, firstNo, number}
-use Rattle.rules.specs.Run.{act, refuse, sentCommand, handed, takenOf, numbersOf}
+use Rattle.rules.specs.Run.{act, perform, refuse, sentCommand, handed, handedFound, takenOf, numbersOf}
 use Rattle.rules.specs.Laws.Range.{CommandIn}
+use Rattle.rules.specs.Laws.Kept.{complete-in}
+use Rattle.rules.specs.Laws.Shapes.{complete-keeps}
 use Rattle.memory.specs.Tables.{tablesOf, withBlocks, withCounter}
 use Rattle.memory.specs.Fits.{shapeOf, fit, fit-lt}
 use Rattle.client.specs.declared.Client.{Client}
@@ -34,6 +37,7 @@ use Rattle.client.specs.Moves.{Room, Stands, stands, then as next, withJobs, wi
 use Rattle.contract.specs.Answers.{refusedWith}
 use Rattle.contract.specs.Meets.{Meets, callOf, meets-no, meets-yes}
 use Rattle.ready.specs.Usable.{usable}
+use Rattle.releasing.specs.Released.{Held, Released, released-stands, held-of}
 use Rattle.jobs.specs.Queue.{jobsIn, queue-is}
 use Rattle.commands.specs.Outstanding.{OutstandingAt, ofKind}
 use Rattle.commands.specs.Commands.{outstanding-is}
@@ -71,17 +75,18 @@ module _ (c : Client) (m : List ℕ) (d : Command) (bs : List ℕ) where
       passed e = rw (r, a, eq-eqb (length bs) (wanted c d) e)
 
       -- all answers are yes, and the act leaves the rules' state
-      pub yes : (c′ : Client) (m′ : List ℕ) → length bs ≡ wanted c d → c′ .request ≡ c .request → Stands c′ m m′ (complete d bs (stateOf c m)) → Meets c (stateOf c m) (completion d bs) m [] [] (refusedWith 0 c′) m′ []
-      unfolding bounds draws takenOf numbersOf act sentCommand handed stateOf view
-      yes c′ m′ e k s = meets-yes c (stateOf c m) (completion d bs) m [] [] (refusedWith 0 c′) m′ [] (record {
-        yes = passed e;
+      pub yes : (e c′ : Client) (m′ : List ℕ) → length bs ≡ wanted c d → e .request ≡ c .request → Stands e m m′ (complete d bs (stateOf c m)) → Released e m′ c′ → Meets c (stateOf c m) (completion d bs) m [] [] (refusedWith 0 c′) m′ []
+      unfolding bounds draws takenOf numbersOf act perform sentCommand handed handedFound foundNumber stateOf view
+      yes e c′ m′ l k s f = let x = released-stands s f in meets-yes c (stateOf c m) (completion d bs) m [] [] (refusedWith 0 c′) m′ [] (record {
+        yes = passed l;
         number = refl;
         taken = refl;
         command = refl;
-        state = s .state;
-        idle = λ _. k;
+        found = refl;
+        state = x .state;
+        idle = λ z. ap (λ (y : Client). y .request) (f .idle z) ∙ k;
         buffer = refl;
-        tail = s .tail;
+        tail = x .tail;
       })
 
 -- ---- The command
@@ -116,6 +121,13 @@ pub record Completes (c : Client) (m : List ℕ) (d : Command) (bs : List ℕ) (
   pub gone : without (isCommand d) (stateOf c m .outstanding) ≡ dropAt j (stateOf c m .outstanding)
   pub range : CommandIn (shapeOf (c .shape)) d
   pub long : length bs ≡ wanted c d
+
+-- a request may be released then
+pub may-release : (c d : Client) (m m′ : List ℕ) (x : Command) (bs : List ℕ) → (ready (stateOf c m) (length m) && isKind (x .kind)) ≡ true → length m′ ≡ length m → Stands d m m′ (complete x bs (stateOf c m)) → Held d m′
+may-release c d m m′ x bs r l s =
+    let u = usable c m (and-l (ready (stateOf c m) (length m)) (isKind (x .kind)) r) in
+    let h : complete x bs (stateOf c m) .shape ≡ stateOf c m .shape = ap (λ (y : Shape × Option R.Request). y .0) (complete-keeps (stateOf c m) x bs) in
+    held-of c d m m′ (complete x bs (stateOf c m)) (u .room) l (s .state) (h ∙ (unfold stateOf view in refl)) (complete-in (stateOf c m) (u .range) x bs)
 
 -- what the search for it asks
 pub begins : (c : Client) (m : List ℕ) (kind : ℕ) → (ready (stateOf c m) (length m) && isKind kind) ≡ true → Room c m × (c .out ≤ 32) × (1 ≤ kind) × (kind ≤ 2)

@@ -137,5 +137,6 @@ pub fn completion(
         return contract::refused(12, c);
     }
     let d = complete(c, m, j, kind, partition, level, slot, bytes);
-    contract::accepted(d, 0)
+    let e = releasing::release(d, m);
+    contract::accepted(e, 0)
 }

@@ -22,7 +22,8 @@ use Rattle.rules.specs.Memory.{needed}
 use Rattle.rules.specs.Questions.{Ask, opening, request, turn, completion, collect, ready, questions, inHand}
 use Rattle.rules.specs.Ranges.{isKind}
 use Rattle.rules.specs.Rebuild.{doRebuild}
-use Rattle.rules.specs.Run.{act}
+use Rattle.rules.specs.Request.{release}
+use Rattle.rules.specs.Run.{act, perform}
 use Rattle.rules.specs.State.{State, Request}
 use Rattle.rules.specs.Turn.{Step, idle, noDummy, readForRequest, readForJob, rebuild, writeNext, decide, doStep, markRead, send}
 use Rattle.memory.specs.Blocks.{blockStart, blockTable, block-is, block-past}
@@ -97,8 +98,8 @@ some-byte s m e = fits (s .shape) m (given-in s m e .shape) (ready-long s m e) .
 
 -- what a turn writes, and what a collect answers
 pub written-some : (s : State) (m : ℕ) → Whole s → ready s m ≡ true → (js : List ℕ) (o : Option ℕ) → 1 ≤ length (slotBytes (act s turn js) o)
-unfolding act
-written-some s m w e js o = let x = turn-whole s w (decide s) js in omega (arith, slot-length (doStep (decide s) js s) (x .0) o, x .1, some-byte s m e)
+unfolding act perform
+written-some s m w e js o = let x = turn-whole s w (decide s) js in omega (arith, slot-length (release (doStep (decide s) js s)) (x .0) o, x .1, some-byte s m e)
 
 pub answer-some : (s : State) (m : ℕ) → Whole s → ready s m ≡ true → (o : Option Request) → inHand (λ r. true) o ≡ true → 1 ≤ length (answer s o)
 unfolding inHand answer

@@ -1,4 +1,5 @@
--- What each of the five calls' contracts says: its number, words and command, the next state, and every lent byte after it are those of the rules.
+-- What each of the five calls' contracts says: its number, words and command, where a block was found, the next state, and every lent byte after it are
+-- those of the rules.
 use mathlib.Core.Path.{_≡_, refl, ap, sym, _∙_, fun-ext}
 use mathlib.Core.List.{List, [], _∷_}
 use mathlib.Core.Option.{none}
@@ -7,11 +8,11 @@ use native.Mathlib.Omega.{arith}
 use lib.ListN.{length, drop}
 use Rattle.lists.specs.Search.{below, count}
 use Rattle.rules.specs.Shape.{slots}
-use Rattle.rules.specs.State.{State, Command, cmd, closed, Place, nowhere}
+use Rattle.rules.specs.State.{State, Command, cmd, closed, Place, nowhere, foundNumber}
 use Rattle.rules.specs.Draws.{draws}
 use Rattle.rules.specs.Memory.{needed}
 use Rattle.rules.specs.Questions.{Ask, opening, request, turn, completion, collect, Call, bounds, number}
-use Rattle.rules.specs.Run.{Outcome, step, act, refuse, refused, accepted, sentCommand, handed, takenOf, numbersOf}
+use Rattle.rules.specs.Run.{Outcome, step, act, refuse, refused, accepted, sentCommand, handed, handedFound, takenOf, numbersOf}
 use Rattle.rules.specs.Laws.Answers.{step-refused, step-accepted}
 use borrow.Author.Tests.{le-ltb}
 use Rattle.memory.specs.Words.{window, window-past}
@@ -53,6 +54,7 @@ pub record Meets (c : Client) (s : State) (a : Ask) (m tape b : List ℕ) (r : A
   pub number : r .number ≡ step s (callOf a m tape b) .1 .number
   pub taken : r .taken ≡ step s (callOf a m tape b) .1 .taken
   pub command : commandOf r ≡ step s (callOf a m tape b) .1 .command
+  pub found : r .found ≡ foundNumber (step s (callOf a m tape b) .1 .found)
   pub state : stateOf (r .client) m′ ≡ step s (callOf a m tape b) .0
   pub idle : r .number ≡ 0 → r .client .request .kind ≡ 0 → r .client .request ≡ unasked a (c .request)
   pub buffer : b′ ≡ handedTo b (step s (callOf a m tape b) .1 .bytes)
@@ -65,13 +67,14 @@ pub record Meets (c : Client) (s : State) (a : Ask) (m tape b : List ℕ) (r : A
 -- it is refused
 pub meets-no : (c : Client) (s : State) (a : Ask) (m tape b : List ℕ) (n : ℕ) → n ≡ number s (callOf a m tape b) → (n ≡ 0 → ⊥) → stateOf c m ≡ refuse s a
     → Meets c s a m tape b (refusedWith n c) m b
-unfolding refused
+unfolding refused foundNumber
 meets-no c s a m tape b n e z k =
     let r = step-refused s (callOf a m tape b) (λ x. z (e ∙ x)) in
     record {
       number = e ∙ sym (ap (λ (x : State × Outcome). x .1 .number) r);
       taken = sym (ap (λ (x : State × Outcome). x .1 .taken) r);
       command = sym (ap (λ (x : State × Outcome). x .1 .command) r);
+      found = sym (ap (λ (x : State × Outcome). foundNumber (x .1 .found)) r);
       state = k ∙ sym (ap (λ (x : State × Outcome). x .0) r);
       idle = λ x. absurd (z x);
       buffer = sym (ap (λ (x : State × Outcome). handedTo b (x .1 .bytes)) r);
@@ -85,6 +88,7 @@ pub record Accepts (c : Client) (s : State) (a : Ask) (m tape b : List ℕ) (r :
   pub number : r .number ≡ 0
   pub taken : r .taken ≡ takenOf (draws (bounds s a) (wordsOf tape))
   pub command : commandOf r ≡ sentCommand s a
+  pub found : r .found ≡ foundNumber (handedFound s a)
   pub idle : r .client .request .kind ≡ 0 → r .client .request ≡ unasked a (c .request)
   pub state : stateOf (r .client) m′ ≡ act s a (numbersOf (draws (bounds s a) (wordsOf tape)))
   pub buffer : b′ ≡ handedTo b (handed s a (act s a (numbersOf (draws (bounds s a) (wordsOf tape)))))
@@ -98,6 +102,7 @@ meets-yes c s a m tape b r m′ b′ k =
       number = k .number ∙ sym (ap (λ (x : State × Outcome). x .1 .number) q);
       taken = k .taken ∙ sym (ap (λ (x : State × Outcome). x .1 .taken) q);
       command = k .command ∙ sym (ap (λ (x : State × Outcome). x .1 .command) q);
+      found = k .found ∙ sym (ap (λ (x : State × Outcome). foundNumber (x .1 .found)) q);
       state = k .state ∙ sym (ap (λ (x : State × Outcome). x .0) q);
       idle = λ _. k .idle;
       buffer = k .buffer ∙ sym (ap (λ (x : State × Outcome). handedTo b (x .1 .bytes)) q);

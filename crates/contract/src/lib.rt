@@ -10,9 +10,10 @@ ghost use Rattle.lists.specs.Search.{member};
 ghost use Rattle.rules.specs.Shape.{within};
 ghost use Rattle.rules.specs.Memory.{needed as neededOf};
 ghost use Rattle.memory.specs.Fits.{shapeOf};
-ghost use Rattle.contract.specs.Answers.{refusedWith, acceptedWith, clearedClient};
+ghost use Rattle.contract.specs.Answers.{refusedWith, acceptedWith, collectedWith, clearedClient};
 
-// The number, the words taken, the command sent (zeros for none), and the next state.
+// The number, the words taken, the command sent (zeros for none), where a collected block was found (0, which is nowhere, but for a collect), and the
+// next state.
 pub struct Answer {
     pub number: usize,
     pub taken: usize,
@@ -20,10 +21,11 @@ pub struct Answer {
     pub partition: usize,
     pub level: usize,
     pub slot: usize,
+    pub found: usize,
     pub client: Client,
 }
 
-// A refusal reports 0 words and a command of zeros.
+// A refusal reports 0 words and a command of zeros, and nowhere.
 pub fn refused(number: usize, client: Client) -> Answer
     ensures { λ r. ⌜ r ≡ refusedWith number client ⌝ }
 {
@@ -34,6 +36,7 @@ pub fn refused(number: usize, client: Client) -> Answer
         partition: 0,
         level: 0,
         slot: 0,
+        found: 0,
         client,
     }
 }
@@ -56,6 +59,7 @@ pub fn sent(
         partition,
         level,
         slot,
+        found: 0,
         client,
     }
 }
@@ -65,6 +69,22 @@ pub fn accepted(client: Client, taken: usize) -> Answer
     ensures { λ r. ⌜ r ≡ acceptedWith client taken 0 0 0 0 ⌝ }
 {
     sent(client, taken, 0, 0, 0, 0)
+}
+
+// What an accepted collect answers: where the block was found.
+pub fn collected(client: Client, found: usize) -> Answer
+    ensures { λ r. ⌜ r ≡ collectedWith client found ⌝ }
+{
+    Answer {
+        number: 0,
+        taken: 0,
+        kind: 0,
+        partition: 0,
+        level: 0,
+        slot: 0,
+        found,
+        client,
+    }
 }
 
 // The closed state, all zeros.

@@ -9,7 +9,7 @@ use native.Mathlib.Decide.{decLt}
 use lib.Dec.{eqb, leb, ltb}
 use borrow.Author.Tests.{eq-eqb, ne-eqb, eqb-true, leb-true, ltb-true, le-leb, lt-ltb, le-ltb}
 use Rattle.lists.specs.Tests.{if_then_else_, and-l, and-r, and-true}
-use Rattle.lists.specs.Search.{any, orElse, keep, below, count, member}
+use Rattle.lists.specs.Search.{any, orElse, keep, below, count}
 use Rattle.rules.specs.Shape.{Shape, slots}
 use Rattle.rules.specs.State.{State, Request, Place, nowhere, stored}
 use Rattle.rules.specs.Levels.{filled, sources, target}
@@ -22,7 +22,7 @@ use Rattle.memory.specs.Fits.{shapeOf, fit}
 use Rattle.memory.specs.Tables.{tablesOf}
 use Rattle.client.specs.declared.Client.{Client}
 use Rattle.client.specs.View.{levelOf, placeOf, rows, view, stateOf}
-use Rattle.client.specs.Readings.{handOf, hand-none, hand-some}
+use Rattle.client.specs.Readings.{handOf, hand-none, hand-some, hand-held, hand-released}
 use Rattle.client.specs.Changes.{place-is, level-le}
 use Rattle.ready.specs.Usable.{Usable}
 use Rattle.commands.specs.Outstanding.{ofPartition}
@@ -91,11 +91,11 @@ module _ (n ℓ x : ℕ) where
 
 -- ---- The request in hand
 module _ (s : State) where
-  held-step : (r : Request) → held s r ≡ true → requestStep s (some r) ≡ none
+  held-step : (r : Request) → held r ≡ true → requestStep s (some r) ≡ none
   unfolding requestStep
   held-step r e = rw e
 
-  free-step : (r : Request) → held s r ≡ false → requestStep s (some r) ≡ firstRead (s .partition (r .block)) (s .place (r .block)) (dummy s (s .partition (r .block))) (levelsLeft s r)
+  free-step : (r : Request) → held r ≡ false → requestStep s (some r) ≡ firstRead (s .partition (r .block)) (s .place (r .block)) (dummy s (s .partition (r .block))) (levelsLeft s r)
   unfolding requestStep
   free-step r e = rw e
 
@@ -110,23 +110,19 @@ module _ (c : Client) (m : List ℕ) where
   unfolding requestStep
   request-none e = ap (requestStep s) (hand-none c m e)
 
+  pub request-held : (c .request .kind ≡ 0 → ⊥) → c .request .found ≡ 0 → requestStep s (s .request) ≡ none
+  request-held n e = ap (requestStep s) (hand-some c m n) ∙ held-step s asked (hand-held c m e)
+
   module _ (q : ℕ) (r : Reads c m q) where
-    is-held : (t : Bool) → member q (s .queue) ≡ t → held s asked ≡ t
-    unfolding held
-    is-held t e = ap (λ p. member p (s .queue)) (sym (r .partition)) ∙ e
-
-    pub request-held : member q (s .queue) ≡ true → requestStep s (s .request) ≡ none
-    request-held e = ap (requestStep s) (hand-some c m (r .some)) ∙ held-step s asked (is-held true e)
-
     levels-is : s .shape .L ≡ c .shape .l
     unfolding stateOf view
     levels-is = refl
 
-    pub request-free : member q (s .queue) ≡ false
+    pub request-free : (c .request .found ≡ 0 → ⊥)
         → requestStep s (s .request) ≡ firstRead q (s .place (c .request .block)) (dummy s q) (keep (filled (s .counter q)) (count (c .request .level) (c .shape .l - c .request .level)))
     unfolding levelsLeft
     request-free e =
-        ap (requestStep s) (hand-some c m (r .some)) ∙ free-step s asked (is-held false e)
+        ap (requestStep s) (hand-some c m (r .some)) ∙ free-step s asked (hand-released c m e)
         ∙ ap (λ p. firstRead p (s .place (c .request .block)) (dummy s p) (keep (filled (s .counter p)) (count (c .request .level) (s .shape .L - c .request .level)))) (sym (r .partition))
         ∙ ap (λ n. firstRead q (s .place (c .request .block)) (dummy s q) (keep (filled (s .counter q)) (count (c .request .level) (n - c .request .level)))) levels-is
 

@@ -62,7 +62,7 @@ fn first_read(c: Client, m: &[u8], q: usize) -> Due
     }
 }
 
-// What the request in hand wants, unless a job for its block's partition holds it.
+// What the request in hand wants, unless it is held.
 fn request_step(c: Client, m: &[u8]) -> Due
     requires { ⌜ Usable c (now m) ⌝ }
     ensures { λ r. ⌜ dueOf r ≡ requestStep (stateOf c (now (m .entry))) (stateOf c (now (m .entry)) .request) ⌝ }
@@ -71,10 +71,10 @@ fn request_step(c: Client, m: &[u8]) -> Due
     if r.kind == 0 {
         return Due::Nothing;
     }
-    let q = memory::tables::partition(c.shape, m, r.block);
-    if jobs::is_queued(c, m, q) {
+    if r.found == 0 {
         return Due::Nothing;
     }
+    let q = memory::tables::partition(c.shape, m, r.block);
     first_read(c, m, q)
 }
 

@@ -1,20 +1,21 @@
 -- The contract of an exported call says all of the number that it answers and every byte of the state after it: two that meet it from the same
 -- bytes are the same. (Of the memory it says what it stands for: docs/MEMORY.md names the bytes that are free.)
-use mathlib.Core.Path.{_≡_, ap, sym, _∙_}
+use mathlib.Core.Path.{_≡_, refl, ap, sym, _∙_}
 use mathlib.Core.List.{List, [], _++_}
-use mathlib.Core.Option.{Option·getD}
-use Prim.Native.Nat.{ℕ, _+_, _*_, _/_, _%_}
+use mathlib.Core.Option.{Option, none, some, Option·getD}
+use Prim.Native.Nat.{ℕ, zero, suc, _+_, _*_, _/_, _%_}
 use native.Mathlib.Omega.{arith}
 use native.Mathlib.Decide.{ℕ-discrete}
 use lib.ListN.{length, drop}
 use Rattle.rules.specs.Shape.{Shape}
+use Rattle.rules.specs.State as R
 use Rattle.rules.specs.State.{State, Command, closed}
 use Rattle.rules.specs.Questions.{Ask, opening}
 use Rattle.memory.specs.Words.{wordAt}
 use Rattle.memory.specs.Fits.{shapeOf}
 use Rattle.client.specs.declared.Client.{Client}
 use Rattle.client.specs.declared.Request.{Request}
-use Rattle.client.specs.View.{stateOf, view}
+use Rattle.client.specs.View.{stateOf, view, foundAs, foundBy}
 use Rattle.client.specs.Rows.{length-rows}
 use Rattle.client.specs.Readings.{jobs-count, waiting-count, handOf, hand-none, hand-some}
 use Rattle.contract.specs.Answers.{clearedClient}
@@ -26,6 +27,21 @@ use Rattle.exports.specs.Idle.{Idle, none-kind}
 use Rattle.exports.specs.Paged.{Paged, told}
 
 -- ---- The client
+
+-- the number by which a request says where its block was found is given by what it says
+numberOf : Option R.Found → ℕ
+numberOf none = 0
+numberOf (some x) = suc (R.foundNumber x)
+
+number-found : (n : ℕ) → numberOf (foundBy n) ≡ n
+unfolding numberOf foundBy foundAs R.foundNumber
+number-found zero = refl
+number-found (suc zero) = refl
+number-found (suc (suc zero)) = refl
+number-found (suc (suc (suc ℓ))) = omega arith
+
+same-found : (n k : ℕ) → foundBy n ≡ foundBy k → n ≡ k
+same-found n k e = sym (number-found n) ∙ ap numberOf e ∙ number-found k
 
 -- a client is given by the state that it stands for and, while no request is in hand, by what is left of one
 module _ (c d : Client) (m n : List ℕ) (e : stateOf c m ≡ stateOf d n) where
@@ -40,7 +56,8 @@ module _ (c d : Client) (m n : List ℕ) (e : stateOf c m ≡ stateOf d n) where
   same-hand : (c .request .kind ≡ 0 → ⊥) → (d .request .kind ≡ 0 → ⊥) → c .request ≡ d .request
   same-hand x y =
       let f : handOf c m ≡ handOf d n = ap (λ o. Option·getD o (handOf c m)) (sym (hand-some c m x) ∙ ap (λ (s : State). s .request) e ∙ hand-some d n y) in
-      λ i. record { kind = f i .kind; block = f i .block; next = f i .next; evict = f i .evict; level = f i .level }
+      let g = same-found (c .request .found) (d .request .found) (ap (λ (r : R.Request). r .found) f) in
+      λ i. record { kind = f i .kind; block = f i .block; next = f i .next; evict = f i .evict; level = f i .level; found = g i }
 
   same-request : (a : Ask) (r : Request) → Idle a r c → Idle a r d → c .request ≡ d .request
   same-request a r i j = go (ℕ-discrete (c .request .kind) 0)
@@ -70,38 +87,42 @@ module _ (c d : Client) (m n : List ℕ) (e : stateOf c m ≡ stateOf d n) where
 
 -- a number is given by what is read off it: the parts above a place are given by those above the next
 module _ (u v : ℕ) where
-  same-high : u / 4294967296 % 65536 ≡ v / 4294967296 % 65536 → u / 281474976710656 ≡ v / 281474976710656 → u / 4294967296 ≡ v / 4294967296
+  same-high : u / 268435456 % 16 ≡ v / 268435456 % 16 → u / 4294967296 ≡ v / 4294967296 → u / 268435456 ≡ v / 268435456
   same-high a b = omega arith
 
-  same-level : u / 16777216 % 256 ≡ v / 16777216 % 256 → u / 4294967296 ≡ v / 4294967296 → u / 16777216 ≡ v / 16777216
+  same-slot : u / 131072 % 2048 ≡ v / 131072 % 2048 → u / 268435456 ≡ v / 268435456 → u / 131072 ≡ v / 131072
+  same-slot a b = omega arith
+
+  same-level : u / 8192 % 16 ≡ v / 8192 % 16 → u / 131072 ≡ v / 131072 → u / 8192 ≡ v / 8192
   same-level a b = omega arith
 
-  same-partition : u / 65536 % 256 ≡ v / 65536 % 256 → u / 16777216 ≡ v / 16777216 → u / 65536 ≡ v / 65536
+  same-partition : u / 128 % 64 ≡ v / 128 % 64 → u / 8192 ≡ v / 8192 → u / 128 ≡ v / 128
   same-partition a b = omega arith
 
-  same-kind : u / 256 % 256 ≡ v / 256 % 256 → u / 65536 ≡ v / 65536 → u / 256 ≡ v / 256
+  same-kind : u / 32 % 4 ≡ v / 32 % 4 → u / 128 ≡ v / 128 → u / 32 ≡ v / 32
   same-kind a b = omega arith
 
-  same-number : u % 256 ≡ v % 256 → u / 256 ≡ v / 256 → u ≡ v
+  same-number : u % 32 ≡ v % 32 → u / 32 ≡ v / 32 → u ≡ v
   same-number a b = omega arith
 
-  -- number, words or length, and command are all of it
-  same-parts : (x y : Client) → answerOf u x .number ≡ answerOf v y .number → answerOf u x .taken ≡ answerOf v y .taken → commandOf (answerOf u x) ≡ commandOf (answerOf v y) → u ≡ v
-  same-parts x y n t o =
-      let high = same-high (ap (λ (z : Command). z .slot) o) t in
+  -- number, words or length, command, and where a block was found are all of it
+  same-parts : (x y : Client) → answerOf u x .number ≡ answerOf v y .number → answerOf u x .taken ≡ answerOf v y .taken → commandOf (answerOf u x) ≡ commandOf (answerOf v y)
+      → answerOf u x .found ≡ answerOf v y .found → u ≡ v
+  same-parts x y n t o p =
+      let high = same-slot (ap (λ (z : Command). z .slot) o) (same-high p t) in
       let low = same-partition (ap (λ (z : Command). z .partition) o) (same-level (ap (λ (z : Command). z .level) o) high) in
       same-number n (same-kind (ap (λ (z : Command). z .kind) o) low)
 
 module _ (c : Client) (s : State) (a : Ask) (m tape b : List ℕ) (u v : ℕ) (x y : Client) (m′ n′ b′ d′ : List ℕ)
     (k : Meets c s a m tape b (answerOf u x) m′ b′) (l : Meets c s a m tape b (answerOf v y) n′ d′) where
   same-answer : u ≡ v
-  same-answer = same-parts u v x y (k .number ∙ sym (l .number)) (k .taken ∙ sym (l .taken)) (k .command ∙ sym (l .command))
+  same-answer = same-parts u v x y (k .number ∙ sym (l .number)) (k .taken ∙ sym (l .taken)) (k .command ∙ sym (l .command)) (k .found ∙ sym (l .found))
 
   -- a refused call hands back c
   same-left : x ≡ y
-  same-left = go (ℕ-discrete (u % 256) 0)
+  same-left = go (ℕ-discrete (u % 32) 0)
     where
-      go : Dec (u % 256 ≡ 0) → x ≡ y
+      go : Dec (u % 32 ≡ 0) → x ≡ y
       go (yes z) = same-client x y m′ n′ (k .state ∙ sym (l .state)) a (c .request) (k .idle z) (l .idle (rw same-answer at z))
       go (no n) = k .refused n .1 ∙ sym (l .refused (λ z. n (rw same-answer z)) .1)
 
@@ -123,12 +144,12 @@ determined a st m tape b u v st′ st″ m′ m″ b′ b″ l x y =
 -- An open
 pub determined-open : (h : Shape) (st m tape : List ℕ) (u v : ℕ) (st′ st″ m′ m″ : List ℕ) → length st ≡ stateLength
     → Opened h st m tape u st′ m′ → Opened h st m tape v st″ m″ → (u ≡ v) × SameState st′ st″
-determined-open h st m tape u v st′ st″ m′ m″ l x y = (answer, go (ℕ-discrete (u % 256) 0))
+determined-open h st m tape u v st′ st″ m′ m″ l x y = (answer, go (ℕ-discrete (u % 32) 0))
   where
     answer : u ≡ v
     answer = same-answer clearedClient closed (opening h) m tape [] u v (clientIn st′) (clientIn st″) m′ m″ [] [] (x .meets l) (y .meets l)
 
-    go : Dec (u % 256 ≡ 0) → SameState st′ st″
+    go : Dec (u % 32 ≡ 0) → SameState st′ st″
     go (yes z) = (
       same-left clearedClient closed (opening h) m tape [] u v (clientIn st′) (clientIn st″) m′ m″ [] [] (x .meets l) (y .meets l),
       (λ k. y .between (rw answer at z) k ∙ sym (x .between z k)),
@@ -137,10 +158,10 @@ determined-open h st m tape u v st′ st″ m′ m″ l x y = (answer, go (ℕ-d
 
 -- A page: the answer, and every byte of the buffer
 module _ (st m b : List ℕ) (u v : ℕ) (b′ b″ : List ℕ) (x : Paged st m b u b′) (y : Paged st m b v b″) where
-  same-page-number : length st ≡ stateLength → u % 256 ≡ v % 256
+  same-page-number : length st ≡ stateLength → u % 32 ≡ v % 32
   same-page-number l = x .shows l .asked ∙ sym (y .shows l .asked)
 
-  same-page : (l : length st ≡ stateLength) → Dec (u % 256 ≡ 0) → (told u .taken ≡ told v .taken) × (b′ ≡ b″)
+  same-page : (l : length st ≡ stateLength) → Dec (u % 32 ≡ 0) → (told u .taken ≡ told v .taken) × (b′ ≡ b″)
   same-page l (yes z) =
       let p = x .shows l .accepted z in
       let q = y .shows l .accepted (sym (same-page-number l) ∙ z) in
@@ -155,5 +176,5 @@ module _ (st m b : List ℕ) (u v : ℕ) (b′ b″ : List ℕ) (x : Paged st m 
   determined-page = go (ℕ-discrete (length st) stateLength)
     where
       go : Dec (length st ≡ stateLength) → (u ≡ v) × (b′ ≡ b″)
-      go (yes l) = let w = same-page l (ℕ-discrete (u % 256) 0) in (same-parts u v clearedClient clearedClient (same-page-number l) (w .0) (x .command ∙ sym (y .command)), w .1)
+      go (yes l) = let w = same-page l (ℕ-discrete (u % 32) 0) in (same-parts u v clearedClient clearedClient (same-page-number l) (w .0) (x .command ∙ sym (y .command)) (x .found ∙ sym (y .found)), w .1)
       go (no n) = (x .other n .0 ∙ sym (y .other n .0), x .other n .1 ∙ sym (y .other n .1))

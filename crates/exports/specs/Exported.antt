@@ -1,4 +1,4 @@
--- What the exported calls' contracts say: the answer, read off one number, and the state, read off 64 bytes, meet the rules.
+-- What the exported calls' contracts say: the answer, read off one number, and the state, read off 68 bytes, meet the rules.
 use mathlib.Core.Path.{_≡_, refl, ap, sym, _∙_, subst}
 use mathlib.Core.Bool.{Bool, true, false}
 use mathlib.Core.List.{List, []}
@@ -9,10 +9,10 @@ use native.Mathlib.Decide.{ℕ-discrete}
 use lib.ListN.{length, replicate}
 use Rattle.lists.specs.Tests.{if_then_else_}
 use Rattle.rules.specs.Shape.{Shape, within}
-use Rattle.rules.specs.State.{State, Command, closed}
+use Rattle.rules.specs.State.{State, Command, foundNumber, closed}
 use Rattle.rules.specs.Draws.{draws}
 use Rattle.rules.specs.Questions.{Ask, opening, Call, bounds, number}
-use Rattle.rules.specs.Run.{Outcome, act, accepted, refused, sentCommand, numbersOf}
+use Rattle.rules.specs.Run.{Outcome, act, accepted, refused, sentCommand, handedFound, numbersOf}
 use Rattle.rules.specs.Laws.Shapes.{act-shape}
 use Rattle.rules.specs.Laws.Asked.{asked}
 use Rattle.rules.specs.Laws.Answers.{opens, number-le, step-number, step-accepted, refused-outcome, accepted-passed, accepted-taken}
@@ -30,16 +30,16 @@ use Rattle.contract.specs.Meets.{Meets, callOf, commandOf, unasked}
 use Rattle.codec.specs.Codec.{stateLength, clientOf, reshaped, lowShape, lowClient, withShape, withProgress, withRest, rest-is, progress-is, stored-is, Between, between-progress, between-rest, between-shape, packed, answerOf}
 use Rattle.exports.specs.Idle.{Idle, rest-idle, progress-idle}
 use Rattle.exports.specs.Progress.{same-state}
-use Rattle.exports.specs.Small.{SmallCommand, accepted-small, low-shape, low-client}
+use Rattle.exports.specs.Small.{SmallCommand, accepted-small, accepted-found, low-shape, low-client}
 
--- the client that 64 bytes say
+-- the client that 68 bytes say
 abbrev pub clientIn : List ℕ → Client
 clientIn st = clientOf (wordAt st)
 
 -- A request, turn, completion or collect: st is the state handed in, st′ the state handed back
 pub record Exported (a : Ask) (st m tape b : List ℕ) (u : ℕ) (st′ m′ b′ : List ℕ) : Type 0 where
   pub meets : length st ≡ stateLength → Meets (clientIn st) (stateOf (clientIn st) m) a m tape b (answerOf u (clientIn st′)) m′ b′
-  pub refused : (u % 256 ≡ 0 → ⊥) → st′ ≡ st
+  pub refused : (u % 32 ≡ 0 → ⊥) → st′ ≡ st
   -- the bytes between the numbers of the state stay
   pub between : Between (wordAt st) (wordAt st′)
   -- a state of another length: 2, and nothing is written
@@ -49,31 +49,34 @@ pub record Exported (a : Ask) (st m tape b : List ℕ) (u : ℕ) (st′ m′ b�
 pub record Opened (h : Shape) (st m tape : List ℕ) (u : ℕ) (st′ m′ : List ℕ) : Type 0 where
   pub meets : length st ≡ stateLength → Meets clearedClient closed (opening h) m tape [] (answerOf u (clientIn st′)) m′ []
   -- a refused one hands back a closed state: zeros in all that was lent for it
-  pub refused : (u % 256 ≡ 0 → ⊥) → st′ ≡ replicate (length st) 0
+  pub refused : (u % 32 ≡ 0 → ⊥) → st′ ≡ replicate (length st) 0
   -- an accepted one leaves the bytes between the numbers
-  pub between : u % 256 ≡ 0 → Between (wordAt st) (wordAt st′)
+  pub between : u % 32 ≡ 0 → Between (wordAt st) (wordAt st′)
   -- a state of another length is no memory for a client: shape within bounds? 1. Long enough? 2
   pub other : (length st ≡ stateLength → ⊥) → (u ≡ (if within h then 2 else 1)) × (m′ ≡ m)
 
 -- ---- Packed answers
 
 pub record Small (r : Answer) : Type 0 where
-  pub number : r .number < 256
-  pub taken : r .taken < 65536
-  pub kind : r .kind < 256
-  pub partition : r .partition < 256
-  pub level : r .level < 256
-  pub slot : r .slot < 65536
+  pub number : r .number < 32
+  pub taken : r .taken < 4294967296
+  pub kind : r .kind < 4
+  pub partition : r .partition < 64
+  pub level : r .level < 16
+  pub slot : r .slot < 2048
+  pub found : r .found < 16
 
 sum : Answer → ℕ
-sum r = (r .number + 256 * r .kind + 65536 * r .partition + 16777216 * r .level) + 4294967296 * (r .slot + 65536 * r .taken)
+sum r = (r .number + 32 * r .kind + 128 * r .partition + 8192 * r .level + 131072 * r .slot + 268435456 * r .found) + 4294967296 * r .taken
 
 packed-sum : (r : Answer) → Small r → packed r ≡ sum r
 unfolding sum
-packed-sum r f = rw (mod-eq-of-lt (f .number), mod-eq-of-lt (f .kind), mod-eq-of-lt (f .partition), mod-eq-of-lt (f .level), mod-eq-of-lt (f .slot), mod-eq-of-lt (f .taken))
+packed-sum r f =
+    rw (mod-eq-of-lt (f .number), mod-eq-of-lt (f .kind), mod-eq-of-lt (f .partition), mod-eq-of-lt (f .level), mod-eq-of-lt (f .slot), mod-eq-of-lt (f .found), mod-eq-of-lt (f .taken))
 
 -- what is packed can be read off again
-pub unpacked : (r : Answer) → Small r → (x : Client) → answerOf (packed r) x ≡ record { number = r .number; taken = r .taken; kind = r .kind; partition = r .partition; level = r .level; slot = r .slot; client = x }
+pub unpacked : (r : Answer) → Small r → (x : Client)
+    → answerOf (packed r) x ≡ record { number = r .number; taken = r .taken; kind = r .kind; partition = r .partition; level = r .level; slot = r .slot; found = r .found; client = x }
 unfolding sum
 unpacked r f x = ap (λ u. answerOf u x) (packed-sum r f) ∙ (λ k. record {
   number = number-is k;
@@ -82,26 +85,30 @@ unpacked r f x = ap (λ u. answerOf u x) (packed-sum r f) ∙ (λ k. record {
   partition = partition-is k;
   level = level-is k;
   slot = slot-is k;
+  found = found-is k;
   client = x;
 })
   where
-    number-is : sum r % 256 ≡ r .number
+    number-is : sum r % 32 ≡ r .number
     number-is = omega arith
 
-    taken-is : sum r / 281474976710656 ≡ r .taken
+    taken-is : sum r / 4294967296 ≡ r .taken
     taken-is = omega arith
 
-    kind-is : sum r / 256 % 256 ≡ r .kind
+    kind-is : sum r / 32 % 4 ≡ r .kind
     kind-is = omega arith
 
-    partition-is : sum r / 65536 % 256 ≡ r .partition
+    partition-is : sum r / 128 % 64 ≡ r .partition
     partition-is = omega arith
 
-    level-is : sum r / 16777216 % 256 ≡ r .level
+    level-is : sum r / 8192 % 16 ≡ r .level
     level-is = omega arith
 
-    slot-is : sum r / 4294967296 % 65536 ≡ r .slot
+    slot-is : sum r / 131072 % 2048 ≡ r .slot
     slot-is = omega arith
+
+    found-is : sum r / 268435456 % 16 ≡ r .found
+    found-is = omega arith
 
 -- ---- From a call's contract to the exported one's
 
@@ -114,13 +121,14 @@ module _ (c : Client) (s : State) (a : Ask) (m tape b : List ℕ) (r : Answer) (
 
   -- a refusal's answer is small
   refused-small : (r .number ≡ 0 → ⊥) → Small r
-  unfolding refused
+  unfolding refused foundNumber
   refused-small n =
       let e = refused-outcome s made (λ z. n (is-number ∙ z)) in
       let o = k .command ∙ ap (λ (x : Outcome). x .command) e in
       let z : (r .kind ≡ 0) × (r .partition ≡ 0) × (r .level ≡ 0) × (r .slot ≡ 0) = (ap (λ (x : Command). x .kind) o, ap (λ (x : Command). x .partition) o, ap (λ (x : Command). x .level) o, ap (λ (x : Command). x .slot) o) in
       let w : r .taken ≡ 0 = k .taken ∙ ap (λ (x : Outcome). x .taken) e in
-      record { number = omega (arith, is-number, number-le s made); taken = omega arith; kind = omega arith; partition = omega arith; level = omega arith; slot = omega arith }
+      let y : r .found ≡ 0 = k .found ∙ ap (λ (x : Outcome). foundNumber (x .found)) e in
+      record { number = omega (arith, is-number, number-le s made); taken = omega arith; kind = omega arith; partition = omega arith; level = omega arith; slot = omega arith; found = omega arith }
 
   -- an accepted call's too
   accepted-fits : r .number ≡ 0 → Small r
@@ -131,7 +139,9 @@ module _ (c : Client) (s : State) (a : Ask) (m tape b : List ℕ) (r : Answer) (
       let o : commandOf r ≡ sentCommand s a = k .command ∙ ap (λ (x : State × Outcome). x .1 .command) (step-accepted s made e) in
       let t : r .taken ≡ length (bounds s a) = k .taken ∙ accepted-taken s made e in
       let d : SmallCommand (commandOf r) = rw o (f .0) in
-      record { number = omega arith; taken = omega (arith, f .1); kind = d .kind; partition = d .partition; level = d .level; slot = d .slot }
+      let y : r .found ≡ foundNumber (handedFound s a) = k .found ∙ ap (λ (x : State × Outcome). foundNumber (x .1 .found)) (step-accepted s made e) in
+      let g = accepted-found s a (length m) (wordsOf tape) (length b) (accepted-passed s made e) in
+      record { number = omega arith; taken = omega (arith, f .1); kind = d .kind; partition = d .partition; level = d .level; slot = d .slot; found = omega arith }
 
   -- and it leaves a state in range
   left-in : r .number ≡ 0 → InRange (stateOf (r .client) m′)
@@ -148,6 +158,7 @@ module _ (c : Client) (s : State) (a : Ask) (m tape b : List ℕ) (r : Answer) (
     number = k .number;
     taken = k .taken;
     command = k .command;
+    found = k .found;
     state = e ∙ k .state;
     idle = i;
     buffer = k .buffer;
@@ -182,7 +193,7 @@ module _ (c : Client) (s : State) (a : Ask) (m tape b : List ℕ) (r : Answer) (
   pub left-within : r .number ≡ 0 → within (shapeOf (r .client .shape)) ≡ true
   left-within z = unfold stateOf view in left-in z .shape
 
-  pub number-packed : packed r % 256 ≡ r .number
+  pub number-packed : packed r % 32 ≡ r .number
   number-packed = omega (arith, is-number, number-le s made)
 
 -- ---- The state as it is handed back
@@ -237,7 +248,7 @@ module _ (a : Ask) (four : opens a ≡ false) (st m tape b : List ℕ) (r : Answ
       ap (λ x. stateOf x m′) (rest-is (r .client) (wordAt st) ∙ ap (λ x. reshaped x (lowClient (r .client))) (shape-low z)) ∙ left-low (clientIn st) s a m tape b r m′ b′ k z)
       (λ z. subst (Idle a (clientIn st .request)) (sym (rest-is (r .client) (wordAt st))) (rest-idle st a (r .client) m′ (left-low (clientIn st) s a m tape b r m′ b′ k z) (k .idle z)))
 
-  -- ..by a call that changes no more of the request than its level
+  -- ..by a call that changes no more of the request than its level, and where its block was found
   pub exported-progress : ((js : List ℕ) → asked (act s a js .request) ≡ asked (s .request)) → unasked a (clientIn st .request) ≡ clientIn st .request → HandedBack (withProgress (r .client)) r u st st′
       → Exported a st m tape b u st′ m′ b′
   exported-progress e n h = handed (withProgress (r .client)) h (between-progress (r .client) (wordAt st) (wordAt st) (λ k. refl)) (λ z.
@@ -252,7 +263,7 @@ pub exported-length : {a : Ask} {st m tape b : List ℕ} → (length st ≡ stat
 exported-length n = record { meets = λ l. absurd (n l); refused = λ _. refl; between = λ k. refl; other = λ _. (refl, refl, refl, refl) }
 
 -- so does an open, or 1
-pub one-or-two : (t : Bool) (u : ℕ) → u ≡ (if t then 2 else 1) → u % 256 ≡ 0 → ⊥
+pub one-or-two : (t : Bool) (u : ℕ) → u ≡ (if t then 2 else 1) → u % 32 ≡ 0 → ⊥
 one-or-two true u e z = omega arith
 one-or-two false u e z = omega arith
 
@@ -267,7 +278,7 @@ pub exported-open : (h : Shape) (st m tape : List ℕ) (r : Answer) (u : ℕ) (s
 exported-open h st m tape r u st′ m′ l k b = record {
   meets = λ _. rw (b .answer) (go (ℕ-discrete (r .number) 0));
   refused = λ n. b .refused (λ z. n (rw (b .answer) (number-packed clearedClient closed (opening h) m tape [] r m′ [] k ∙ z)));
-  between = λ z. rw (b .accepted (sym (number-packed clearedClient closed (opening h) m tape [] r m′ [] k) ∙ sym (ap (λ x. x % 256) (b .answer)) ∙ z)) (between-rest (r .client) (wordAt st) _ (between-shape (r .client .shape) (wordAt st)));
+  between = λ z. rw (b .accepted (sym (number-packed clearedClient closed (opening h) m tape [] r m′ [] k) ∙ sym (ap (λ x. x % 32) (b .answer)) ∙ z)) (between-rest (r .client) (wordAt st) _ (between-shape (r .client .shape) (wordAt st)));
   other = λ n. absurd (n l);
 }
   where

@@ -2,7 +2,7 @@
 use mathlib.Core.Path.{_≡_, refl, ap}
 use mathlib.Core.Bool.{Bool, true, false}
 use mathlib.Core.List.{List}
-use mathlib.Core.Option.{Option, none, some}
+use mathlib.Core.Option.{Option, none, some, Option·getD}
 use Prim.Native.Nat.{ℕ, _+_, _-_, _%_, _^_, _≤_, _<_}
 use native.Mathlib.Nat.{mod-eq-of-lt}
 use native.Mathlib.Omega.{arith}
@@ -13,14 +13,15 @@ use borrow.Author.Tests.{eqb-true, leb-true, eq-eqb}
 use Rattle.lists.specs.Tests.{if_then_else_, and-r, every-yes, between}
 use Rattle.lists.specs.All.{IfSome}
 use Rattle.rules.specs.Shape.{Shape, within, slots}
-use Rattle.rules.specs.State.{State, Command, cmd}
+use Rattle.rules.specs.Collect.{carried}
+use Rattle.rules.specs.State.{State, Command, cmd, Found, foundNowhere, foundCache, foundLevel, foundNumber}
 use Rattle.rules.specs.State as R
 use Rattle.rules.specs.Ranges.{isKind}
 use Rattle.rules.specs.Turn.{Step, idle, noDummy, readForRequest, readForJob, rebuild, writeNext, decide, command, stepBounds}
 use Rattle.rules.specs.Questions.{Ask, opening, request, turn, completion, collect, questions, bounds}
-use Rattle.rules.specs.Run.{sentCommand}
+use Rattle.rules.specs.Run.{sentCommand, handedFound}
 use Rattle.rules.specs.Laws.Answers.{Passed}
-use Rattle.rules.specs.Laws.Range.{InRange, RequestIn, JobsIn}
+use Rattle.rules.specs.Laws.Range.{InRange, FoundIn, RequestIn, JobsIn}
 use Rattle.rules.specs.Laws.Waiting.{waits-le}
 use Rattle.rules.specs.Setters.{setRequest}
 use Rattle.rules.specs.Laws.Decided.{StepIn, decide-in}
@@ -31,6 +32,7 @@ use Rattle.memory.specs.Tables.{tablesOf}
 use Rattle.client.specs.declared.Client.{Client}
 use Rattle.client.specs.declared.Request.{Request}
 use Rattle.client.specs.View.{stateOf, view, handBy, requestOf, commandBy}
+use Rattle.client.specs.Ready.{range-found}
 use Rattle.client.specs.Rows.{length-rows}
 use Rattle.memory.specs.declared.Shape as M
 use Rattle.codec.specs.Codec.{lowShape, lowRequest, lowClient}
@@ -53,12 +55,12 @@ slots-small : (h : Shape) (ℓ : ℕ) → within h ≡ true → ℓ < h .L → s
 slots-small h ℓ w l = let k = levels-le h w in pow-mono {i = ℓ + 1} {j = 8} (omega arith)
 
 pub record SmallCommand (c : Command) : Type 0 where
-  pub kind : c .kind < 256
-  pub partition : c .partition < 256
-  pub level : c .level < 256
-  pub slot : c .slot < 65536
+  pub kind : c .kind < 4
+  pub partition : c .partition < 64
+  pub level : c .level < 16
+  pub slot : c .slot < 2048
 
-cell-small : (s : State) → InRange s → (k q ℓ i : ℕ) → k < 256 → (q < s .shape .P) × (ℓ < s .shape .L) × (i < slots ℓ) → SmallCommand (cmd k q ℓ i)
+cell-small : (s : State) → InRange s → (k q ℓ i : ℕ) → k < 4 → (q < s .shape .P) × (ℓ < s .shape .L) × (i < slots ℓ) → SmallCommand (cmd k q ℓ i)
 cell-small s f k q ℓ i l h =
     let a = levels-le (s .shape) (f .shape) in
     let b = slots-small (s .shape) ℓ (f .shape) (h .1) in
@@ -83,6 +85,27 @@ accepted-small s turn m ws n p = let f = given-in s m (p .0) in step-small s f (
 accepted-small s (completion c bs) m ws n p = (record { kind = omega arith; partition = omega arith; level = omega arith; slot = omega arith }, omega arith)
 accepted-small s collect m ws n p = (record { kind = omega arith; partition = omega arith; level = omega arith; slot = omega arith }, omega arith)
 
+-- ---- Where a block was found: nowhere, in the cache, or in one of at most eight levels
+
+carried-small : (h : Shape) → within h ≡ true → (o : Option R.Request) → IfSome (RequestIn h) o → foundNumber (carried o) < 16
+unfolding carried foundNumber
+carried-small h w none f = omega arith
+carried-small h w (some r) f = go (r .found) (f .found)
+  where
+    go : (x : Option Found) → FoundIn (h .L) x → foundNumber (Option·getD x foundNowhere) < 16
+    go none k = omega arith
+    go (some foundNowhere) k = omega arith
+    go (some foundCache) k = omega arith
+    go (some (foundLevel ℓ)) k = omega (arith, k, levels-le h w)
+
+pub accepted-found : (s : State) (a : Ask) (m : ℕ) (ws : List ℕ) (n : ℕ) → Passed (questions s a m ws n) → foundNumber (handedFound s a) < 16
+unfolding questions handedFound foundNumber
+accepted-found s (opening h) m ws n p = omega arith
+accepted-found s (request k b bs) m ws n p = omega arith
+accepted-found s turn m ws n p = omega arith
+accepted-found s (completion c bs) m ws n p = omega arith
+accepted-found s collect m ws n p = let f = given-in s m (p .0) in carried-small (s .shape) (f .shape) (s .request) (f .request)
+
 -- ---- The client's numbers
 
 low : (x : ℕ) → x < 65536 → x % 65536 ≡ x
@@ -104,7 +127,16 @@ request-low r bs h w f = go (eqb (r .kind) 0) refl f
         let n = blocks-le h w in
         let p = partitions-le h w in
         let l = levels-le h w in
-        rw (low (r .kind) (omega arith), e, low (r .block) (omega (arith, f .block)), low (r .next) (omega (arith, f .next)), low (r .evict) (omega (arith, f .evict)), low (r .level) (omega (arith, f .level)))
+        let x = range-found (h .L) (r .found) (f .found) in
+        rw (
+          low (r .kind) (omega arith),
+          e,
+          low (r .block) (omega (arith, f .block)),
+          low (r .next) (omega (arith, f .next)),
+          low (r .evict) (omega (arith, f .evict)),
+          low (r .level) (omega (arith, f .level)),
+          low (r .found) (omega arith),
+        )
       where
         kind-le : RequestIn h (handBy r bs) → r .kind ≤ 2
         kind-le f = unfold isKind between in (leb-true (r .kind) 2 (and-r (leb 1 (r .kind)) (leb (r .kind) 2) (f .kind)))

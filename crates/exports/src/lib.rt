@@ -1,4 +1,4 @@
-// The five calls, and the page of a store, for a host program: numbers and byte slices. The state is 64 bytes, the tape pairs of bytes, low byte
+// The five calls, and the page of a store, for a host program: numbers and byte slices. The state is 68 bytes, the tape pairs of bytes, low byte
 // first; the answer is one number (see codec::pack). Every value of every number is answered; nothing is required.
 use client::Client;
 use codec::STATE;

@@ -13,7 +13,7 @@ use borrow.Author.Tests.{eqb-true, not-true, eqb-false, eq-eqb}
 use Rattle.lists.specs.All
 use Rattle.lists.specs.All.{All, IfSome, all-map, any-none}
 use Rattle.lists.specs.Distinct.{Mem}
-use Rattle.lists.specs.Members.{kept-none, not-member, all-mem}
+use Rattle.lists.specs.Members.{kept-none, all-mem}
 use Rattle.lists.specs.Search
 use Rattle.lists.specs.Search.{below, find, any}
 use Rattle.lists.specs.Tables.{put, put-has}
@@ -99,7 +99,7 @@ module _ (s : State) (f : Reached s) where
       go none e k = true≢false (sym k ∙ passed-none (s .partition) none p ℓ refl)
       go (some r) e k =
           let y = passed-why (s .partition) (some r) r p ℓ refl k in
-          ⊎-elim (λ z. omega (arith, y .1, z)) (λ z. not-member (s .partition (r .block)) (s .queue) z (rw (y .0) m)) (f .unheld r e)
+          ⊎-elim (λ z. omega (arith, y .1, z)) (λ z. f .released r e z (rw (y .0) m)) (f .unheld r e)
 
   -- beside a drawn job, an outstanding read is of another partition
   pub reading-away : (c : Command) → Reading s c → (s .sent ≡ 0 → ⊥) → ¬ (isFront (s .queue) (c .partition) ≡ true)
@@ -113,11 +113,11 @@ module _ (s : State) (f : Reached s) where
       q : ℕ
       q = s .partition (r .block)
 
-      tests : (not (Request.held s r) && eqb (length (Request.levelsLeft s r)) 0) ≡ true
-      tests = and-l (not (Request.held s r) && eqb (length (Request.levelsLeft s r)) 0) _ done
+      tests : (not (Request.held r) && eqb (length (Request.levelsLeft s r)) 0) ≡ true
+      tests = and-l (not (Request.held r) && eqb (length (Request.levelsLeft s r)) 0) _ done
 
-      unheld : Request.held s r ≡ false
-      unheld = not-true (Request.held s r) (and-l (not (Request.held s r)) (eqb (length (Request.levelsLeft s r)) 0) tests)
+      unheld : Request.held r ≡ false
+      unheld = not-true (Request.held r) (and-l (not (Request.held r)) (eqb (length (Request.levelsLeft s r)) 0) tests)
 
       hb : r .block < s .shape .N
       hb = block-lt s f r e
@@ -126,18 +126,18 @@ module _ (s : State) (f : Reached s) where
       top = place-lt (s .shape .L) ℓ i (s .place (r .block)) (f .range .places (r .block) hb) p .0
 
       full : filled (s .counter q) ℓ ≡ true
-      full = ap (λ n. filled n ℓ) (sym (counted-other s q (not-front (s .queue) q (not-member q (s .queue) unheld)))) ∙ f .agree .placed (r .block) ℓ i hb p .0
+      full = ap (λ n. filled n ℓ) (sym (counted-other s q (not-front (s .queue) q (f .released r e unheld)))) ∙ f .agree .placed (r .block) ℓ i hb p .0
 
       go : Dec (ℓ < r .level) → s .mark (cell (s .shape) q ℓ i) ≡ 0
       go (yes l) = f .fetched r ℓ i e p l
       go (no l) = absurd (true≢false (sym full ∙ kept-none (filled (s .counter q)) (r .level) (s .shape .L - r .level) ℓ
-          (eqb-true (length (Request.levelsLeft s r)) 0 (and-r (not (Request.held s r)) (eqb (length (Request.levelsLeft s r)) 0) tests)) (omega arith) (omega (arith, top))))
+          (eqb-true (length (Request.levelsLeft s r)) 0 (and-r (not (Request.held r)) (eqb (length (Request.levelsLeft s r)) 0) tests)) (omega arith) (omega (arith, top))))
 
   -- ..and no command of its partition is outstanding
   pub finished-quiet : (r : Request) → Collect.finished s r ≡ true → All (λ (c : Command). eqb (c .partition) (s .partition (r .block)) ≡ false) (s .outstanding)
   unfolding Collect.finished
   finished-quiet r done = any-none _ (s .outstanding) (not-true (any (λ (c : Command). eqb (c .partition) (s .partition (r .block))) (s .outstanding))
-      (and-r (not (Request.held s r) && eqb (length (Request.levelsLeft s r)) 0) (not (any (λ (c : Command). eqb (c .partition) (s .partition (r .block))) (s .outstanding))) done))
+      (and-r (not (Request.held r) && eqb (length (Request.levelsLeft s r)) 0) (not (any (λ (c : Command). eqb (c .partition) (s .partition (r .block))) (s .outstanding))) done))
 
   -- When an order is drawn, every slot of the sources is read
   pub sources-read : (q t : ℕ) → Rebuilds s q t → (ℓ i : ℕ) → ℓ < sources (s .shape) (s .counter q) → i < slots ℓ → s .mark (cell (s .shape) q ℓ i) ≡ 0
@@ -156,7 +156,7 @@ module _ (s : State) (f : Reached s) where
   -- A request's read: its partition has no job, and its slot is unread
   module _ (q ℓ i : ℕ) (d : RequestReads s q ℓ i) where
     pub unqueued : ¬ Mem q (s .queue)
-    unqueued m = not-member (s .partition (d .asked .block)) (s .queue) (unfold Request.held in (d .unheld)) (rw (d .part) m)
+    unqueued m = f .released (d .asked) (d .inHand) (d .unheld) (rw (d .part) m)
 
     pub request-unread : s .mark (cell (s .shape) q ℓ i) ≡ 1
     request-unread = ⊎-elim (λ e. own (f .unread (d .asked .block) ℓ i (block-lt s f (d .asked) (d .inHand)) (slot-own ℓ i (s .place (d .asked .block)) e))) (λ e. dummy-free s q ℓ i (e .1) .0) (d .slot)

@@ -30,7 +30,7 @@ pub record Lacks (s : State) : Type 0 where
   pub asked : Request
   pub level : ℕ
   pub inHand : s .request ≡ some asked
-  pub unheld : Request.held s asked ≡ false
+  pub unheld : Request.held asked ≡ false
   pub left : asked .level ≤ level
   pub top : level < s .shape .L
   pub full : filled (s .counter (s .partition (asked .block))) level ≡ true
@@ -41,7 +41,7 @@ pub record RequestReads (s : State) (q ℓ i : ℕ) : Type 0 where
   pub asked : Request
   pub inHand : s .request ≡ some asked
   pub part : s .partition (asked .block) ≡ q
-  pub unheld : Request.held s asked ≡ false
+  pub unheld : Request.held asked ≡ false
   pub left : asked .level ≤ ℓ
   pub top : ℓ < s .shape .L
   pub full : filled (s .counter q) ℓ ≡ true
@@ -93,23 +93,23 @@ module _ (s : State) where
   request-decided : (o : Option Request) → s .request ≡ o → IfSome (Decided s) (Turn.requestStep s o)
   unfolding Turn.requestStep Turn.firstRead Turn.readStep orElse
   request-decided none e = tt
-  request-decided (some r) e = go (Request.held s r) refl
+  request-decided (some r) e = go (Request.held r) refl
     where
       q : ℕ
       q = s .partition (r .block)
 
-      slot : (ℓ : ℕ) → Request.held s r ≡ false → ((m : ℕ) → r .level ≤ m → m < ℓ → filled (s .counter q) m ≡ false) → (r .level ≤ ℓ) × (ℓ < s .shape .L) × (filled (s .counter q) ℓ ≡ true) → (a b : Option ℕ) → Request.slotIn ℓ (s .place (r .block)) ≡ a → Request.dummy s q ℓ ≡ b
+      slot : (ℓ : ℕ) → Request.held r ≡ false → ((m : ℕ) → r .level ≤ m → m < ℓ → filled (s .counter q) m ≡ false) → (r .level ≤ ℓ) × (ℓ < s .shape .L) × (filled (s .counter q) ℓ ≡ true) → (a b : Option ℕ) → Request.slotIn ℓ (s .place (r .block)) ≡ a → Request.dummy s q ℓ ≡ b
           → Decided s (Turn.readStep q ℓ (orElse a b))
       slot ℓ u v k none none ea eb = record { asked = r; level = ℓ; inHand = e; unheld = u; left = k .0; top = k .1; full = k .2; none = eb }
       slot ℓ u v k none (some i) ea eb = record { asked = r; inHand = e; part = refl; unheld = u; left = k .0; top = k .1; full = k .2; first = v; slot = inr (ea, eb) }
       slot ℓ u v k (some i) b ea eb = record { asked = r; inHand = e; part = refl; unheld = u; left = k .0; top = k .1; full = k .2; first = v; slot = inl ea }
 
-      first : (ls : List ℕ) → Request.levelsLeft s r ≡ ls → Request.held s r ≡ false → All (λ ℓ. (r .level ≤ ℓ) × (ℓ < s .shape .L) × (filled (s .counter q) ℓ ≡ true)) ls
+      first : (ls : List ℕ) → Request.levelsLeft s r ≡ ls → Request.held r ≡ false → All (λ ℓ. (r .level ≤ ℓ) × (ℓ < s .shape .L) × (filled (s .counter q) ℓ ≡ true)) ls
           → IfSome (Decided s) (Turn.firstRead q (s .place (r .block)) (Request.dummy s q) ls)
       first [] e u nil = tt
       first (ℓ ∷ ls) e u (cons k t) = slot ℓ u (λ m a b. unfold Request.levelsLeft in (keep-first (filled (s .counter q)) (r .level) (s .shape .L - r .level) ℓ ls e m a b)) k (Request.slotIn ℓ (s .place (r .block))) (Request.dummy s q ℓ) refl refl
 
-      go : (t : Bool) → Request.held s r ≡ t → IfSome (Decided s) (if t then none else Turn.firstRead q (s .place (r .block)) (Request.dummy s q) (Request.levelsLeft s r))
+      go : (t : Bool) → Request.held r ≡ t → IfSome (Decided s) (if t then none else Turn.firstRead q (s .place (r .block)) (Request.dummy s q) (Request.levelsLeft s r))
       go true u = tt
       go false u = first (Request.levelsLeft s r) refl u (levels-left r)
 

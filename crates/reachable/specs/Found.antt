@@ -152,7 +152,7 @@ sent-turn s k q ℓ i e = go (eqb (number s k) 0) refl
     go false z = absurd (no-read (unfold Run.refused in (rw (step-refused s k (eqb-false (number s k) 0 z)) at e)))
 
 -- a request that isn't held and has a level left is read for
-pub request-decides : (s : State) (r : Request) → s .request ≡ some r → Request.held s r ≡ false → (ℓ : ℕ) (ls : List ℕ) → Request.levelsLeft s r ≡ ℓ ∷ ls
+pub request-decides : (s : State) (r : Request) → s .request ≡ some r → Request.held r ≡ false → (ℓ : ℕ) (ls : List ℕ) → Request.levelsLeft s r ≡ ℓ ∷ ls
     → decide s ≡ Turn.readStep (s .partition (r .block)) ℓ (orElse (Request.slotIn ℓ (s .place (r .block))) (Request.dummy s (s .partition (r .block)) ℓ))
 unfolding decide Turn.requestStep Turn.firstRead
 request-decides s r e u ℓ ls v =

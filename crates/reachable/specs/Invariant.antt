@@ -81,7 +81,11 @@ Reads s = (q ℓ : ℕ) → q < s .shape .P → ℓ < s .shape .L → filled (co
 
 -- A request that has sent a read is not held
 abbrev pub Unheld : State → Type 0
-Unheld s = (r : Request) → s .request ≡ some r → (r .level ≡ 0) ⊎ (Request.held s r ≡ false)
+Unheld s = (r : Request) → s .request ≡ some r → (r .level ≡ 0) ⊎ (Request.held r ≡ false)
+
+-- The partition of a request that is not held has no job
+abbrev pub Released : State → Type 0
+Released s = (r : Request) → s .request ≡ some r → Request.held r ≡ false → ¬ Mem (s .partition (r .block)) (s .queue)
 
 -- The request in hand is for b and has sent its read to level ℓ
 abbrev pub Own : State → ℕ → ℕ → Type 0
@@ -148,6 +152,7 @@ pub record Reached (s : State) : Type 0 where
   pub begun : Begun s
   pub reads : Reads s
   pub unheld : Unheld s
+  pub released : Released s
   pub unread : Unread s
   pub fetched : Fetched s
   pub scanned : Scanned s

@@ -14,7 +14,7 @@ use lib.Pow.{pow-pos, pow-mono}
 use borrow.Author.Tests.{eq-eqb, lt-ltb, le-leb, ltb-true}
 use Rattle.lists.specs.All.{All, cons, find-none}
 use Rattle.lists.specs.Distinct.{Mem}
-use Rattle.lists.specs.Members.{not-member, all-mem, below-mem, decMem, nodup-le, nodup-sub, mem-member, map-mem, append-right, member-append}
+use Rattle.lists.specs.Members.{all-mem, below-mem, decMem, nodup-le, nodup-sub, mem-member, map-mem, append-right, member-append}
 use Rattle.lists.specs.Search
 use Rattle.lists.specs.Search.{below, member}
 use Rattle.lists.specs.Tests.{and-l, and-true, or-left, or-right}
@@ -66,7 +66,7 @@ never-lacks s f k = go (f .reads q ℓ hq (k .top) (ap (λ c. filled c ℓ) coun
     hq = f .range .partitions (r .block) (block-lt s f r (k .inHand))
 
     unqueued : ¬ Mem q (s .queue)
-    unqueued = not-member q (s .queue) (unfold Request.held in (k .unheld))
+    unqueued = f .released r (k .inHand) (k .unheld)
 
     count : counted s q ≡ s .counter q
     count = counted-other s q (not-front (s .queue) q unqueued)

@@ -15,7 +15,7 @@ use Rattle.rules.specs.Completion
 use Rattle.rules.specs.Draws.{newOrder, draws, Drew}
 use Rattle.rules.specs.Laws.Answers.{Passed, accepted-passed, step-accepted, step-refused}
 use Rattle.rules.specs.Laws.Decided.{decide-in, StepIn, stepBounds-pos}
-use Rattle.rules.specs.Laws.Kept.{act-in, completed-in, fresh-in, drew-of, given-in}
+use Rattle.rules.specs.Laws.Kept.{perform-in, completed-in, fresh-in, drew-of, given-in}
 use Rattle.rules.specs.Laws.Levels.{partitions-pos}
 use Rattle.rules.specs.Laws.Range.{InRange, facts-range}
 use Rattle.rules.specs.Memory
@@ -38,6 +38,7 @@ use Rattle.reachable.specs.Kept.JobRead.{job-read-kept}
 use Rattle.reachable.specs.Kept.Open.{fresh-kept}
 use Rattle.reachable.specs.Kept.Rebuild.Commands.{rebuild-kept}
 use Rattle.reachable.specs.Kept.Rebuild.Drawing.{drawing}
+use Rattle.reachable.specs.Kept.Release.{release-kept}
 use Rattle.reachable.specs.Kept.RequestRead.{request-read-kept}
 use Rattle.reachable.specs.Kept.Write.{write-kept}
 
@@ -76,16 +77,20 @@ module _ (s : State) (f : Reached s) where
   none-of (some r) e = absurd (true≢false (sym e))
 
   -- Every accepted call leaves a state that is reached
-  pub act-kept : (a : Ask) (m : ℕ) (ws : List ℕ) (k : ℕ) (js : List ℕ) → Passed (questions s a m ws k) → Drew (bounds s a) js → Reached (act s a js)
-  unfolding act questions bounds
-  act-kept a m ws k js p d = go a p d (act-in s (f .range) a m ws k js p d)
+  perform-kept : (a : Ask) (m : ℕ) (ws : List ℕ) (k : ℕ) (js : List ℕ) → Passed (questions s a m ws k) → Drew (bounds s a) js → Reached (Run.perform s a js)
+  unfolding Run.perform questions bounds
+  perform-kept a m ws k js p d = go a p d (perform-in s (f .range) a m ws k js p d)
     where
-      go : (a : Ask) → Passed (questions s a m ws k) → Drew (bounds s a) js → InRange (act s a js) → Reached (act s a js)
+      go : (a : Ask) → Passed (questions s a m ws k) → Drew (bounds s a) js → InRange (Run.perform s a js) → Reached (Run.perform s a js)
       go (opening h) p d range = fresh-kept h js range
       go (request j b bs) p d range = accept-kept s f (none-of (s .request) (p .1 .0)) j b bs js range
       go turn p d range = step-kept (decide s) js (decided s) (decide-in s (f .range)) d range
       go (completion c bs) p d range = complete-kept c bs range
       go collect p d range = collected-kept (s .request) refl (p .1 .1 .0) range
+
+  pub act-kept : (a : Ask) (m : ℕ) (ws : List ℕ) (k : ℕ) (js : List ℕ) → Passed (questions s a m ws k) → Drew (bounds s a) js → Reached (act s a js)
+  unfolding act
+  act-kept a m ws k js p d = release-kept (Run.perform s a js) (perform-kept a m ws k js p d)
 
 -- A state that calls left: closed, or reached
 pub data Was (s : State) : Type 0 where
@@ -101,18 +106,23 @@ pub was-reached : (s : State) (m : ℕ) → Was s → Questions.ready s m ≡ tr
 was-reached s m (live f) e = f
 was-reached s m (shut w) e = absurd (closed-out (rw w at (given-in s m e)))
 
-pub accepted-kept : (s : State) (a : Ask) (m : ℕ) (ws : List ℕ) (k : ℕ) → Was s → Passed (questions s a m ws k) → Reached (act s a (Run.numbersOf (draws (bounds s a) ws)))
+-- what an accepted call does, before a request is released
+pub performed-kept : (s : State) (a : Ask) (m : ℕ) (ws : List ℕ) (k : ℕ) → Was s → Passed (questions s a m ws k) → Reached (Run.perform s a (Run.numbersOf (draws (bounds s a) ws)))
 unfolding questions bounds
-accepted-kept s (opening h) m ws k l p = unfold act in (
+performed-kept s (opening h) m ws k l p = unfold Run.perform in (
     fresh-kept h _ (fresh-in h _ (p .0) (drew-of _ ws (all-replicate (λ m. 0 < m) (h .N) (h .P) (partitions-pos h (p .0))) (p .1 .1 .0)))
     )
-accepted-kept s (request j b bs) m ws k l p =
+performed-kept s (request j b bs) m ws k l p =
     let f = was-reached s m l (and-l (Questions.ready s m) (isKind j) (p .0)) in
     let h = partitions-pos (s .shape) (f .range .shape) in
-    act-kept s f (request j b bs) m ws k _ p (drew-of _ ws (cons h (cons h nil)) (p .1 .1 .1 .1 .1 .1 .0))
-accepted-kept s turn m ws k l p = act-kept s (was-reached s m l (p .0)) turn m ws k _ p (drew-of _ ws (stepBounds-pos (decide s)) (p .1 .1 .1 .1 .0))
-accepted-kept s (completion c bs) m ws k l p = act-kept s (was-reached s m l (and-l (Questions.ready s m) (isKind (c .kind)) (p .0))) (completion c bs) m ws k _ p (unfold draws Run.numbersOf in tt)
-accepted-kept s collect m ws k l p = act-kept s (was-reached s m l (p .0)) collect m ws k _ p (unfold draws Run.numbersOf in tt)
+    perform-kept s f (request j b bs) m ws k _ p (drew-of _ ws (cons h (cons h nil)) (p .1 .1 .1 .1 .1 .1 .0))
+performed-kept s turn m ws k l p = perform-kept s (was-reached s m l (p .0)) turn m ws k _ p (drew-of _ ws (stepBounds-pos (decide s)) (p .1 .1 .1 .1 .0))
+performed-kept s (completion c bs) m ws k l p = perform-kept s (was-reached s m l (and-l (Questions.ready s m) (isKind (c .kind)) (p .0))) (completion c bs) m ws k _ p (unfold draws Run.numbersOf in tt)
+performed-kept s collect m ws k l p = perform-kept s (was-reached s m l (p .0)) collect m ws k _ p (unfold draws Run.numbersOf in tt)
+
+pub accepted-kept : (s : State) (a : Ask) (m : ℕ) (ws : List ℕ) (k : ℕ) → Was s → Passed (questions s a m ws k) → Reached (act s a (Run.numbersOf (draws (bounds s a) ws)))
+unfolding act
+accepted-kept s a m ws k l p = release-kept (Run.perform s a (Run.numbersOf (draws (bounds s a) ws))) (performed-kept s a m ws k l p)
 
 refuse-was : (s : State) (a : Ask) → Was s → Was (Run.refuse s a)
 unfolding Run.refuse
@@ -137,7 +147,7 @@ after-was (c ∷ cs) s l = after-was cs (step s c .0) (step-was s c l)
 
 -- the open does not look at what was before it
 open-same : (s : State) (h : Shape) (k : ℕ) (ws : List ℕ) (n : ℕ) → let c : Call = record { ask = opening h; memory = k; words = ws; buffer = n } in step s c ≡ step closed c
-unfolding step number questions bounds Run.accepted act Run.refuse Run.sentCommand Run.handed
+unfolding step number questions bounds Run.accepted act Run.perform Run.refuse Run.sentCommand Run.handed Run.handedFound
 open-same s h k ws n = refl
 
 pub open-first : (s : State) (c : Call) (h : Shape) → c .ask ≡ opening h → step s c ≡ step closed c

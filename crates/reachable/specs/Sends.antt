@@ -174,7 +174,7 @@ module _ (q ℓ i : ℕ) where
     drawn a = Run.numbersOf (draws (bounds s a) ws)
 
     call-last : (a : Ask) → opens a ≡ false → Passed (questions s a memory ws n) → (Run.sentCommand s a ≡ cmd read q ℓ i → k ≡ write) × Last (act s a (drawn a)) (lastKind q ℓ i k (Run.sentCommand s a))
-    unfolding act Run.sentCommand questions bounds opens
+    unfolding act Run.perform Run.sentCommand questions bounds opens
     call-last (opening h) e p = absurd (true≢false e)
     call-last (request j b bs) e p = ((λ e. absurd (omega (arith, ap (λ (c : Command). c .kind) e))), rw (kind-none k) (unfold Request.accept in last))
     call-last turn e p =
@@ -214,7 +214,7 @@ module _ (q ℓ i : ℕ) where
   open-last h c e = go (eqb (number closed c) 0) refl
     where
       none-marked : (a : Ask) → a ≡ opening h → (js : List ℕ) (k : ℕ) → Last (act closed a js) k
-      none-marked a e js k = rw e (unfold act fresh in (λ hℓ hi u v. absurd (omega arith)))
+      none-marked a e js k = rw e (unfold act Run.perform fresh in (λ hℓ hi u v. absurd (omega arith)))
 
       none-sent : (a : Ask) → a ≡ opening h → Run.sentCommand closed a ≡ cmd 0 0 0 0
       none-sent a e = rw e (unfold Run.sentCommand in refl)

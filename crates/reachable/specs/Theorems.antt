@@ -4,7 +4,7 @@
 use mathlib.Core.Path.{_≡_, refl, ap, sym, _∙_}
 use mathlib.Core.Logic.{_⊎_, inl, inr}
 use mathlib.Core.Bool.{true, false, true≢false}
-use mathlib.Core.List.{List, [], _∷_, _++_}
+use mathlib.Core.List.{List, [], _∷_, _++_, map}
 use mathlib.Core.Option.{Option, none, some}
 use Prim.Native.Nat.{ℕ, _+_, _-_, _^_, _≤_, _<_}
 use native.Mathlib.Omega.{arith}
@@ -13,6 +13,7 @@ use borrow.Author.Tests.{leb-false}
 use Rattle.lists.specs.All.{All}
 use Rattle.lists.specs.Search.{find, any, orElse}
 use Rattle.lists.specs.Totals.{total}
+use Rattle.rules.specs.Before.{untold, heldByRule, before}
 use Rattle.rules.specs.Blocks.{isUnread}
 use Rattle.rules.specs.Completion.{isCommand}
 use Rattle.rules.specs.Figures.{nowhereBlocks, storedBlocks, waitingBlocks, jobsFor}
@@ -23,7 +24,7 @@ use Rattle.rules.specs.Memory.{needed}
 use Rattle.rules.specs.Questions
 use Rattle.rules.specs.Questions.{opening, request, turn, Call, possible, questions, firstNo, number}
 use Rattle.rules.specs.Rebuild.{places, unread, gathered}
-use Rattle.rules.specs.Request.{held, levelsLeft, dummy, slotIn}
+use Rattle.rules.specs.Request.{held, blocked, levelsLeft, dummy, slotIn}
 use Rattle.rules.specs.Run.{Outcome, step, run, after}
 use Rattle.rules.specs.Shape.{Shape, slots}
 use Rattle.rules.specs.State.{State, Command, cmd, read, write, Request, closed}
@@ -34,8 +35,9 @@ use Rattle.reachable.specs.Counts.{waiting-all, begun-front}
 use Rattle.reachable.specs.Decided.{Rebuilds, decided, JobReads}
 use Rattle.reachable.specs.Found.{request-decides, scan-all, lower-read, lowest-dummy, decided-filled, sent-turn}
 use Rattle.reachable.specs.Never.{always-possible, never-many, late-two, never-full, full-ready}
-use Rattle.reachable.specs.Reached.{Was, reachable, live, shut, ready-memory, was-reached}
+use Rattle.reachable.specs.Reached.{Was, reachable, open-first, live, shut, ready-memory, was-reached}
 use Rattle.reachable.specs.Sends.{write-within, reads-after-writes, behind, read-is}
+use Rattle.reachable.specs.Settled.{Settled, closed-settled, step-settles, after-settled, held-is, runs-before}
 use Rattle.reachable.specs.Slots.{front-in}
 use Rattle.reachable.specs.Terms.{Apart, none-apart, Numbered, LowestDummy, EachAfterWrite}
 
@@ -64,6 +66,16 @@ module _ (s : State) (c : Call) (h : Shape) (first : c .ask ≡ opening h) (cs :
   was : Was left
   was = reachable s c h first cs
 
+  -- what the open left
+  opened-was : Was (step s c .0)
+  opened-was = unfold after in (reachable s c h first [])
+
+  opened-settled : Settled (step s c .0)
+  opened-settled = rw (open-first s c h first) (step-settles closed c closed-settled)
+
+  settled : Settled left
+  settled = unfold after in (after-settled cs (step s c .0) opened-settled)
+
   -- ---- "States that calls left never do either"
 
   -- A turn never lacks an unread dummy
@@ -74,9 +86,23 @@ module _ (s : State) (c : Call) (h : Shape) (first : c .ask ≡ opening h) (cs :
       go (live f) = true≢false (sym (always-possible left f) ∙ ap (possible left) e ∙ unfold possible in refl)
       go (shut w) = closed-decides left w noDummy e (unfold Questions.sends in refl)
 
+  -- ---- "The request is held while a job for p is queued or running", and no longer
+  pub held-while : (r : Request) → left .request ≡ some r → held r ≡ blocked left r
+  held-while = held-is left was settled
+
+  -- ---- Document 02, P2: "Nothing the host is sent may change by it": numbers, words, commands and bytes of every run are those of document 01's rules,
+  -- which ask at each call whether the request is held and know nothing of where its block was found
+  pub as-before : map untold (run s (c ∷ cs)) ≡ before s (c ∷ cs)
+  unfolding run before
+  as-before =
+      let same : step (heldByRule s) c ≡ step s c = open-first (heldByRule s) c h first ∙ sym (open-first s c h first) in
+      let told = ap (λ (x : State × Outcome). untold (x .1)) (sym same) in
+      let rest = runs-before cs (step s c .0) (step s c .0) opened-was opened-settled refl ∙ ap (λ (x : State × Outcome). before (x .0) cs) (sym same) in
+      λ i. told i ∷ rest i
+
   -- ---- "Then it sends one read to each filled level of p": while a request that isn't held has a filled level left, a turn reads the first of
   -- these levels; no turn is idle then
-  pub read-due : (r : Request) → left .request ≡ some r → held left r ≡ false → (ℓ : ℕ) (ls : List ℕ) → levelsLeft left r ≡ ℓ ∷ ls
+  pub read-due : (r : Request) → left .request ≡ some r → held r ≡ false → (ℓ : ℕ) (ls : List ℕ) → levelsLeft left r ≡ ℓ ∷ ls
       → (i : ℕ) × (decide left ≡ readForRequest (left .partition (r .block)) ℓ i)
   read-due r e u ℓ ls v = go (orElse (slotIn ℓ (left .place (r .block))) (dummy left q ℓ)) refl
     where

@@ -18,6 +18,7 @@ ghost use Rattle.ready.specs.Usable.{shapeFits};
 
 // Each number of the request in hand is in its range.
 fn request_fits(h: Shape, r: Request) -> bool
+    requires { ⌜ h .l ≤ 8 ⌝ }
     ensures { λ a. ⌜ a ≡ requestFits (shapeOf h) r ⌝ }
 {
     (READ <= r.kind)
@@ -26,6 +27,7 @@ fn request_fits(h: Shape, r: Request) -> bool
         & (r.next < h.p)
         & (r.evict < h.p)
         & (r.level <= h.l)
+        & (r.found < h.l + 3)
 }
 
 // So are the counts.

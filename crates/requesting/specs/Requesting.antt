@@ -3,11 +3,11 @@ use mathlib.Core.Path.{_≡_, refl, ap, sym, _∙_}
 use mathlib.Core.Bool.{Bool, true, false, _&&_, _||_, true≢false}
 use mathlib.Core.List.{List, [], _∷_}
 use mathlib.Core.Option.{none, some}
-use Prim.Native.Nat.{ℕ, _%_, _≤_}
+use Prim.Native.Nat.{ℕ, _%_, _≤_, _<_}
 use native.Mathlib.Omega.{arith}
 use lib.ListN.{length, getD}
 use lib.Dec.{eqb, leb, ltb}
-use borrow.Author.Tests.{eqb-true, ne-eqb, leb-true}
+use borrow.Author.Tests.{eqb-true, ne-eqb, leb-true, ltb-true}
 use Rattle.lists.specs.Tests.{if_then_else_, and-l, and-r, between}
 use Rattle.lists.specs.Search.{isNone, member}
 use Rattle.lists.specs.Tables.{put, put-own}
@@ -16,7 +16,7 @@ use Rattle.rules.specs.State.{State, write}
 use Rattle.rules.specs.Setters.{setRequest}
 use Rattle.rules.specs.Ranges.{isKind, bytesOf}
 use Rattle.rules.specs.Draws.{draws}
-use Rattle.rules.specs.Request.{accept}
+use Rattle.rules.specs.Request.{accept, release}
 use Rattle.rules.specs.Questions.{request, ready, bounds, questions, firstNo, number}
 use Rattle.rules.specs.Run.{numbersOf}
 use Rattle.rules.specs.Laws.Answers.{accepted-passed}
@@ -25,7 +25,7 @@ use Rattle.memory.specs.Fits.{shapeOf}
 use Rattle.memory.specs.declared.Shape.{Shape as Numbers}
 use Rattle.client.specs.declared.Client.{Client}
 use Rattle.client.specs.declared.Request.{Request}
-use Rattle.client.specs.View.{stateOf, view, requestOf}
+use Rattle.client.specs.View.{stateOf, view, foundBy, requestOf}
 use Rattle.client.specs.Readings.{jobs-count, waiting-count, hand-none}
 use Rattle.client.specs.Changes.{view-asked}
 use Rattle.client.specs.Moves.{withRequest, Stands, stands}
@@ -48,7 +48,7 @@ requestNumber c m k b len words = firstNo
 abbrev pub drawnBy : Client → List ℕ → List ℕ
 drawnBy c tape = numbersOf (draws (c .shape .p ∷ c .shape .p ∷ []) (wordsOf tape))
 
--- the state after an accepted request
+-- the state after an accepted request, before it is released
 abbrev pub Taken : Client → List ℕ → ℕ → ℕ → List ℕ → List ℕ → State
 Taken c m k b bs tape = accept k b bs (drawnBy c tape) (stateOf c m)
 
@@ -78,13 +78,14 @@ module _ (c : Client) (m : List ℕ) where
       rw (shape-is, none-is, jobs-count c m, waiting-count c m, draws-enough (c .shape .p ∷ c .shape .p ∷ []) (wordsOf tape))
 
   -- where it is 0, all answers are yes
-  pub record Asked (k : ℕ) (bs tape : List ℕ) : Type 0 where
+  pub record Asked (k b : ℕ) (bs tape : List ℕ) : Type 0 where
     pub usable : Usable c m
+    pub block : b < c .shape .n
     pub some : 1 ≤ k
     pub size : length bs ≡ bytesOf (shapeOf (c .shape)) k
     pub words : 2 ≤ length (wordsOf tape)
 
-  pub request-passed : (k b : ℕ) (bs tape : List ℕ) → number (stateOf c m) (callOf (request k b bs) m tape []) ≡ 0 → Asked k bs tape
+  pub request-passed : (k b : ℕ) (bs tape : List ℕ) → number (stateOf c m) (callOf (request k b bs) m tape []) ≡ 0 → Asked k b bs tape
   unfolding questions bounds isKind between
   request-passed k b bs tape e =
       let y = accepted-passed (stateOf c m) (callOf (request k b bs) m tape []) e in
@@ -92,6 +93,7 @@ module _ (c : Client) (m : List ℕ) where
       let size = eqb-true (length bs) (bytesOf (stateOf c m .shape) k) (y .1 .1 .1 .0) in
       record {
         usable = usable c m (and-l (ready (stateOf c m) (length m)) (leb 1 k && leb k 2) (y .0));
+        block = let l = ltb-true b (stateOf c m .shape .N) (y .1 .1 .0) in rw shape-is at l;
         some = leb-true 1 k (and-l (leb 1 k) (leb k 2) kind);
         size = rw shape-is at size;
         words = leb-true 2 (length (wordsOf tape)) (sym (draws-enough (stateOf c m .shape .P ∷ stateOf c m .shape .P ∷ []) (wordsOf tape)) ∙ y .1 .1 .1 .1 .1 .1 .0);
@@ -117,25 +119,25 @@ contents-is h k bs v e = go (eqb k write) e
 
 hand-is : (c : Client) (k b : ℕ) (bs v tape : List ℕ) (next evict : ℕ) → 1 ≤ k → length bs ≡ bytesOf (shapeOf (c .shape)) k → 2 ≤ length (wordsOf tape)
     → next ≡ getD (wordsOf tape) 0 0 % c .shape .p → evict ≡ getD (wordsOf tape) 1 0 % c .shape .p
-    → requestOf (record { kind = k; block = b; next = next; evict = evict; level = 0 }) (if eqb k write then bs else v)
-    ≡ some (record { kind = k; block = b; bytes = bs; next = getD (drawnBy c tape) 0 0; evict = getD (drawnBy c tape) 1 0; level = 0 })
-unfolding requestOf
+    → requestOf (record { kind = k; block = b; next = next; evict = evict; level = 0; found = 0 }) (if eqb k write then bs else v)
+    ≡ some (record { kind = k; block = b; bytes = bs; next = getD (drawnBy c tape) 0 0; evict = getD (drawnBy c tape) 1 0; level = 0; found = none })
+unfolding requestOf foundBy
 hand-is c k b bs v tape next evict l e w n u =
     let ms : List ℕ = c .shape .p ∷ c .shape .p ∷ [] in
     let first = n ∙ sym (draws-number ms (wordsOf tape) 0 w (omega arith)) in
     let second = u ∙ sym (draws-number ms (wordsOf tape) 1 w (omega arith)) in
-    rw (ne-eqb k 0 (λ z. omega arith)) (λ i. some (record { kind = k; block = b; bytes = contents-is (c .shape) k bs v e i; next = first i; evict = second i; level = 0 }))
+    rw (ne-eqb k 0 (λ z. omega arith)) (λ i. some (record { kind = k; block = b; bytes = contents-is (c .shape) k bs v e i; next = first i; evict = second i; level = 0; found = none }))
 
 pub taken-stands : (c : Client) (m₀ m : List ℕ) (k b : ℕ) (bs tape : List ℕ) (next evict : ℕ) → Kept (c .shape) k bs m₀ m → 1 ≤ k → length bs ≡ bytesOf (shapeOf (c .shape)) k → 2 ≤ length (wordsOf tape)
     → next ≡ getD (wordsOf tape) 0 0 % c .shape .p → evict ≡ getD (wordsOf tape) 1 0 % c .shape .p
-    → Stands (withRequest (record { kind = k; block = b; next = next; evict = evict; level = 0 }) c) m₀ m (Taken c m₀ k b bs tape)
+    → Stands (withRequest (record { kind = k; block = b; next = next; evict = evict; level = 0; found = 0 }) c) m₀ m (Taken c m₀ k b bs tape)
 unfolding stateOf view accept tablesOf
 taken-stands c m₀ m k b bs tape next evict t l e w n u =
-    let c′ : Client = withRequest (record { kind = k; block = b; next = next; evict = evict; level = 0 }) c in
+    let c′ : Client = withRequest (record { kind = k; block = b; next = next; evict = evict; level = 0; found = 0 }) c in
     stands c′ m₀ m _ (Taken c m₀ k b bs tape) t refl
     (view-asked c′ (tablesOf (shapeOf (c .shape)) m₀) _ ∙ ap (λ r. setRequest r (stateOf c m₀)) (hand-is c k b bs _ tape next evict l e w n u))
 
 -- a request is in hand then
-pub in-hand : (c r : Client) (m m′ : List ℕ) (k b : ℕ) (bs tape : List ℕ) → stateOf r m′ ≡ Taken c m k b bs tape → r .request .kind ≡ 0 → ⊥
+pub in-hand : (c r : Client) (m m′ : List ℕ) (k b : ℕ) (bs tape : List ℕ) → stateOf r m′ ≡ release (Taken c m k b bs tape) → r .request .kind ≡ 0 → ⊥
 unfolding accept isNone
 in-hand c r m m′ k b bs tape e z = true≢false (ap isNone (sym (hand-none r m′ z) ∙ ap (λ (x : State). x .request) e))

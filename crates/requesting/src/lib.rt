@@ -12,6 +12,7 @@ ghost use lib.ListN.{length};
 ghost use lib.Dec.{ltb};
 ghost use Rattle.lists.specs.Search.{member};
 ghost use Rattle.rules.specs.Ranges.{isKind, bytesOf};
+ghost use Rattle.rules.specs.Request.{release};
 ghost use Rattle.rules.specs.Questions.{request as requestOf, ready};
 ghost use Rattle.memory.specs.Fits.{shapeOf, Fits};
 ghost use Rattle.client.specs.View.{stateOf};
@@ -84,22 +85,24 @@ fn keep(h: Shape, m: &mut [u8], kind: usize, contents: &[u8])
     memory::blocks::store(h, m, h.n, contents);
 }
 
-// The request is in hand from now on.
+// The request is in hand from now on, and it is held only if a job for its block's partition is queued.
 fn take(c: Client, m: &mut [u8], kind: usize, block: usize, contents: &[u8], tape: &[u8]) -> Client
-    requires { ⌜ Room c (now m) × (1 ≤ kind) × (length (now contents) ≡ bytesOf (shapeOf (c .shape)) kind) × (2 ≤ length (wordsOf (now tape))) ⌝ }
-    ensures { λ r. ⌜ Stands r (now (m .entry)) (now (m .exit)) (Taken c (now (m .entry)) kind block (now (contents .entry)) (now (tape .entry))) ⌝ }
+    requires { ⌜ Room c (now m) × (c .jobs ≤ 64) × (c .waiting ≤ c .shape .n) × (block < c .shape .n) × (1 ≤ kind) × (length (now contents) ≡ bytesOf (shapeOf (c .shape)) kind) × (2 ≤ length (wordsOf (now tape))) ⌝ }
+    ensures { λ r. ⌜ Stands r (now (m .entry)) (now (m .exit)) (release (Taken c (now (m .entry)) kind block (now (contents .entry)) (now (tape .entry)))) ⌝ }
 {
     let p = c.shape.p;
     let next = tape::draw(tape, 0, p);
     let evict = tape::draw(tape, 1, p);
     keep(c.shape, m, kind, contents);
-    c.with_request(Request {
+    let d = c.with_request(Request {
         kind,
         block,
         next,
         evict,
         level: 0,
-    })
+        found: 0,
+    });
+    releasing::release(d, m)
 }
 
 pub fn request(

@@ -8,7 +8,7 @@ use lib.Dec.{ltb, eqb}
 use Rattle.lists.specs.Tests.{if_then_else_}
 use Rattle.lists.specs.Search.{keep, below, member}
 use Rattle.rules.specs.Shape.{slots, cell}
-use Rattle.rules.specs.State.{Place, nowhere, stored, State}
+use Rattle.rules.specs.State.{Place, nowhere, stored, Found, foundNowhere, foundCache, foundLevel, State}
 
 -- the block that an entry of `holds` names
 unfoldable pub named : ℕ → Option ℕ
@@ -42,6 +42,16 @@ isNowhere (stored ℓ i) = false
 -- "A block that is nowhere reads as B zeros."
 unfoldable pub contents : State → ℕ → List ℕ
 contents s b = if isNowhere (s .place b) && not (member b (s .waiting)) then zeros s else s .bytes b
+
+-- Document 02, P2: "The look-up of a place now also says nowhere, cache, or which level": by the block's place, and whether it waits. No call leaves
+-- a block that has a slot and waits; it would be found in its level
+unfoldable pub foundAt : Place → Bool → Found
+foundAt nowhere false = foundNowhere
+foundAt nowhere true = foundCache
+foundAt (stored ℓ i) waits = foundLevel ℓ
+
+unfoldable pub lookUp : State → ℕ → Found
+lookUp s b = foundAt (s .place b) (member b (s .waiting))
 
 -- what is written to a slot that holds this block, or a dummy
 unfoldable pub slotBytes : State → Option ℕ → List ℕ

@@ -4,3 +4,4 @@ pub mod FirstNo
 pub mod SessionsA
 pub mod SessionsB
 pub mod SessionsC
+pub mod SessionsD

@@ -1,7 +1,7 @@
 -- Document 01, "Collect hands out the contents before the request, for reads and writes."
 use mathlib.Core.Bool.{Bool, not, _&&_}
 use mathlib.Core.List.{List, [], _∷_, _++_}
-use mathlib.Core.Option.{Option, none, some}
+use mathlib.Core.Option.{Option, none, some, Option·getD}
 use Prim.Native.Nat.{ℕ}
 use lib.ListN.{length}
 use lib.Dec.{eqb}
@@ -9,7 +9,7 @@ use Rattle.lists.specs.Tests.{if_then_else_}
 use Rattle.lists.specs.Search.{any}
 use Rattle.lists.specs.Tables.{put}
 use Rattle.rules.specs.Shape.{cell}
-use Rattle.rules.specs.State.{write, Place, nowhere, stored, Request, State}
+use Rattle.rules.specs.State.{write, Place, nowhere, stored, Found, foundNowhere, Request, State}
 use Rattle.rules.specs.Setters.{_▷_, setPartition, setPlace, setBytes, setWaiting, setHolds, setQueue, setRequest}
 use Rattle.rules.specs.Ranges.{others}
 use Rattle.rules.specs.Blocks.{contents}
@@ -17,7 +17,7 @@ use Rattle.rules.specs.Request.{held, levelsLeft}
 
 -- "A request is finished when it isn't held and all its reads are sent and completed": nothing of its partition is outstanding
 unfoldable pub finished : State → Request → Bool
-finished s r = not (held s r) && eqb (length (levelsLeft s r)) 0 && not (any (λ c. eqb (c .partition) (s .partition (r .block))) (s .outstanding))
+finished s r = not (held r) && eqb (length (levelsLeft s r)) 0 && not (any (λ c. eqb (c .partition) (s .partition (r .block))) (s .outstanding))
 
 -- the slot that a block leaves holds nothing more; `at` has the cells of its partition
 unfoldable pub emptied : (ℕ → ℕ → ℕ) → Place → (ℕ → ℕ) → ℕ → ℕ
@@ -44,3 +44,8 @@ collected (some r) s = finish r s
 unfoldable pub answer : State → Option Request → List ℕ
 answer s none = []
 answer s (some r) = contents s (r .block)
+
+-- Document 02, P2: "collect hands it out with the contents"
+unfoldable pub carried : Option Request → Found
+carried none = foundNowhere
+carried (some r) = Option·getD (r .found) foundNowhere

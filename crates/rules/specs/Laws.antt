@@ -9,6 +9,9 @@ pub mod RangeSetters
 pub mod Decided
 pub mod Kept
 pub mod Shapes
+pub mod Released
 pub mod Asked
 pub mod Lengths
 pub mod Figures
+pub mod Before
+pub mod Found

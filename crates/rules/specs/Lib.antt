@@ -15,8 +15,9 @@ pub mod Completion
 pub mod Collect
 pub mod Questions
 pub mod Run
--- Document 02: the figures of a page
+-- Document 02: the figures of a page; and the runs of document 01 before blocks told where they were found
 pub mod Figures
+pub mod Before
 -- Theorems: sessions and edges that the checker computes, and laws
 pub mod Unfold
 pub mod Checked

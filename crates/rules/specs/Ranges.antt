@@ -8,7 +8,7 @@ use lib.Dec.{ltb, leb, eqb}
 use Rattle.lists.specs.Tests.{if_then_else_, every, between}
 use Rattle.lists.specs.Search.{all, keep, below}
 use Rattle.rules.specs.Shape.{Shape, within, slots, cell}
-use Rattle.rules.specs.State.{Command, read, write, Place, nowhere, stored, Request, State}
+use Rattle.rules.specs.State.{Command, read, write, Place, nowhere, stored, Found, foundNowhere, foundCache, foundLevel, Request, State}
 
 unfoldable pub isKind : ℕ → Bool
 isKind k = between read write k
@@ -25,6 +25,13 @@ rangePlace levels (stored ℓ i) = ltb ℓ levels && ltb i (slots ℓ)
 unfoldable pub rangeCommand : Shape → Command → Bool
 rangeCommand h c = every (isKind (c .kind) ∷ ltb (c .partition) (h .P) ∷ ltb (c .level) (h .L) ∷ ltb (c .slot) (slots (c .level)) ∷ [])
 
+-- where a request's block was found, if anywhere: a level is below L
+unfoldable pub rangeFound : ℕ → Option Found → Bool
+rangeFound levels none = true
+rangeFound levels (some foundNowhere) = true
+rangeFound levels (some foundCache) = true
+rangeFound levels (some (foundLevel ℓ)) = ltb ℓ levels
+
 unfoldable pub rangeRequest : Shape → Option Request → Bool
 rangeRequest h none = true
 rangeRequest h (some r) = every
@@ -33,7 +40,8 @@ rangeRequest h (some r) = every
     ∷ eqb (length (r .bytes)) (bytesOf h (r .kind))
     ∷ ltb (r .next) (h .P)
     ∷ ltb (r .evict) (h .P)
-    ∷ leb (r .level) (h .L) ∷ [])
+    ∷ leb (r .level) (h .L)
+    ∷ rangeFound (h .L) (r .found) ∷ [])
 
 -- "A queue of at most 64 jobs"; "with one (a request in hand), at most 62 jobs"
 unfoldable pub queueFits : List ℕ → Option Request → Bool

@@ -4,15 +4,15 @@ use mathlib.Core.Option.{Option, none, some}
 use Prim.Native.Nat.{ℕ}
 use lib.Dec.{eqb}
 use Rattle.lists.specs.Tests.{if_then_else_}
-use Rattle.rules.specs.State.{Command, cmd, write, State, closed}
+use Rattle.rules.specs.State.{Command, cmd, write, Found, foundNowhere, State, closed}
 use Rattle.rules.specs.Setters.{_▷_}
 use Rattle.rules.specs.Draws.{Drawn, draws}
 use Rattle.rules.specs.Blocks.{holder, slotBytes}
 use Rattle.rules.specs.Open.{fresh}
-use Rattle.rules.specs.Request.{accept}
+use Rattle.rules.specs.Request.{accept, release}
 use Rattle.rules.specs.Turn.{decide, command, doStep}
 use Rattle.rules.specs.Completion.{complete}
-use Rattle.rules.specs.Collect.{collected, answer}
+use Rattle.rules.specs.Collect.{collected, answer, carried}
 use Rattle.rules.specs.Questions.{Ask, opening, request, turn, completion, collect, Call, bounds, number}
 
 pub record Outcome : Type 0 where
@@ -20,14 +20,19 @@ pub record Outcome : Type 0 where
   pub taken : ℕ  -- words
   pub command : Command
   pub bytes : List ℕ  -- put into the buffer
+  pub found : Found  -- where the block of a collected request was found
 
--- The state after an accepted call, by the numbers that it drew
+-- What an accepted call does, by the numbers that it drew
+unfoldable pub perform : State → Ask → List ℕ → State
+perform s (opening h) js = fresh h js
+perform s (request k b bs) js = s ▷ accept k b bs js
+perform s turn js = s ▷ doStep (decide s) js
+perform s (completion c bs) js = s ▷ complete c bs
+perform s collect js = s ▷ collected (s .request)
+
+-- The state after it: a request that need not be held any longer is released
 unfoldable pub act : State → Ask → List ℕ → State
-act s (opening h) js = fresh h js
-act s (request k b bs) js = s ▷ accept k b bs js
-act s turn js = s ▷ doStep (decide s) js
-act s (completion c bs) js = s ▷ complete c bs
-act s collect js = s ▷ collected (s .request)
+act s a js = s ▷ (λ s. perform s a js) ▷ release
 
 -- "State and buffers remain as they were. A refused open hands back a closed state."
 unfoldable pub refuse : State → Ask → State
@@ -56,6 +61,14 @@ handed s turn s' = written s' (command (decide s))
 handed s (completion c bs) s' = []
 handed s collect s' = answer s (s .request)
 
+-- where the block was found: "collect hands it out with the contents, or nowhere when refused"
+unfoldable pub handedFound : State → Ask → Found
+handedFound s (opening h) = foundNowhere
+handedFound s (request k b bs) = foundNowhere
+handedFound s turn = foundNowhere
+handedFound s (completion c bs) = foundNowhere
+handedFound s collect = carried (s .request)
+
 unfoldable pub numbersOf : Option Drawn → List ℕ
 numbersOf none = []
 numbersOf (some d) = d .numbers
@@ -66,11 +79,11 @@ takenOf (some d) = d .taken
 
 -- "A refusal reports 0 words and a command of zeros."
 unfoldable pub refused : ℕ → Outcome
-refused n = record { number = n; taken = 0; command = cmd 0 0 0 0; bytes = [] }
+refused n = record { number = n; taken = 0; command = cmd 0 0 0 0; bytes = []; found = foundNowhere }
 
 unfoldable pub accepted : State → Ask → Option Drawn → State × Outcome
 accepted s a d = let s' : State = act s a (numbersOf d) in
-    (s', record { number = 0; taken = takenOf d; command = sentCommand s a; bytes = handed s a s' })
+    (s', record { number = 0; taken = takenOf d; command = sentCommand s a; bytes = handed s a s'; found = handedFound s a })
 
 unfoldable pub step : State → Call → State × Outcome
 step s c = let n : ℕ = number s c in

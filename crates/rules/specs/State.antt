@@ -1,7 +1,7 @@
 -- Document 01, "State and ranges": the state of a client.
 use mathlib.Core.List.{List, []}
 use mathlib.Core.Option.{Option, none}
-use Prim.Native.Nat.{ℕ, suc}
+use Prim.Native.Nat.{ℕ, _+_}
 use Rattle.rules.specs.Shape.{Shape}
 
 -- "One command: read or write, partition, level, slot." Kinds are 1 read and 2 write; a refusal reports a command of zeros.
@@ -26,7 +26,20 @@ pub data Place : Type 0 where
   nowhere : Place
   stored : ℕ → ℕ → Place
 
--- "A request in hand": what was asked, its two draws, and the level from which its reads are still to be sent
+-- Document 02, P2: "The look-up of a place now also says nowhere, cache, or which level."
+pub data Found : Type 0 where
+  foundNowhere : Found
+  foundCache : Found
+  foundLevel : ℕ → Found
+
+-- the number by which an answer tells it
+unfoldable pub foundNumber : Found → ℕ
+foundNumber foundNowhere = 0
+foundNumber foundCache = 1
+foundNumber (foundLevel ℓ) = ℓ + 2
+
+-- "A request in hand": what was asked, its two draws, the level from which its reads are still to be sent. Document 02, P2: "the request carries it",
+-- where its block was found; nothing while it is held
 pub record Request : Type 0 where
   pub kind : ℕ
   pub block : ℕ
@@ -34,6 +47,7 @@ pub record Request : Type 0 where
   pub next : ℕ
   pub evict : ℕ
   pub level : ℕ
+  pub found : Option Found
 
 pub record State : Type 0 where
   pub shape : Shape

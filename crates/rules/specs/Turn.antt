@@ -37,7 +37,7 @@ firstRead q place dummyOf (ℓ ∷ _) = some (readStep q ℓ (orElse (slotIn ℓ
 unfoldable pub requestStep : State → Option Request → Option Step
 requestStep s none = none
 requestStep s (some r) = let q = s .partition (r .block) in
-    if held s r then none else firstRead q (s .place (r .block)) (dummy s q) (levelsLeft s r)
+    if held r then none else firstRead q (s .place (r .block)) (dummy s q) (levelsLeft s r)
 
 -- the job's next read, if a slot of its sources is left to read
 unfoldable pub gatherStep : ℕ → Option (ℕ × ℕ) → Step → Step

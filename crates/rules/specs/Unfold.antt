@@ -5,28 +5,28 @@ use Rattle.lists.specs.Tests.{every, between}
 use Rattle.lists.specs.Search.{find, keep, any, all, without, isNone, orElse, count, below, member, indexFrom, indexOf}
 use Rattle.lists.specs.Tables.{put, putAll}
 use Rattle.rules.specs.Shape.{within, cell, offset}
-use Rattle.rules.specs.State.{closed}
-use Rattle.rules.specs.Ranges.{isKind, bytesOf, rangePlace, rangeCommand, rangeRequest, queueFits, others, cacheFits, eachCell, ranges, inRange}
+use Rattle.rules.specs.State.{foundNumber, closed}
+use Rattle.rules.specs.Ranges.{isKind, bytesOf, rangePlace, rangeCommand, rangeFound, rangeRequest, queueFits, others, cacheFits, eachCell, ranges, inRange}
 use Rattle.rules.specs.Memory.{needed}
 use Rattle.rules.specs.Draws.{draw, drawnFirst, draws, exchange, shuffle, newOrder, orderBounds}
 use Rattle.rules.specs.Levels.{filled, trailingOnes, sources, target, grown}
-use Rattle.rules.specs.Blocks.{named, holder, entries, blocksIn, isUnread, zeros, isNowhere, contents, slotBytes}
+use Rattle.rules.specs.Blocks.{named, holder, entries, blocksIn, isUnread, zeros, isNowhere, contents, foundAt, lookUp, slotBytes}
 use Rattle.rules.specs.Open.{fresh}
-use Rattle.rules.specs.Request.{accept, held, levelsLeft, slotIn, dummy, passLevel}
+use Rattle.rules.specs.Request.{accept, blocked, held, releasedIn, levelsLeft, slotIn, dummy, passLevel}
 use Rattle.rules.specs.Rebuild.{places, unread, chosen, isChosen, gathered, itemPlace, newPlace, itemHolds, newHolds, cleared, leave, doRebuild}
 use Rattle.rules.specs.Turn.{readStep, firstRead, requestStep, gatherStep, rebuildStep, writeStep, jobStep, decide, command, stepBounds, send, markRead, doStep}
 use Rattle.rules.specs.Completion.{isCommand, completed, gatherBytes, completeRead, jobDone, endJob, finishJob, completeWrite, complete}
-use Rattle.rules.specs.Collect.{finished, emptied, finish, collected, answer}
+use Rattle.rules.specs.Collect.{finished, emptied, finish, collected, answer, carried}
 use Rattle.rules.specs.Questions.{bounds, ready, sends, possible, inHand, questions, firstNo, number}
-use Rattle.rules.specs.Run.{act, refuse, sentCommand, written, handed, numbersOf, takenOf, refused, accepted, step, run, after}
+use Rattle.rules.specs.Run.{perform, act, refuse, sentCommand, written, handed, handedFound, numbersOf, takenOf, refused, accepted, step, run, after}
 use Rattle.rules.specs.Figures.{nowhereBlocks, storedBlocks, waitingBlocks, inPartition, jobsFor, figures, allFigures}
 use Rattle.rules.specs.Shape.{Shape}
-use Rattle.rules.specs.State.{Command}
+use Rattle.rules.specs.State.{Command, Found, foundNowhere}
 use Rattle.rules.specs.Questions.{Ask, Call}
 use Rattle.rules.specs.Run.{Outcome}
 
 unfoldable pub model : Unit {0}
-unfolding every between find keep any all without isNone orElse count below member indexFrom indexOf put putAll within cell offset closed isKind bytesOf rangePlace rangeCommand rangeRequest queueFits others cacheFits eachCell ranges inRange needed draw drawnFirst draws exchange shuffle newOrder orderBounds filled trailingOnes sources target grown named holder entries blocksIn isUnread zeros isNowhere contents slotBytes fresh accept held levelsLeft slotIn dummy passLevel places unread chosen isChosen gathered itemPlace newPlace itemHolds newHolds cleared leave doRebuild readStep firstRead requestStep gatherStep rebuildStep writeStep jobStep decide command stepBounds send markRead doStep isCommand completed gatherBytes completeRead jobDone endJob finishJob completeWrite complete finished emptied finish collected answer bounds ready sends possible inHand questions firstNo number act refuse sentCommand written handed numbersOf takenOf refused accepted step run after nowhereBlocks storedBlocks waitingBlocks inPartition jobsFor figures allFigures
+unfolding every between find keep any all without isNone orElse count below member indexFrom indexOf put putAll within cell offset foundNumber closed isKind bytesOf rangePlace rangeCommand rangeFound rangeRequest queueFits others cacheFits eachCell ranges inRange needed draw drawnFirst draws exchange shuffle newOrder orderBounds filled trailingOnes sources target grown named holder entries blocksIn isUnread zeros isNowhere contents foundAt lookUp slotBytes fresh accept blocked held releasedIn levelsLeft slotIn dummy passLevel places unread chosen isChosen gathered itemPlace newPlace itemHolds newHolds cleared leave doRebuild readStep firstRead requestStep gatherStep rebuildStep writeStep jobStep decide command stepBounds send markRead doStep isCommand completed gatherBytes completeRead jobDone endJob finishJob completeWrite complete finished emptied finish collected answer carried bounds ready sends possible inHand questions firstNo number perform act refuse sentCommand written handed handedFound numbersOf takenOf refused accepted step run after nowhereBlocks storedBlocks waitingBlocks inPartition jobsFor figures allFigures
 model = tt
 
 -- short forms, for sessions and the table of edges
@@ -37,4 +37,7 @@ abbrev pub call : Ask → ℕ → List ℕ → ℕ → Call
 call a m ws n = record { ask = a; memory = m; words = ws; buffer = n }
 
 abbrev pub out : ℕ → ℕ → Command → List ℕ → Outcome
-out n k c bs = record { number = n; taken = k; command = c; bytes = bs }
+out n k c bs = record { number = n; taken = k; command = c; bytes = bs; found = foundNowhere }
+
+abbrev pub outFound : ℕ → ℕ → Command → List ℕ → Found → Outcome
+outFound n k c bs x = record { number = n; taken = k; command = c; bytes = bs; found = x }

@@ -1,5 +1,5 @@
 -- A turn by the step that it decides: its number, and what it leaves.
-use mathlib.Core.Path.{_≡_, refl, ap, sym, _∙_}
+use mathlib.Core.Path.{_≡_, refl, ap, sym, _∙_, subst}
 use mathlib.Core.Bool.{Bool, true, false, not, _||_}
 use mathlib.Core.List.{List, [], _∷_}
 use mathlib.Core.Option.{none, some}
@@ -10,7 +10,7 @@ use lib.Dec.{eqb, leb, ltb}
 use borrow.Author.Tests.{lt-ltb, le-ltb, le-leb, lt-leb, eq-eqb, ne-eqb}
 use Rattle.lists.specs.Tests.{if_then_else_}
 use Rattle.rules.specs.Shape.{slots, cell, offset}
-use Rattle.rules.specs.State.{State, cmd, read, write}
+use Rattle.rules.specs.State.{State, cmd, read, write, foundNumber}
 use Rattle.rules.specs.Setters.{setRequest, setCursor, setSent, setWaiting}
 use Rattle.rules.specs.Draws.{draws, newOrder}
 use Rattle.rules.specs.Levels.{sources}
@@ -19,10 +19,14 @@ use Rattle.rules.specs.Blocks.{holder, slotBytes, named, zeros}
 use Rattle.rules.specs.Rebuild.{gathered, doRebuild}
 use Rattle.rules.specs.Turn.{Step, idle, noDummy, readForRequest, readForJob, rebuild, writeNext, decide, command, stepBounds, markRead, send, doStep}
 use Rattle.rules.specs.Questions.{turn, ready, sends, possible, questions, firstNo, number, bounds}
-use Rattle.rules.specs.Run.{act, sentCommand, handed, written, numbersOf, refuse}
+use Rattle.rules.specs.Run.{act, perform, sentCommand, handed, handedFound, written, numbersOf, refuse}
 use Rattle.rules.specs.Laws.Drawn.{draws-enough, taken-all}
+use Rattle.rules.specs.Laws.Answers.{opens}
 use Rattle.rules.specs.Laws.Asked.{reads-asked}
 use Rattle.rules.specs.Laws.Decided.{StepIn, decide-in}
+use Rattle.rules.specs.Laws.Kept.{doStep-in}
+use Rattle.rules.specs.Laws.Released.{written-release}
+use Rattle.rules.specs.Laws.Shapes.{act-shape}
 use Rattle.memory.specs.Fits.{shapeOf, fit, fit-lt}
 use Rattle.memory.specs.Tables.{tablesOf}
 use Rattle.client.specs.declared.Client.{Client}
@@ -38,6 +42,7 @@ use Rattle.contract.specs.Buffers.{filled}
 use Rattle.contract.specs.Meets.{callOf, handedTo, commandOf, Meets, meets-no, meets-yes}
 use Rattle.rebuild.specs.Target.{rebuilt, rebuild-is}
 use Rattle.client.specs.declared.Found.{Found}
+use Rattle.releasing.specs.Released.{Held, Released, released-stands, held-of}
 use Rattle.sending.specs.Chosen.{Chosen, leftBy}
 
 -- a turn that may be made, and the step that it decides
@@ -58,7 +63,7 @@ Reads c m r m′ = (tape b : List ℕ) → Meets c (stateOf c m) turn m tape b r
 abbrev pub Writes : Client → List ℕ → List ℕ → Answer → List ℕ → List ℕ → Type 0
 Writes c m b r m′ b′ = (tape : List ℕ) → Meets c (stateOf c m) turn m tape b r m′ b′
 
--- A turn of the client c leaves e, which stands for s; while no request is in hand, its numbers stay
+-- Before a request is released a turn of the client c leaves e, which stands for s; while no request is in hand, its numbers stay
 pub record Left (c e : Client) (m m′ : List ℕ) (s : State) : Type 0 where
   pub stands : Stands e m m′ s
   pub idle : e .request .kind ≡ 0 → e .request ≡ c .request
@@ -103,20 +108,28 @@ module _ (c : Client) (m tape b : List ℕ) (x : Step) (d : Due c m x) where
   abbrev drawn : List ℕ
   drawn = numbersOf (draws (stepBounds x) (wordsOf tape))
 
-  pub accepts : (r : Answer) (m′ b′ : List ℕ) → firstNo asked ≡ 0 → length (stepBounds x) ≤ length (wordsOf tape)
-      → r .number ≡ 0 → r .taken ≡ length (stepBounds x) → commandOf r ≡ command x
-      → Left c (r .client) m m′ (doStep x drawn s) → b′ ≡ handedTo b (written (doStep x drawn s) (command x)) → Meets c s turn m tape b r m′ b′
-  unfolding bounds act sentCommand handed stateOf view
-  accepts r m′ b′ e l n t k f h = meets-yes c s turn m tape b r m′ b′ (record {
-    yes = turn-number ∙ e;
+  pub accepts : (e : Client) (r : Answer) (m′ b′ : List ℕ) → firstNo asked ≡ 0 → length (stepBounds x) ≤ length (wordsOf tape)
+      → r .number ≡ 0 → r .taken ≡ length (stepBounds x) → commandOf r ≡ command x → r .found ≡ 0
+      → Left c e m m′ (doStep x drawn s) → Released e m′ (r .client) → b′ ≡ handedTo b (written (doStep x drawn s) (command x)) → Meets c s turn m tape b r m′ b′
+  unfolding bounds act perform sentCommand handed handedFound foundNumber stateOf view
+  accepts e r m′ b′ y l n t k u f g h = let z = released-stands (f .stands) g in meets-yes c s turn m tape b r m′ b′ (record {
+    yes = turn-number ∙ y;
     number = n;
     taken = rw (d .step) (t ∙ sym (taken-all (stepBounds x) (wordsOf tape) l));
     command = rw (d .step) k;
-    state = rw (d .step) (f .stands .state);
-    idle = f .idle;
-    buffer = rw (d .step) h;
-    tail = f .stands .tail;
+    found = u;
+    state = rw (d .step) (z .state);
+    idle = λ w. ap (λ (q : Client). q .request) (g .idle w) ∙ f .idle (sym (ap (λ (q : Client). q .request .kind) (g .idle w)) ∙ w);
+    buffer = rw (d .step) (rw (written-release (doStep x drawn s) (command x)) h);
+    tail = z .tail;
   })
+
+  -- a request may be released then
+  pub may-release : (e : Client) (m′ js : List ℕ) → length m′ ≡ length m → Left c e m m′ (doStep x js s) → Held e m′
+  may-release e m′ js l f = held-of c e m m′ (doStep x js s) (d .usable .room) l (f .stands .state) shape (doStep-in s (d .usable .range) x js (unfold stateOf view in (d .inside)) (omega (arith, out-is c m, window-is c m, d .free)))
+    where
+      shape : doStep x js s .shape ≡ shapeOf (c .shape)
+      shape = subst (λ y. doStep y js s .shape ≡ shapeOf (c .shape)) (d .step) (unfold act perform stateOf view in (act-shape s turn js (unfold opens in refl)))
 
 -- ---- What a turn hands out
 
@@ -218,12 +231,12 @@ module _ (c : Client) (m tape b : List ℕ) (x : Step) (d : Due c m x) where
   lacks-number e = rw e (unfold sends command stepBounds possible in (rw (le-leb 0 (length (wordsOf tape)) (omega arith))))
 
   -- a read
-  pub read-meets : (e : Client) (m′ : List ℕ) (q l i : ℕ) → command x ≡ cmd 1 q l i → sends x ≡ true → possible (stateOf c m) x ≡ true → length (stepBounds x) ≡ 0
-      → Left c e m m′ (doStep x (drawn c m tape b x d) (stateOf c m)) → Meets c (stateOf c m) turn m tape b (acceptedWith e 0 1 q l i) m′ b
+  pub read-meets : (e r : Client) (m′ : List ℕ) (q l i : ℕ) → command x ≡ cmd 1 q l i → sends x ≡ true → possible (stateOf c m) x ≡ true → length (stepBounds x) ≡ 0
+      → Left c e m m′ (doStep x (drawn c m tape b x d) (stateOf c m)) → Released e m′ r → Meets c (stateOf c m) turn m tape b (acceptedWith r 0 1 q l i) m′ b
   unfolding firstNo
-  read-meets e m′ q l i k g p n f = accepts c m tape b x d (acceptedWith e 0 1 q l i) m′ b
+  read-meets e r m′ q l i k g p n f u = accepts c m tape b x d e (acceptedWith r 0 1 q l i) m′ b
       (rw (g, k, p, n, le-leb 0 (length (wordsOf tape)) (omega arith)))
-      (omega arith) refl (sym n) (sym k) f (rw k (handed-read b (doStep x (drawn c m tape b x d) (stateOf c m)) q l i))
+      (omega arith) refl (sym n) (sym k) refl f u (rw k (handed-read b (doStep x (drawn c m tape b x d) (stateOf c m)) q l i))
 
   -- a write
   module _ (q l i : ℕ) (k : command x ≡ cmd 2 q l i) (g : sends x ≡ true) where
@@ -239,13 +252,13 @@ module _ (c : Client) (m tape b : List ℕ) (x : Step) (d : Due c m x) where
     unfolding firstNo
     no-room e n p = rw (g, k, eq-eqb (length b) (c .shape .b) e, le-leb (length (stepBounds x)) (length (wordsOf tape)) n, p)
 
-    pub write-meets : (e : Client) (m′ b′ : List ℕ) (n : ℕ) → possible (stateOf c m) x ≡ true → length b ≡ c .shape .b → n ≡ length (stepBounds x) → n ≤ length (wordsOf tape)
-        → Left c e m m′ (doStep x (drawn c m tape b x d) (stateOf c m)) → 1 ≤ length b′ → b′ ≡ slotBytes (stateOf e m′) (holder (stateOf e m′) q l i)
-        → Meets c (stateOf c m) turn m tape b (acceptedWith e n 2 q l i) m′ b′
+    pub write-meets : (e r : Client) (m′ b′ : List ℕ) (n : ℕ) → possible (stateOf c m) x ≡ true → length b ≡ c .shape .b → n ≡ length (stepBounds x) → n ≤ length (wordsOf tape)
+        → Left c e m m′ (doStep x (drawn c m tape b x d) (stateOf c m)) → Released e m′ r → 1 ≤ length b′ → b′ ≡ slotBytes (stateOf e m′) (holder (stateOf e m′) q l i)
+        → Meets c (stateOf c m) turn m tape b (acceptedWith r n 2 q l i) m′ b′
     unfolding firstNo
-    write-meets e m′ b′ n p h t w f o z = accepts c m tape b x d (acceptedWith e n 2 q l i) m′ b′
+    write-meets e r m′ b′ n p h t w f u o z = accepts c m tape b x d e (acceptedWith r n 2 q l i) m′ b′
         (rw (g, k, eq-eqb (length b) (c .shape .b) h, le-leb (length (stepBounds x)) (length (wordsOf tape)) (omega arith), p))
-        (omega arith) refl t (sym k) f (rw k (handed-write b b′ (doStep x (drawn c m tape b x d) (stateOf c m)) q l i o (z ∙ ap (λ s. slotBytes s (holder s q l i)) (f .stands .state))))
+        (omega arith) refl t (sym k) refl f u (rw k (handed-write b b′ (doStep x (drawn c m tape b x d) (stateOf c m)) q l i o (z ∙ ap (λ s. slotBytes s (holder s q l i)) (f .stands .state))))
 
 -- ---- The rebuild
 pub rebuilt-stands : (c d : Client) (m m₁ m₂ : List ℕ) (q t n : ℕ) (bs o : List ℕ) (x : Found) → d .shape ≡ c .shape

@@ -38,6 +38,7 @@ fn pass_level(c: Client, l: usize) -> Client
         next: r.next,
         evict: r.evict,
         level: l + 1,
+        found: r.found,
     })
 }
 
@@ -49,7 +50,8 @@ pub fn read_for_request(c: Client, m: &mut [u8], q: usize, l: usize, i: usize) -
     levels::mark_read(c, m, q, l, i);
     let d = pass_level(c, l);
     let e = commands::send(d, m, READ, q, l, i);
-    contract::sent(e, 0, READ, q, l, i)
+    let f = releasing::release(e, m);
+    contract::sent(f, 0, READ, q, l, i)
 }
 
 // Sends the job's next read.
@@ -60,7 +62,8 @@ pub fn read_for_job(c: Client, m: &mut [u8], q: usize, l: usize, i: usize) -> An
     levels::mark_read(c, m, q, l, i);
     let d = c.with_cursor(bits::pow2(l + 1) - 2 + i + 1);
     let e = commands::send(d, m, READ, q, l, i);
-    contract::sent(e, 0, READ, q, l, i)
+    let f = releasing::release(e, m);
+    contract::sent(f, 0, READ, q, l, i)
 }
 
 // The bytes of the block in a slot, or zeros for a dummy, go into the buffer.
@@ -95,7 +98,8 @@ pub fn write_next(
     let d = c.with_sent(i + 1);
     let e = commands::send(d, m, WRITE, q, t, i);
     put_bytes(e, m, q, t, i, buffer);
-    contract::sent(e, 0, WRITE, q, t, i)
+    let f = releasing::release(e, m);
+    contract::sent(f, 0, WRITE, q, t, i)
 }
 
 // The block at place j of the cache, which has waited longest for q, is chosen if q stores fewer than 2^(L-1) blocks.
@@ -192,7 +196,8 @@ fn send_rebuild(
     let d = write_level(c, m, q, t, x, list, k, tape);
     let e = commands::send(d, m, WRITE, q, t, 0);
     put_bytes(e, m, q, t, 0, buffer);
-    contract::sent(e, words, WRITE, q, t, 0)
+    let f = releasing::release(e, m);
+    contract::sent(f, words, WRITE, q, t, 0)
 }
 
 // The rebuild, if enough is lent and the target has room for what it gathers.

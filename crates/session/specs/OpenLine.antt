@@ -12,7 +12,7 @@ use Rattle.rules.specs.Shape.{Shape, within}
 use Rattle.rules.specs.State.{State, closed}
 use Rattle.rules.specs.Memory.{needed}
 use Rattle.rules.specs.Questions.{opening, Call, questions, firstNo, number}
-use Rattle.rules.specs.Run.{Outcome, step, act, accepted}
+use Rattle.rules.specs.Run.{Outcome, step, act, perform, accepted}
 use Rattle.rules.specs.Open.{fresh}
 use Rattle.rules.specs.Laws.Answers.{step-number, step-accepted}
 use Rattle.memory.specs.Fits.{shapeOf, parts-le}
@@ -91,7 +91,7 @@ module _ (s : Session) (m tape t : List ℕ) (f : Served s tape) (left : t ≡ d
 
   -- the shape of the new store
   new-shape : r .number ≡ 0 → shapeOf (r .client .shape) ≡ h
-  unfolding stateOf view accepted act fresh went
+  unfolding stateOf view accepted act perform fresh went
   new-shape z =
       let x = went-is s m tape [] t f left long clearedClient closed (opening h) [] r m′ [] k in
       let y : number closed (asks memoryRoom) ≡ 0 = sym (step-number closed (asks memoryRoom)) ∙ number-zero z in

@@ -15,7 +15,7 @@ use Rattle.rules.specs.Memory.{needed}
 use Rattle.rules.specs.Open.{fresh}
 use Rattle.rules.specs.Ranges.{inRange, isKind}
 use Rattle.rules.specs.Questions.{Ask, opening, request, turn, completion, collect, Call, ready, questions, number}
-use Rattle.rules.specs.Run.{Outcome, step, act, accepted}
+use Rattle.rules.specs.Run.{Outcome, step, act, perform, accepted}
 use Rattle.rules.specs.Laws.Answers.{opens as opensOf, Passed, accepted-passed, step-number, step-accepted, refused-keeps, closed-unready}
 use Rattle.rules.specs.Laws.Kept.{accepted-in}
 use Rattle.rules.specs.Laws.Range.{InRange, facts-range}
@@ -85,7 +85,7 @@ lent-le h = go (serves h)
 
 -- an accepted open makes one that is
 open-ready : (h : Shape) (ws : List ℕ) → step closed (call (opening h) (lent h) ws 0) .1 .number ≡ 0 → ready (step closed (call (opening h) (lent h) ws 0) .0) memoryRoom ≡ true
-unfolding questions accepted act fresh
+unfolding questions accepted act perform fresh
 open-ready h ws z =
     let c = call (opening h) (lent h) ws 0 in
     let y : number closed c ≡ 0 = sym (step-number closed c) ∙ z in

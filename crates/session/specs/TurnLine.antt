@@ -210,7 +210,7 @@ module _ (s : Session) (m tape host t : List ℕ) (f : Served s tape) (left : t 
 -- it takes no words, so that it may be lent any
 collect-words : (c : Client) (st : State) (m t b : List ℕ) (r : Answer) (m′ b′ : List ℕ) → Meets c st collect m [] b r m′ b′ → Meets c st collect m t b r m′ b′
 unfolding step number questions accepted bounds draws
-collect-words c st m t b r m′ b′ k = record { number = k .number; taken = k .taken; command = k .command; state = k .state; idle = k .idle; buffer = k .buffer; refused = k .refused; tail = k .tail }
+collect-words c st m t b r m′ b′ k = record { number = k .number; taken = k .taken; command = k .command; found = k .found; state = k .state; idle = k .idle; buffer = k .buffer; refused = k .refused; tail = k .tail }
 
 module _ (s : Session) (m tape : List ℕ) (f : Served s tape) (long : length m ≡ memoryRoom) (b : List ℕ) (size : length b ≡ s .client .shape .b) (r : Answer) (m′ b′ : List ℕ)
     (plain : Meets (s .client) (stateOf (s .client) m) collect m [] b r m′ b′) where

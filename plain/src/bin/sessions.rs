@@ -1,9 +1,11 @@
 //! Writes random sessions with their outcomes for the proof checker, to the
 //! directory named by the first argument. Among many seeds it chooses those
-//! whose sessions tell the planted mistakes from the right rules.
+//! whose sessions tell the planted mistakes from the right rules: first by the
+//! rules of document 01, then by where blocks are found (document 02, P2).
 
 use plain::antt;
-use plain::calls::{Call, Outcome};
+use plain::calls::{Ask, Call, Outcome, Store};
+use plain::found::Found;
 use plain::mistakes::Mistake;
 use plain::script::{Script, replay};
 use plain::shape::Shape;
@@ -12,7 +14,9 @@ use std::process::ExitCode;
 
 /// The shape of a session, the shape it is opened with anew in the middle,
 /// and the number of its calls.
-const PLANS: [(Shape, Option<Shape>, usize); 7] = [
+type Plan = (Shape, Option<Shape>, usize);
+
+const PLANS: [Plan; 7] = [
     (Shape::new(1, 1, 1, 1, 1, 1), None, 44),
     (
         Shape::new(2, 2, 1, 2, 1, 2),
@@ -26,19 +30,74 @@ const PLANS: [(Shape, Option<Shape>, usize); 7] = [
     (Shape::new(8, 4, 2, 1, 8, 3), None, 70),
 ];
 
+/// Those of the sessions for where blocks are found.
+const FOUND_PLANS: [Plan; 2] = [
+    (Shape::new(2, 2, 2, 1, 2, 2), None, 60),
+    (Shape::new(1, 2, 3, 1, 1, 3), None, 60),
+];
+
 const SEEDS: u64 = 3000;
 const MOST_LINES: usize = 399;
 
 /// The numbers that have to occur; 7 needs 63 jobs queued.
 const NUMBERS: [u8; 15] = [0, 1, 2, 3, 4, 5, 6, 8, 9, 10, 11, 12, 13, 14, 15];
 
+/// What may occur in a session.
+#[derive(Clone, Copy, Debug, PartialEq, Eq)]
+enum Mark {
+    Number(u8),
+    /// Where a collected block was found.
+    Found(Found),
+    /// The request was held: where its block was at acceptance, and where it
+    /// was found.
+    Held(Found, Found),
+}
+
+/// The marks that have to occur in what is found.
+const FOUND_MARKS: [Mark; 9] = [
+    Mark::Found(Found::Nowhere),
+    Mark::Found(Found::Cache),
+    Mark::Found(Found::Level(0)),
+    Mark::Found(Found::Level(1)),
+    Mark::Found(Found::Level(2)),
+    Mark::Held(Found::Cache, Found::Cache),
+    Mark::Held(Found::Cache, Found::Level(0)),
+    Mark::Held(Found::Cache, Found::Level(1)),
+    Mark::Held(Found::Level(0), Found::Level(1)),
+];
+
+/// Sessions to choose, and what they have to tell and to have among them.
+struct Group {
+    plans: &'static [Plan],
+    mistakes: Vec<Mistake>,
+    marks: Vec<Mark>,
+}
+
+fn groups() -> [Group; 2] {
+    let of_document_01 = |mistake: &Mistake| !Mistake::FOUND.contains(mistake);
+    let mistakes = Mistake::ALL.into_iter().filter(of_document_01);
+    let first = Group {
+        plans: &PLANS,
+        mistakes: mistakes.collect(),
+        marks: NUMBERS.map(Mark::Number).to_vec(),
+    };
+    let found = Group {
+        plans: &FOUND_PLANS,
+        mistakes: Mistake::FOUND.to_vec(),
+        marks: FOUND_MARKS.to_vec(),
+    };
+    [first, found]
+}
+
 struct Session {
+    shape: Shape,
     calls: Vec<Call>,
     outcomes: Vec<Outcome>,
     told: Vec<Mistake>,
+    marks: Vec<Mark>,
 }
 
-fn session(plan: &(Shape, Option<Shape>, usize), seed: u64) -> Session {
+fn session(plan: &Plan, seed: u64) -> Session {
     let script = Script::new(plan.0, plan.1, seed, plan.2);
     let (calls, outcomes) = (script.calls, script.outcomes);
     let told = Mistake::ALL
@@ -46,81 +105,145 @@ fn session(plan: &(Shape, Option<Shape>, usize), seed: u64) -> Session {
         .filter(|mistake| replay(&calls, *mistake) != outcomes)
         .collect();
     Session {
+        shape: plan.0,
+        marks: marks(&calls, &outcomes),
         calls,
         outcomes,
         told,
     }
 }
 
-fn has(sessions: &[Session], number: u8) -> bool {
-    let mut outcomes = sessions.iter().flat_map(|s| &s.outcomes);
-    outcomes.any(|outcome| outcome.number == number)
+/// The marks of a session.
+fn marks(calls: &[Call], outcomes: &[Outcome]) -> Vec<Mark> {
+    let mut marks = Vec::new();
+    let mut store = Store::new(Mistake::None);
+    let mut held = None;
+    for (call, outcome) in calls.iter().zip(outcomes) {
+        store.call(call);
+        marks.push(Mark::Number(outcome.number));
+        match call.ask {
+            _ if outcome.number != 0 => {}
+            Ask::Request { block, .. } => held = held_at(&store, block),
+            Ask::Collect => {
+                marks.push(Mark::Found(outcome.found));
+                marks.extend(held.map(|from| Mark::Held(from, outcome.found)));
+            }
+            _ => {}
+        }
+    }
+    marks
+}
+
+/// Where the block of a request that is held was at acceptance.
+fn held_at(store: &Store, block: usize) -> Option<Found> {
+    let state = store.state.as_ref()?;
+    let held = state.request.as_ref()?.is_held();
+    held.then(|| state.look_up(block))
+}
+
+fn has(sessions: &[Session], mark: Mark) -> bool {
+    sessions.iter().any(|s| s.marks.contains(&mark))
 }
 
 fn tells(sessions: &[Session], mistake: Mistake) -> bool {
     sessions.iter().any(|s| s.told.contains(&mistake))
 }
 
-/// What a session adds: the less a mistake or a number has been met, the more
-/// it counts.
-fn worth(session: &Session, chosen: &[Session]) -> usize {
-    let mistakes = session.told.iter().map(|mistake| {
-        let times = chosen.iter().filter(|s| s.told.contains(mistake)).count();
-        60 / (1 + times)
-    });
-    let numbers = NUMBERS.into_iter().map(|number| {
-        let met = has(chosen, number);
-        match has(std::slice::from_ref(session), number) {
-            true if met => 1,
-            true => 60,
-            false => 0,
+impl Group {
+    /// What a session adds: the less a mistake or a mark has been met, the
+    /// more it counts.
+    fn worth(&self, session: &Session, chosen: &[Session]) -> usize {
+        let told = self.mistakes.iter().filter(|m| session.told.contains(m));
+        let mistakes = told.map(|mistake| {
+            let times = chosen.iter().filter(|s| s.told.contains(mistake)).count();
+            60 / (1 + times)
+        });
+        let marked = self.marks.iter().filter(|m| session.marks.contains(m));
+        let marks = marked.map(|mark| if has(chosen, *mark) { 1 } else { 60 });
+        mistakes.chain(marks).sum()
+    }
+
+    fn choose(&self) -> Vec<Session> {
+        let mut chosen: Vec<Session> = Vec::new();
+        for plan in self.plans {
+            let seeds = (0..SEEDS).map(|seed| session(plan, seed));
+            if let Some(best) = seeds.max_by_key(|s| self.worth(s, &chosen)) {
+                chosen.push(best);
+            }
         }
-    });
-    mistakes.chain(numbers).sum()
+        chosen
+    }
+
+    /// The chosen sessions tell each mistake, and each mark occurs in them.
+    fn complete(&self, chosen: &[Session]) -> Result<(), String> {
+        let missed = self.mistakes.iter().filter(|m| !tells(chosen, **m));
+        let absent = self.marks.iter().filter(|m| !has(chosen, **m));
+        let (missed, absent): (Vec<_>, Vec<_>) = (missed.collect(), absent.collect());
+        if missed.is_empty() && absent.is_empty() {
+            return Ok(());
+        }
+        Err(format!("not told: {missed:?}; absent: {absent:?}"))
+    }
 }
 
-fn choose() -> Vec<Session> {
-    let mut chosen: Vec<Session> = Vec::new();
-    for plan in &PLANS {
-        let seeds = (0..SEEDS).map(|seed| session(plan, seed));
-        if let Some(best) = seeds.max_by_key(|s| worth(s, &chosen)) {
-            chosen.push(best);
-        }
+/// The sessions of all groups, one after the other.
+fn choose() -> Result<Vec<Session>, String> {
+    let mut all = Vec::new();
+    for group in groups() {
+        let chosen = group.choose();
+        group.complete(&chosen)?;
+        all.extend(chosen);
     }
-    chosen
+    Ok(all)
 }
 
 /// The files' texts, each with as many sessions as its lines allow.
 fn files(sessions: &[Session]) -> Vec<String> {
-    let mut files = vec![antt::HEADER.to_string()];
+    let lines = |part: &str| part.lines().count();
+    let mut files = vec![String::new()];
     for (index, session) in sessions.iter().enumerate() {
         let text = antt::session(index, &session.calls, &session.outcomes);
-        let lines = |part: &str| part.lines().count();
         let last = files.len() - 1;
-        if lines(&files[last]) + 1 + lines(&text) > MOST_LINES {
-            files.push(antt::HEADER.to_string());
+        if antt::HEADER_LINES + lines(&files[last]) + 1 + lines(&text) > MOST_LINES {
+            files.push(String::new());
         }
         let last = files.len() - 1;
         files[last] += "\n";
         files[last] += &text;
     }
-    files
+    let whole = |text: String| antt::header(&text) + &text;
+    files.into_iter().map(whole).collect()
 }
 
 fn print_told(sessions: &[Session]) {
     for (index, session) in sessions.iter().enumerate() {
-        println!(
-            "session{index}: {} calls, {:?}",
-            session.calls.len(),
-            PLANS[index].0
-        );
+        let Session { shape, calls, .. } = session;
+        println!("session{index}: {} calls, {shape:?}", calls.len());
     }
     for mistake in Mistake::ALL {
-        let told: Vec<usize> = (0..sessions.len())
-            .filter(|i| sessions[*i].told.contains(&mistake))
-            .collect();
+        let told = those(sessions, |session| session.told.contains(&mistake));
         println!("{mistake:?}: told by sessions {told:?}");
     }
+    for mark in FOUND_MARKS {
+        let marked = those(sessions, |session| session.marks.contains(&mark));
+        println!("{mark:?}: in sessions {marked:?}");
+    }
+}
+
+/// The numbers of the sessions of which this holds.
+fn those(sessions: &[Session], holds: impl Fn(&Session) -> bool) -> Vec<usize> {
+    let all = 0..sessions.len();
+    all.filter(|index| holds(&sessions[*index])).collect()
+}
+
+fn write(directory: &str, sessions: &[Session]) -> Result<(), String> {
+    for (text, letter) in files(sessions).iter().zip('A'..='Z') {
+        let path = Path::new(directory).join(format!("Sessions{letter}.antt"));
+        let written = std::fs::write(&path, text);
+        written.map_err(|error| format!("{}: {error}", path.display()))?;
+        println!("{}: {} lines", path.display(), text.lines().count());
+    }
+    Ok(())
 }
 
 fn main() -> ExitCode {
@@ -128,27 +251,15 @@ fn main() -> ExitCode {
         eprintln!("usage: sessions DIRECTORY");
         return ExitCode::FAILURE;
     };
-    let sessions = choose();
-    print_told(&sessions);
-    let missed: Vec<Mistake> = Mistake::ALL
-        .into_iter()
-        .filter(|m| !tells(&sessions, *m))
-        .collect();
-    let absent: Vec<u8> = NUMBERS
-        .into_iter()
-        .filter(|n| !has(&sessions, *n))
-        .collect();
-    if !missed.is_empty() || !absent.is_empty() {
-        eprintln!("not told: {missed:?}; numbers absent: {absent:?}");
-        return ExitCode::FAILURE;
-    }
-    for (text, letter) in files(&sessions).iter().zip('A'..='Z') {
-        let path = Path::new(&directory).join(format!("Sessions{letter}.antt"));
-        if let Err(error) = std::fs::write(&path, text) {
-            eprintln!("{}: {error}", path.display());
-            return ExitCode::FAILURE;
+    let done = choose().and_then(|sessions| {
+        print_told(&sessions);
+        write(&directory, &sessions)
+    });
+    match done {
+        Ok(()) => ExitCode::SUCCESS,
+        Err(error) => {
+            eprintln!("{error}");
+            ExitCode::FAILURE
         }
-        println!("{}: {} lines", path.display(), text.lines().count());
     }
-    ExitCode::SUCCESS
 }

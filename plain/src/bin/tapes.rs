@@ -39,7 +39,8 @@ const TOLD: [Mistake; 7] = [
     Mistake::DrawBelowI,
 ];
 
-/// What is compared at each place: number, count of words, command.
+/// What is compared at each place: number, count of words, command. Where a
+/// block was found is not told to the host, and may differ between the lists.
 type Event = (u8, usize, Command);
 
 /// The transcripts met, as a tree: a transcript is a node, and so is each of

@@ -1,6 +1,6 @@
 //! Request, completion and collect.
 
-use super::parts::{Block, NONE, NOWHERE, Phase, Request, WAITING};
+use super::parts::{Block, HELD, NONE, NOWHERE, Phase, Request, WAITING};
 use super::{Answer, Command, READ, Store, WRITE, ZEROS};
 
 /// The most jobs queued when a request is accepted.
@@ -22,7 +22,7 @@ impl Store {
         let partition = usize::from(self.blocks[block].partition);
         self.request = Request {
             kind,
-            held: true,
+            found: HELD,
             pending: 0,
             outstanding: 0,
             block,
@@ -57,13 +57,28 @@ impl Store {
         if words < 2 { 3 } else { 0 }
     }
 
-    /// Lets a request that is held by the partition go, if no job is left.
+    /// Lets a request that is held by the partition go, if no job is left. Its
+    /// block is looked up only now, as the jobs may have moved it.
     #[inline]
     pub(super) fn release(&mut self, partition: usize) {
         let record = &self.partitions[partition];
-        if self.request.held && self.request.partition == partition && record.jobs == 0 {
-            self.request.held = false;
+        let held = self.request.found == HELD;
+        if held && self.request.partition == partition && record.jobs == 0 {
             self.request.pending = u32::from(record.counter);
+            self.request.found = self.look_up(self.request.block);
+        }
+    }
+
+    /// Where a block is, as answers tell it. In its partition, slot s of level
+    /// l has index 2^(l+1) + s.
+    fn look_up(&self, block: usize) -> u8 {
+        match self.blocks[block].place {
+            NOWHERE => 0,
+            WAITING => 1,
+            place => {
+                let index = place & ((2 << self.levels) - 1);
+                index.ilog2() as u8 + 1
+            }
         }
     }
 
@@ -92,16 +107,16 @@ impl Store {
         0
     }
 
-    pub fn collect(&mut self, answer: &mut [u8]) -> u8 {
+    pub fn collect(&mut self, answer: &mut [u8]) -> Answer {
         let request = self.request;
         if request.kind == 0 {
-            return 13;
+            return Answer::refused(13);
         }
-        if request.held || request.pending != 0 || request.outstanding != 0 {
-            return 14;
+        if request.found == HELD || request.pending != 0 || request.outstanding != 0 {
+            return Answer::refused(14);
         }
         if answer.len() != self.bytes {
-            return 15;
+            return Answer::refused(15);
         }
         let room = self.room_of[request.block];
         let at = self.at(room);
@@ -120,7 +135,7 @@ impl Store {
         if self.job.phase == Phase::Idle {
             self.next_job();
         }
-        0
+        Answer::collected(request.found)
     }
 
     pub(super) fn give_back(&mut self, room: u16) {

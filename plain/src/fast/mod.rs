@@ -1,7 +1,8 @@
-//! A fast plain implementation of document 01's block store, for benchmarks.
-//! It answers the document's numbers. It owns its memory, so the questions
-//! about the length of lent memory are left out, and as a refused open hands
-//! back no store, so is the closed state.
+//! A fast plain implementation of document 01's block store, for benchmarks,
+//! with where a block was found (document 02, P2). It answers the documents'
+//! numbers. It owns its memory, so the questions about the length of lent
+//! memory are left out, and as a refused open hands back no store, so is the
+//! closed state.
 //!
 //! A slot has an index in its partition like a node in a heap: slot s of
 //! level l is at 2^(l+1) + s. A rebuild's reads, levels ascending and slots
@@ -30,11 +31,13 @@ pub struct Command {
     pub slot: u8,
 }
 
-/// The number answered, the words taken and a turn's command, in the eight
-/// bytes that a call hands back in a register.
+/// The number answered, where a collected block was found, the words taken and
+/// a turn's command, in the eight bytes that a call hands back in a register.
 #[derive(Clone, Copy, Debug, Default, PartialEq, Eq)]
 pub struct Answer {
     pub number: u8,
+    /// 0 nowhere, 1 in the cache, 2 + l in level l. A refusal tells 0.
+    pub found: u8,
     pub taken: u16,
     pub command: Command,
 }
@@ -49,9 +52,16 @@ impl Answer {
 
     fn sent(command: Command, taken: u16) -> Answer {
         Answer {
-            number: 0,
             taken,
             command,
+            ..Answer::default()
+        }
+    }
+
+    fn collected(found: u8) -> Answer {
+        Answer {
+            found,
+            ..Answer::default()
         }
     }
 }

@@ -16,6 +16,9 @@ pub const WAITING: u16 = u16::MAX - 1;
 /// The end of a list of waiting blocks.
 pub const NONE: u16 = u16::MAX;
 
+/// In place of where its block was found, a request that is held has this.
+pub const HELD: u8 = u8::MAX;
+
 #[derive(Clone, Copy)]
 pub struct Block {
     /// NOWHERE, WAITING or the index of its slot in the store.
@@ -71,7 +74,8 @@ impl Partition {
 pub struct Request {
     /// READ, WRITE or, without a request, 0.
     pub kind: u8,
-    pub held: bool,
+    /// What the answer to its collect tells, or HELD.
+    pub found: u8,
     /// The levels whose read is yet to be sent, as bits; 0 while held.
     pub pending: u32,
     pub outstanding: usize,

@@ -59,21 +59,27 @@ pub struct Row {
     pub nothing: Times,
 }
 
-fn measure<C: Client, H: Host>(shape: Shape) -> Measure {
+/// How many look-ups found their block where.
+type Found = [u64; 10];
+
+fn measure<C: Client, H: Host>(shape: Shape) -> (Measure, Found) {
     let mut look_ups = LookUps::<C, H>::open(shape, 1).expect("the shape is in bounds");
     look_ups
         .warm_up()
         .expect("the answers are those of an array");
-    look_ups.measure(LOOK_UPS).expect("no look-up is refused")
+    let measure = look_ups.measure(LOOK_UPS).expect("no look-up is refused");
+    (measure, look_ups.found)
 }
 
-/// Times both, which take turns, and counts the commands of a look-up.
+/// Times both, which take turns and find the blocks at the same places, and
+/// counts the commands of a look-up.
 fn compare<H: Host>(shape: Shape) -> (Times, f64) {
-    let mut proved = measure::<Proved, H>(shape);
-    let mut plain = measure::<fast::Store, H>(shape);
+    let (mut proved, found) = measure::<Proved, H>(shape);
+    let (mut plain, same) = measure::<fast::Store, H>(shape);
+    assert_eq!(found, same);
     for _ in 1..REPEATS {
-        proved = proved.best(&measure::<Proved, H>(shape));
-        plain = plain.best(&measure::<fast::Store, H>(shape));
+        proved = proved.best(&measure::<Proved, H>(shape).0);
+        plain = plain.best(&measure::<fast::Store, H>(shape).0);
     }
     assert_eq!(proved.commands, plain.commands);
     let commands = proved.commands as f64;

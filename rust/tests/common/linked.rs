@@ -75,30 +75,35 @@ impl Linked {
         match all.iter().find(|(_, same)| !same) {
             None => Ok(()),
             Some((what, _)) => Err(format!(
-                "the {what} departs: {answer:?} for {outcome:?}, after {call:?}"
+                "the {what} departs: {answer:?}, found {}, for {outcome:?}, after {call:?}",
+                answer.found()
             )),
         }
     }
 }
 
-/// The answer is the outcome's in all its bits, and says so: number, words taken
-/// and command. The bytes are the buffer's to compare.
+/// The answer is the outcome's in all its bits, and says so: number, words
+/// taken, command, and where a block was found. The bytes are the buffer's to
+/// compare.
 fn same(answer: Answer, outcome: &Outcome) -> bool {
-    let wanted = outcome.command;
+    let (wanted, found) = (outcome.command, outcome.found.number());
     let bits = usize::from(outcome.number)
-        | wanted.kind << 8
-        | wanted.partition << 16
-        | wanted.level << 24
-        | wanted.slot << 32
-        | outcome.taken << 48;
+        | wanted.kind << 5
+        | wanted.partition << 7
+        | wanted.level << 13
+        | wanted.slot << 17
+        | found << 28
+        | outcome.taken << 32;
     let sent = answer.command().map_or(Command::default(), |sent| Command {
         kind: sent.kind.number().into(),
         partition: sent.partition.into(),
         level: sent.level.into(),
         slot: sent.slot.into(),
     });
-    let said = (answer.number(), usize::from(answer.taken()), sent);
-    answer.bits() == bits as u64 && said == (outcome.number, outcome.taken, wanted)
+    let told = usize::from(answer.found().number());
+    answer.bits() == bits as u64
+        && (answer.number(), answer.taken(), sent) == (outcome.number, outcome.taken, wanted)
+        && told == found
 }
 
 /// The buffer after a call by the model: what it hands out, or as it was.

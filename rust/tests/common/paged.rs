@@ -38,7 +38,7 @@ pub fn compare(
     };
     let mut filled = vec![BEFORE; buffer];
     filled[..text.len()].copy_from_slice(text.as_bytes());
-    let bits = u64::from(number) | (text.len() as u64) << 48;
+    let bits = u64::from(number) | (text.len() as u64) << 32;
     let (answer, after) = page(linked, memory, buffer);
     let said = (answer.number(), answer.length()) == (number, text.len());
     if answer.bits() == bits && said && after == filled {

@@ -1,4 +1,4 @@
-//! The state that 64 bytes and a memory stand for, by the layout in
+//! The state that 68 bytes and a memory stand for, by the layout in
 //! docs/MEMORY.md: every content stands for one, as an entry out of its range
 //! reads as 0. `step` has what the rules say of it, also of states that no
 //! call left (docs/DECISIONS.md), and `page` its page.
@@ -8,8 +8,12 @@ mod step;
 
 pub use step::step;
 
+use plain::found::Found;
 use plain::shape::Shape;
 use plain::state::{Command, READ, WRITE};
+
+/// The numbers of a state.
+pub const NUMBERS: usize = 17;
 
 /// A request in hand; a read has no bytes.
 #[derive(Clone, Debug, PartialEq, Eq)]
@@ -21,6 +25,8 @@ pub struct Request {
     pub evict: usize,
     /// The level from which its reads are still to be sent.
     pub level: usize,
+    /// Where its block was found; none while it is held.
+    pub found: Option<Found>,
 }
 
 /// A state in range.
@@ -67,6 +73,16 @@ fn apart(levels: usize, spot: usize) -> (usize, usize) {
 /// Number k of the bytes, low byte first.
 fn word(bytes: &[u8], k: usize) -> usize {
     usize::from(u16::from_le_bytes([bytes[2 * k], bytes[2 * k + 1]]))
+}
+
+/// Where a request's block was found: 0 while it is held, and then 1 more than
+/// the number by which a collect tells it.
+fn found(number: usize) -> Option<Found> {
+    Some(match number.checked_sub(1)? {
+        0 => Found::Nowhere,
+        1 => Found::Cache,
+        more => Found::Level(more - 2),
+    })
 }
 
 /// The tables of a memory, and where each begins.
@@ -117,12 +133,12 @@ impl Tables<'_> {
 /// The state for which these bytes stand; none if the memory is too short or a
 /// number of the state is out of its range, to which four calls answer 2.
 pub fn decode(state: &[u8], memory: &[u8]) -> Option<View> {
-    let c: [usize; 16] = std::array::from_fn(|k| word(state, 2 * k));
+    let c: [usize; NUMBERS] = std::array::from_fn(|k| word(state, 2 * k));
     let shape = Shape::new(c[0], c[1], c[2], c[3], c[4], c[5]);
     if !shape.in_bounds() || memory.len() < shape.needed() {
         return None;
     }
-    let [jobs, cursor, sent, waiting, out] = [c[11], c[12], c[13], c[14], c[15]];
+    let [jobs, cursor, sent, waiting, out] = [c[12], c[13], c[14], c[15], c[16]];
     let job = cursor <= slots(shape.levels) - 2 && sent <= 1 << shape.levels;
     if !job || jobs > 64 || waiting > shape.places || out > shape.window {
         return None;
@@ -132,8 +148,8 @@ pub fn decode(state: &[u8], memory: &[u8]) -> Option<View> {
 }
 
 impl Tables<'_> {
-    /// The view, by the sixteen numbers, whose counts are in range.
-    fn view(&self, c: &[usize; 16]) -> View {
+    /// The view, by the numbers of the state, whose counts are in range.
+    fn view(&self, c: &[usize; NUMBERS]) -> View {
         let Shape {
             blocks: n,
             partitions,
@@ -147,23 +163,23 @@ impl Tables<'_> {
         };
         View {
             shape: self.shape,
-            queue: self.table(0, c[11], |_, q| fit(partitions, q)),
-            outstanding: self.outstanding(c[15]),
+            queue: self.table(0, c[12], |_, q| fit(partitions, q)),
+            outstanding: self.outstanding(c[16]),
             counter: self.table(128, partitions, |_, c| fit(1 << levels, c)),
             partition: self.table(192, n, |_, p| fit(partitions, p)),
             place: self.table(192 + n, n, |_, number| self.place(number)),
-            waiting: self.table(192 + 2 * n, c[14], |_, b| fit(n, b)),
+            waiting: self.table(192 + 2 * n, c[15], |_, b| fit(n, b)),
             order: self.table(192 + 3 * n, all, order),
             holds: self.table(192 + 3 * n + all, all, |_, b| fit(n + 1, b)),
             mark: self.table(192 + 3 * n + 2 * all, all, |_, mark| fit(2, mark)),
             bytes: (0..n).map(|b| self.block(b)).collect(),
-            cursor: c[12],
-            sent: c[13],
+            cursor: c[13],
+            sent: c[14],
             request: (c[6] != 0).then(|| self.request(c)),
         }
     }
 
-    fn request(&self, c: &[usize; 16]) -> Request {
+    fn request(&self, c: &[usize; NUMBERS]) -> Request {
         let writes = c[6] == WRITE;
         Request {
             kind: c[6],
@@ -176,6 +192,7 @@ impl Tables<'_> {
             next: c[8],
             evict: c[9],
             level: c[10],
+            found: found(c[11]),
         }
     }
 }
@@ -188,11 +205,16 @@ impl View {
             return true;
         };
         let others = self.waiting.iter().filter(|b| **b != r.block).count();
+        let level = match r.found {
+            Some(Found::Level(level)) => level,
+            _ => 0,
+        };
         (READ..=WRITE).contains(&r.kind)
             && r.block < self.shape.blocks
             && r.next < self.shape.partitions
             && r.evict < self.shape.partitions
             && r.level <= self.shape.levels
+            && level < self.shape.levels
             && self.queue.len() <= 62
             && others < self.shape.places
     }
@@ -215,11 +237,21 @@ impl View {
         cells.iter().filter_map(|held| held.checked_sub(1))
     }
 
+    /// Where a block is. One that has a slot and waits, as no call leaves it, is
+    /// in its level.
+    fn look_up(&self, block: usize) -> Found {
+        match self.place[block] {
+            Some((level, _)) => Found::Level(level),
+            None if self.waiting.contains(&block) => Found::Cache,
+            None => Found::Nowhere,
+        }
+    }
+
     /// A block that is nowhere reads as zeros.
     fn contents(&self, block: usize) -> Vec<u8> {
-        match self.place[block].is_none() && !self.waiting.contains(&block) {
-            true => vec![0; self.shape.bytes],
-            false => self.bytes[block].clone(),
+        match self.look_up(block) {
+            Found::Nowhere => vec![0; self.shape.bytes],
+            _ => self.bytes[block].clone(),
         }
     }
 }

@@ -4,6 +4,7 @@
 //! or in the list twice; it counts once.
 
 use super::View;
+use plain::found::Found;
 
 #[derive(Clone, Copy, PartialEq, Eq)]
 enum Place {
@@ -14,12 +15,10 @@ enum Place {
 
 impl View {
     fn place_of(&self, block: usize) -> Place {
-        if self.place[block].is_some() {
-            Place::Stored
-        } else if self.waiting.contains(&block) {
-            Place::Waiting
-        } else {
-            Place::Nowhere
+        match self.look_up(block) {
+            Found::Nowhere => Place::Nowhere,
+            Found::Cache => Place::Waiting,
+            Found::Level(_) => Place::Stored,
         }
     }
 

@@ -2,6 +2,7 @@
 
 use super::{Request, View, cells, slots};
 use plain::calls::{Ask, Call, Draws, Outcome, ask};
+use plain::found::Found;
 use plain::mistakes::Mistake;
 use plain::shape::Shape;
 use plain::state::{Command, READ, WRITE};
@@ -40,11 +41,12 @@ pub fn step(view: &mut Option<View>, call: &Call) -> Outcome {
         (_, Some(state)) => state.call(call, &mut draws),
     };
     match answer {
-        Ok((command, bytes)) => Outcome {
+        Ok((command, bytes, found)) => Outcome {
             number: 0,
             taken: draws.taken(),
             command,
             bytes,
+            found,
         },
         Err(number) => Outcome {
             number,
@@ -53,8 +55,8 @@ pub fn step(view: &mut Option<View>, call: &Call) -> Outcome {
     }
 }
 
-/// A command, and what goes into the buffer.
-type Handed = (Command, Vec<u8>);
+/// A command, what goes into the buffer, and where a block was found.
+type Handed = (Command, Vec<u8>, Found);
 
 impl View {
     fn open(shape: Shape, memory: usize, draws: &mut Draws) -> Result<View, u8> {
@@ -80,9 +82,9 @@ impl View {
         })
     }
 
+    /// After every accepted call a request is released that no job holds.
     fn call(&mut self, call: &Call, draws: &mut Draws) -> Result<Handed, u8> {
-        let none = Command::default();
-        match &call.ask {
+        let handed = match &call.ask {
             Ask::Open(_) => Err(2),
             Ask::Request {
                 kind,
@@ -91,8 +93,10 @@ impl View {
             } => self.request(*kind, *block, contents, draws),
             Ask::Turn => self.turn(call.buffer, draws),
             Ask::Completion { command, bytes } => self.completion(*command, bytes),
-            Ask::Collect => self.collect(call.buffer).map(|bytes| (none, bytes)),
-        }
+            Ask::Collect => self.collect(call.buffer),
+        }?;
+        self.release();
+        Ok(handed)
     }
 
     fn request(
@@ -118,12 +122,28 @@ impl View {
             next: draws.below(self.shape.partitions),
             evict: draws.below(self.shape.partitions),
             level: 0,
+            found: None,
         });
         Ok(Handed::default())
     }
 
-    fn held(&self, request: &Request) -> bool {
-        self.queue.contains(&self.partition[request.block])
+    /// Whether a request is held though no job for its block's partition is
+    /// queued, or the other way round, as no call leaves it.
+    pub fn is_held_oddly(&self) -> bool {
+        let queued = |r: &Request| self.queue.contains(&self.partition[r.block]);
+        let request = self.request.as_ref();
+        request.is_some_and(|r| r.found.is_none() != queued(r))
+    }
+
+    /// A request is held until its block is looked up, once no job for the
+    /// block's partition is queued.
+    fn release(&mut self) {
+        let held = self.request.as_ref().filter(|r| r.found.is_none());
+        let free = held.filter(|r| !self.queue.contains(&self.partition[r.block]));
+        let found = free.map(|r| self.look_up(r.block));
+        if let (Some(request), Some(_)) = (&mut self.request, found) {
+            request.found = found;
+        }
     }
 
     /// The first level to which the request has yet to send a read.
@@ -153,7 +173,7 @@ impl View {
     }
 
     fn decide(&self) -> Option<Step> {
-        let request = self.request.as_ref().filter(|r| !self.held(r));
+        let request = self.request.as_ref().filter(|r| r.found.is_some());
         if let Some((r, level)) = request.and_then(|r| Some((r, self.level_left(r)?))) {
             let q = self.partition[r.block];
             let own = self.place[r.block].filter(|(own, _)| *own == level);
@@ -207,12 +227,13 @@ impl View {
         let cell = self.cell(sent.partition, sent.level, sent.slot);
         if sent.kind == READ {
             self.mark[cell] = 0;
-            return Ok((sent, Vec::new()));
+            return Ok((sent, Vec::new(), Found::Nowhere));
         }
         self.sent = sent.slot + 1;
         let held = self.holder(sent.partition, sent.level, sent.slot);
         let zeros = vec![0; self.shape.bytes];
-        Ok((sent, held.map_or(zeros, |b| self.bytes[b].clone())))
+        let bytes = held.map_or(zeros, |b| self.bytes[b].clone());
+        Ok((sent, bytes, Found::Nowhere))
     }
 
     /// The block that has waited longest for q, if q has room.
@@ -287,11 +308,11 @@ impl View {
         (self.cursor, self.sent) = (0, 0);
     }
 
-    fn collect(&mut self, buffer: usize) -> Result<Vec<u8>, u8> {
+    fn collect(&mut self, buffer: usize) -> Result<Handed, u8> {
         let request = self.request.clone().ok_or(13)?;
         let (b, p) = (request.block, self.partition[request.block]);
-        let reads = self.level_left(&request).is_some() || self.busy(p);
-        ask(!self.held(&request) && !reads, 14)?;
+        let found = request.found.ok_or(14)?;
+        ask(self.level_left(&request).is_none() && !self.busy(p), 14)?;
         ask(buffer == self.shape.bytes, 15)?;
         let before = self.contents(b);
         self.bytes[b] = match request.kind {
@@ -307,7 +328,7 @@ impl View {
         self.partition[b] = request.next;
         self.queue.extend([p, request.evict]);
         self.request = None;
-        Ok(before)
+        Ok((Command::default(), before, found))
     }
 }
 

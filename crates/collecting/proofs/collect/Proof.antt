@@ -5,10 +5,10 @@ use native.Mathlib.Omega.{arith}
 use lib.ListN.{length}
 use Rattle.rules.specs.Questions.{collect, number, bounds}
 use Rattle.rules.specs.Draws.{draws}
-use Rattle.rules.specs.Run.{refuse, act, sentCommand, handed, takenOf}
+use Rattle.rules.specs.Run.{refuse, act, perform, sentCommand, handed, handedFound, takenOf}
 use Rattle.client.specs.View.{stateOf, view}
 use Rattle.contract.specs.Meets.{meets-no, meets-yes}
-use Rattle.collecting.specs.Collecting.{Passed, collect-passed, collected-is, answer-is}
+use Rattle.collecting.specs.Collecting.{Passed, collect-passed, collected-is, found-is, answer-is}
 use Rattle.collecting.proofs.collect.Statement.{statement}
 use Rattle.collecting.proofs.collect.Tie as tie
 
@@ -41,8 +41,13 @@ finish-requires c κs =
     let y = yes (o .before .before .before .before) (omega arith) in
     (y .hand, omega (arith, y .size), o .hand-out .ensures)
 
-accepted-requires : tie.Need-accepted-requires
-accepted-requires c κs = omega arith
+sub-collected : tie.Need-sub-collected
+sub-collected c =
+    let i = c .before .before .before .before .before .before .before .before .before .before .before in
+    omega (arith, yes (i .before) (omega (arith, i .if1 .left)) .free)
+
+collected-requires : tie.Need-collected-requires
+collected-requires c κs = omega arith
 
 same-length-2 : tie.Need-same-length-2
 same-length-2 c = omega arith
@@ -51,20 +56,21 @@ same-length-3 : tie.Need-same-length-3
 same-length-3 c = omega arith
 
 returns-2 : tie.Need-returns-2
-unfolding bounds draws takenOf act sentCommand handed stateOf view
+unfolding bounds draws takenOf act perform sentCommand handed handedFound stateOf view
 returns-2 c =
-    let f = c .before .before .before in
+    let f = c .before .before .before .before in
     let o = f .before .before .before .before .before in
     let n = o .before .before .before .before in
     let a = n .before .before .before .before .args in
     let e : n .number .result ≡ 0 = omega arith in
     let y = yes n e in
     let full : 1 ≤ length (o .hand-out .last .1 .1 .0) = omega (arith, y .size, y .hand .room .someBytes) in
-    rw (c .accepted .ensures) (meets-yes (a .c) (stateOf (a .c) (a .m .now)) collect (a .m .now) [] (a .buffer .now) _ _ _ (record {
+    rw (c .collected .ensures) (meets-yes (a .c) (stateOf (a .c) (a .m .now)) collect (a .m .now) [] (a .buffer .now) _ _ _ (record {
       yes = sym (n .number .ensures) ∙ e;
       number = refl;
       taken = refl;
       command = refl;
+      found = found-is (a .c) (a .m .now) (y .some) (y .free);
       idle = λ z. f .finish .ensures .0;
       state = f .finish .ensures .1 .state ∙ sym (collected-is (a .c) (a .m .now) (y .some));
       buffer = answer-is (a .c) (a .m .now) (a .buffer .now) (o .hand-out .last .1 .1 .0) (y .some) (o .hand-out .ensures) full;
@@ -81,7 +87,8 @@ collect-spec =
     returns
     hand-out-requires
     finish-requires
-    accepted-requires
+    sub-collected
+    collected-requires
     same-length-2
     same-length-3
     returns-2)

@@ -1,8 +1,8 @@
 -- A state over a cache of e places and over one of n: each step, each bound and each act is the same, and each question but 8.
-use mathlib.Core.Path.{_≡_, refl, sym}
+use mathlib.Core.Path.{_≡_, refl, ap, sym, _∙_}
 use mathlib.Core.Bool.{Bool, true, false, _||_, true≢false}
 use mathlib.Core.List.{List, [], _∷_}
-use mathlib.Core.Option.{Option, none, some}
+use mathlib.Core.Option.{Option, none, some, Option·map}
 use Prim.Native.Nat.{ℕ, _≤_}
 use native.Mathlib.Omega.{arith}
 use lib.ListN.{length}
@@ -20,7 +20,7 @@ use Rattle.rules.specs.Collect
 use Rattle.rules.specs.Run
 use Rattle.rules.specs.Run.{act}
 use Rattle.rules.specs.Memory
-use Rattle.rules.specs.Setters.{setShape}
+use Rattle.rules.specs.Setters.{setShape, setRequest}
 use Rattle.rules.specs.State.{State, Request, Command}
 use Rattle.rules.specs.Turn
 use Rattle.rules.specs.Turn.{Step, idle, noDummy, readForRequest, readForJob, rebuild, writeNext, decide, doStep}
@@ -103,13 +103,37 @@ module _ (e : ℕ) (s : State) where
       go true = gatherBytes-E e (Completion.completed c s) (Blocks.holder s (c .partition) (c .level) (c .slot)) bs
       go false = finishJob-E e (Completion.completed c s) (s .queue)
 
+  perform-E : (a : Ask) (js : List ℕ) → Run.perform (withE e s) a js ≡ keepE e s a (Run.perform s a js)
+  unfolding Run.perform
+  perform-E (opening h) js = refl
+  perform-E (request k b bs) js = unfold Request.accept in refl
+  perform-E turn js = rw (decide-E e s) (doStep-E e s (decide s) js)
+  perform-E (completion c bs) js = complete-E c bs
+  perform-E collect js = collected-E e s (s .request)
+
+  release-E : (x : State) → Request.release (withE e x) ≡ withE e (Request.release x)
+  unfolding model
+  release-E x = go (x .request)
+    where
+      go : (o : Option Request) → setRequest (Option·map (Request.releasedIn (withE e x)) o) (withE e x) ≡ withE e (setRequest (Option·map (Request.releasedIn x) o) x)
+      go none = refl
+      go (some r) = refl
+
   pub act-E : (a : Ask) (js : List ℕ) → act (withE e s) a js ≡ keepE e s a (act s a js)
   unfolding act
-  act-E (opening h) js = refl
-  act-E (request k b bs) js = unfold Request.accept in refl
-  act-E turn js = rw (decide-E e s) (doStep-E e s (decide s) js)
-  act-E (completion c bs) js = complete-E c bs
-  act-E collect js = collected-E e s (s .request)
+  act-E (opening h) js = ap Request.release (perform-E (opening h) js)
+  act-E (request k b bs) js = ap Request.release (perform-E (request k b bs) js) ∙ release-E (Run.perform s (request k b bs) js)
+  act-E turn js = ap Request.release (perform-E turn js) ∙ release-E (Run.perform s turn js)
+  act-E (completion c bs) js = ap Request.release (perform-E (completion c bs) js) ∙ release-E (Run.perform s (completion c bs) js)
+  act-E collect js = ap Request.release (perform-E collect js) ∙ release-E (Run.perform s collect js)
+
+  pub handedFound-E : (a : Ask) → Run.handedFound (withE e s) a ≡ Run.handedFound s a
+  unfolding Run.handedFound
+  handedFound-E (opening h) = refl
+  handedFound-E (request k b bs) = refl
+  handedFound-E turn = refl
+  handedFound-E (completion c bs) = refl
+  handedFound-E collect = refl
 
   pub sentCommand-E : (a : Ask) → Run.sentCommand (withE e s) a ≡ Run.sentCommand s a
   unfolding Run.sentCommand

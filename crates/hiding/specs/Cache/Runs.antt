@@ -10,6 +10,7 @@ use lib.Dec.{eqb}
 use borrow.Author.Tests.{eqb-true, eqb-false, le-leb}
 use Rattle.lists.specs.Tests
 use Rattle.rules.specs.Draws.{Drawn, draws}
+use Rattle.rules.specs.Laws.Kept.{released-waits}
 use Rattle.rules.specs.Laws.Waiting.{Waits, pass-waits, waits-le, others-room, leave-waits}
 use Rattle.rules.specs.Questions.{Ask, opening, request, turn, completion, collect, Call, bounds, questions, number}
 use Rattle.rules.specs.Open
@@ -29,7 +30,7 @@ use Rattle.hiding.specs.Unchanged.{Rest, complete-rest}
 use Rattle.hiding.specs.Claim
 use Rattle.hiding.specs.Claim.{told, withCache, NoOpen, openOver, Twin, Twins, AgreeUntil8, done, full, equal, Smaller}
 use Rattle.hiding.specs.Lists.Bytes.{bare, twin-tells, twin-next}
-use Rattle.hiding.specs.Cache.Over.{withE, bounds-E, act-E, sentCommand-E, handed-E, questions-E, firstNo-looser}
+use Rattle.hiding.specs.Cache.Over.{withE, bounds-E, act-E, sentCommand-E, handed-E, handedFound-E, questions-E, firstNo-looser}
 
 -- The invariant: the shape stays, and what waits fits
 pub record Fits (e n : ℕ) (s : State) : Type 0 where
@@ -51,21 +52,28 @@ module _ (e n : ℕ) (s : State) (f : Fits e n s) where
   collected-fits none q = f
   collected-fits (some r) q = record { room = f .room; waits = rw length-append (omega (arith, rw q at (f .waits))) }
 
-  act-fits : (a : Ask) (m : ℕ) (ws : List ℕ) (k : ℕ) (js : List ℕ) → opens a ≡ false → Passed (questions (withE e s) a m ws k) → Fits e n (act s a js)
-  unfolding act questions opens Request.accept
-  act-fits (opening h) m ws k js o p = absurd (true≢false o)
-  act-fits (request j b bs) m ws k js o p = record {
+  perform-fits : (a : Ask) (m : ℕ) (ws : List ℕ) (k : ℕ) (js : List ℕ) → opens a ≡ false → Passed (questions (withE e s) a m ws k) → Fits e n (Run.perform s a js)
+  unfolding Run.perform questions opens Request.accept
+  perform-fits (opening h) m ws k js o p = absurd (true≢false o)
+  perform-fits (request j b bs) m ws k js o p = record {
     room = f .room;
     waits = let h = waits-le e (s .waiting) (s .request) (f .waits) in (h, others-room e b (s .waiting) h (p .1 .1 .1 .1 .1 .0));
   }
-  act-fits turn m ws k js o p = doStep-fits (decide s) js
-  act-fits (completion c bs) m ws k js o p =
+  perform-fits turn m ws k js o p = doStep-fits (decide s) js
+  perform-fits (completion c bs) m ws k js o p =
       let q = complete-rest s c bs in
       record {
         room = rw (ap (λ (x : Rest). x .shape) q) (f .room);
         waits = rw (ap (λ (x : Rest). x .request) q, ap (λ (x : Rest). x .waiting) q) (f .waits);
       }
-  act-fits collect m ws k js o p = collected-fits (s .request) refl
+  perform-fits collect m ws k js o p = collected-fits (s .request) refl
+
+release-fits : (e n : ℕ) (s : State) → Fits e n s → Fits e n (Request.release s)
+release-fits e n s f = record { room = f .room; waits = released-waits s e (s .waiting) (s .request) (f .waits) }
+
+act-fits : (e n : ℕ) (s : State) → Fits e n s → (a : Ask) (m : ℕ) (ws : List ℕ) (k : ℕ) (js : List ℕ) → opens a ≡ false → Passed (questions (withE e s) a m ws k) → Fits e n (act s a js)
+unfolding act
+act-fits e n s f a m ws k js o p = release-fits e n (Run.perform s a js) (perform-fits e n s f a m ws k js o p)
 
 act-E′ : (e : ℕ) (s : State) (a : Ask) (js : List ℕ) → opens a ≡ false → act (withE e s) a js ≡ withE e (act s a js)
 unfolding opens
@@ -78,7 +86,7 @@ act-E′ e s collect js o = act-E e s collect js
 accepted-E : (e : ℕ) (s : State) (a : Ask) (d : Option Drawn) → opens a ≡ false
     → Run.accepted (withE e s) a d ≡ (withE e (act s a (Run.numbersOf d)), Run.accepted s a d .1)
 unfolding Run.accepted
-accepted-E e s a d o = rw (act-E′ e s a (Run.numbersOf d) o, sentCommand-E e s a, handed-E e s (act s a (Run.numbersOf d)) a)
+accepted-E e s a d o = rw (act-E′ e s a (Run.numbersOf d) o, sentCommand-E e s a, handed-E e s (act s a (Run.numbersOf d)) a, handedFound-E e s a)
 
 -- equal outcomes, bytes and all
 abbrev Agree : List Outcome → List Outcome → Type 0
@@ -174,7 +182,7 @@ module _ (e : ℕ) (h : Shape) (he : 1 ≤ e) (le : e ≤ h .N) (m : ℕ) (ws : 
       s-fits = unfold Open.fresh in (record { room = omega arith; waits = omega arith })
 
       yes-one : (i : ℕ) → number closed (openOver i h m ws k) ≡ 0 → step closed (openOver i h m ws k) ≡ (withE i s, Run.accepted closed (opening h) d .1)
-      yes-one i z = unfold Run.accepted Run.sentCommand Run.handed act Open.fresh bounds in (step-accepted closed (openOver i h m ws k) z)
+      yes-one i z = unfold Run.accepted Run.sentCommand Run.handed Run.handedFound act Run.perform Open.fresh bounds in (step-accepted closed (openOver i h m ws k) z)
 
       no-one : (i : ℕ) → (number closed (openOver i h m ws k) ≡ 0 → ⊥) → step closed (openOver i h m ws k) ≡ (closed, Run.refused (number closed (openOver i h m ws k)))
       no-one i z = unfold Run.refuse in (step-refused closed (openOver i h m ws k) z)
@@ -187,7 +195,7 @@ module _ (e : ℕ) (h : Shape) (he : 1 ≤ e) (le : e ≤ h .N) (m : ℕ) (ws : 
 
 -- whatever was before an open
 run-open : (s : State) (h : Shape) (e m n : ℕ) (ws : List ℕ) (cs : List Call) → run s (openOver e h m ws n ∷ cs) ≡ run closed (openOver e h m ws n ∷ cs)
-unfolding run step number questions bounds Run.accepted act Run.sentCommand Run.handed Run.refuse
+unfolding run step number questions bounds Run.accepted act Run.perform Run.sentCommand Run.handed Run.handedFound Run.refuse
 run-open s h e m n ws cs = refl
 
 smaller-whole : (h : Shape) (e : ℕ) → 1 ≤ e → e < h .N → (m n : ℕ) (ws : List ℕ) (cs : List Call) → NoOpen cs → (s s′ : State) →

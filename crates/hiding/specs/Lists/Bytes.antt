@@ -1,9 +1,9 @@
 -- What bytes a completion brings, and which contents a request has, changes nothing of what is told: calls that differ only in these have the
 -- same numbers, draws and commands from states that differ only in the bytes they keep, and leave such states.
 use mathlib.Core.Path.{_≡_, refl, ap, ap₂, sym, _∙_}
-use mathlib.Core.Bool.{Bool, true, false}
+use mathlib.Core.Bool.{Bool, true, false, not, _&&_}
 use mathlib.Core.List.{List, [], _∷_, map, _++_}
-use mathlib.Core.Option.{Option, none, some}
+use mathlib.Core.Option.{Option, none, some, Option·map}
 use Prim.Native.Nat.{ℕ}
 use lib.ListN.{length, replicate, length-replicate}
 use lib.Dec.{eqb}
@@ -28,9 +28,12 @@ use Rattle.hiding.specs.Claim
 use Rattle.hiding.specs.Claim.{Outline, anOpen, aRequest, aTurn, aCompletion, aCollect, outline, zeroed, told, drawsOf, drawsIn, Twin, Twins}
 
 -- a state without the bytes it keeps: of a request's contents the length stays
+abbrev pub zeroBytes : Request → Request
+zeroBytes r = record { kind = r .kind; block = r .block; bytes = replicate (length (r .bytes)) 0; next = r .next; evict = r .evict; level = r .level; found = r .found }
+
 abbrev pub bareRequest : Option Request → Option Request
 bareRequest none = none
-bareRequest (some r) = some (record { kind = r .kind; block = r .block; bytes = replicate (length (r .bytes)) 0; next = r .next; evict = r .evict; level = r .level })
+bareRequest (some r) = some (zeroBytes r)
 
 abbrev pub bare : State → State
 bare s = s ▷ setBytes (λ b. []) ▷ setRequest (bareRequest (s .request))
@@ -189,13 +192,35 @@ module _ (s : State) where
       go true = gatherBytes-bare (Completion.completed c s) (Blocks.holder s (c .partition) (c .level) (c .slot)) bs cs
       go false = finishJob-bare (Completion.completed c s) (s .queue)
 
+  perform-bare : (a : Ask) (js : List ℕ) → bare (Run.perform (bare s) (bareAsk a) js) ≡ bare (Run.perform s a js)
+  unfolding Run.perform
+  perform-bare (opening h) js = refl
+  perform-bare (request k b bs) js = unfold Request.accept in (rw (length-zeros bs))
+  perform-bare turn js = rw (decide-bare s) (doStep-bare s (decide s) js)
+  perform-bare (completion c bs) js = complete-bare c (replicate (length bs) 0) bs
+  perform-bare collect js = collected-bare s (s .request)
+
+-- a request is released by what is not bytes
+release-bare : (s : State) → bare (Request.release (bare s)) ≡ bare (Request.release s)
+unfolding model
+release-bare s = go (s .request)
+  where
+    go : (o : Option Request) → bare (setRequest (Option·map (Request.releasedIn (bare s)) (bareRequest o)) (bare s)) ≡ bare (setRequest (Option·map (Request.releasedIn s) o) s)
+    go none = refl
+    go (some r) = one (Request.held r && not (Request.blocked s r))
+      where
+        one : (t : Bool) → bare (setRequest (some (if t then Request.withFound (Blocks.lookUp s (r .block)) (zeroBytes r) else zeroBytes r)) (bare s)) ≡ bare (setRequest (some (if t then Request.withFound (Blocks.lookUp s (r .block)) r else r)) s)
+        one true = rw (length-zeros (r .bytes))
+        one false = rw (length-zeros (r .bytes))
+
+-- .. so of states that differ in bytes alone
+release-alike : (s s′ : State) → bare s ≡ bare s′ → bare (Request.release s) ≡ bare (Request.release s′)
+release-alike s s′ e = sym (release-bare s) ∙ ap (λ x. bare (Request.release x)) e ∙ release-bare s′
+
+module _ (s : State) where
   act-bare : (a : Ask) (js : List ℕ) → bare (act (bare s) (bareAsk a) js) ≡ bare (act s a js)
   unfolding act
-  act-bare (opening h) js = refl
-  act-bare (request k b bs) js = unfold Request.accept in (rw (length-zeros bs))
-  act-bare turn js = rw (decide-bare s) (doStep-bare s (decide s) js)
-  act-bare (completion c bs) js = complete-bare c (replicate (length bs) 0) bs
-  act-bare collect js = collected-bare s (s .request)
+  act-bare a js = release-alike (Run.perform (bare s) (bareAsk a) js) (Run.perform s a js) (perform-bare s a js)
 
   refuse-bare : (a : Ask) → bare (Run.refuse (bare s) (bareAsk a)) ≡ bare (Run.refuse s a)
   unfolding Run.refuse

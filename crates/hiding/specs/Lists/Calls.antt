@@ -22,7 +22,8 @@ use Rattle.rules.specs.Laws.Decided.{StepIn, decide-in}
 use Rattle.rules.specs.Unfold.{model}
 use Rattle.rules.specs.Laws.Answers.{Passed, opens, accepted-passed, accepted-taken, step-accepted, step-refused, refuse-keeps}
 use Rattle.rules.specs.State.{State, Command, closed}
-use Rattle.rules.specs.Run.{Outcome, act, refuse, sentCommand, numbersOf, accepted, refused, step, takenOf, handed}
+use Rattle.rules.specs.Open.{fresh}
+use Rattle.rules.specs.Run.{Outcome, act, refuse, perform, handedFound, sentCommand, numbersOf, accepted, refused, step, takenOf, handed}
 use Rattle.rules.specs.Questions.{Ask, opening, request, turn, completion, collect, Call, bounds, number, questions, firstNo, ready}
 use Rattle.rules.specs.Turn.{stepBounds, decide, Step, idle, noDummy, readForRequest, readForJob, rebuild, writeNext}
 use Rattle.rules.specs.Ranges.{isKind}
@@ -187,7 +188,7 @@ same-draws s k m n ws vs x e = go (eqb (number s (called k m ws n)) 0) refl
     alike : (d d′ : Option Drawn) → numbersOf d ≡ numbersOf d′ → takenOf d ≡ takenOf d′ → accepted s k d ≡ accepted s k d′
     alike d d′ p q = λ i. (
       act s k (p i),
-      record { number = 0; taken = q i; command = sentCommand s k; bytes = handed s k (act s k (p i)) },
+      record { number = 0; taken = q i; command = sentCommand s k; bytes = handed s k (act s k (p i)); found = handedFound s k },
     )
 
     taken : (us : List ℕ) → number s (called k m us n) ≡ 0 → takenOf (draws (bounds s k) us) ≡ length (bounds s k)
@@ -278,7 +279,7 @@ module _ (h : Shape) (reach : Reachable h) where
   open-any s m w n = refl
 
   pub agrees-open : (s : State) (m w n : ℕ) → Agrees (Public.first m w) unopened s (first h m w n)
-  unfolding boundsOf nextOf toldOf act bounds refuse sentCommand
+  unfolding boundsOf nextOf toldOf act perform fresh bounds refuse sentCommand
   agrees-open s m w n = go (number closed (openCall h m w)) refl
     where
       go : (j : ℕ) → number closed (openCall h m w) ≡ j → Agrees (Public.first m w) unopened s (first h m w n)

@@ -6,6 +6,7 @@ use lib.ListN.{length, getD, replicate}
 use Rattle.lists.specs.Tables.{putAll}
 use Rattle.rules.specs.Completion.{complete}
 use Rattle.rules.specs.Open.{fresh}
+use Rattle.rules.specs.Request.{release}
 use Rattle.rules.specs.Setters.{_▷_, setPartition, setPlace, setWaiting, setMark, setQueue, setSent, setRequest}
 use Rattle.rules.specs.Turn.{Step, idle, noDummy, readForRequest, readForJob, rebuild, writeNext, command, send, doStep}
 use Rattle.rules.specs.State.{Command, cmd, write, Place, Request, State}
@@ -89,12 +90,15 @@ collectedI (some r) i =
     ▷ setQueue (i .queue ++ (i .partition (r .block) ∷ r .evict ∷ []))
     ▷ setRequest none
 
+abbrev pub performI : State → Later → List ℕ → State
+performI i (later-request k b bs) e = i ▷ setPartition (λ b. getD e 0 0) ▷ setRequest (some (publicRequest (getD e 1 0) 0 none))
+performI i later-turn e = nextStepI i (decideP i) e
+performI i (later-completion c bs) e = complete c bs i
+performI i later-collect e = collectedI (i .request) i
+
 abbrev pub nextI : ℕ → State → Later → List ℕ → State
 nextI (suc n) i l e = i
-nextI zero i (later-request k b bs) e = i ▷ setPartition (λ b. getD e 0 0) ▷ setRequest (some (publicRequest (getD e 1 0) 0))
-nextI zero i later-turn e = nextStepI i (decideP i) e
-nextI zero i (later-completion c bs) e = complete c bs i
-nextI zero i later-collect e = collectedI (i .request) i
+nextI zero i l e = release (performI i l e)
 
 -- ---- The machine
 

@@ -13,7 +13,7 @@ use Rattle.lists.specs.Search.{find, keep, below, member}
 use Rattle.rules.specs.Turn.{Step, idle, noDummy, readForRequest, readForJob, rebuild, writeNext, doStep}
 use Rattle.rules.specs.Levels.{sources}
 use Rattle.rules.specs.Setters.{_▷_, setPartition, setPlace, setWaiting, setQueue, setRequest, setBytes, setOrder, setHolds}
-use Rattle.rules.specs.Request.{accept}
+use Rattle.rules.specs.Request.{accept, release}
 use Rattle.rules.specs.Rebuild.{isChosen, leave, newPlace}
 use Rattle.rules.specs.Ranges.{others}
 use Rattle.rules.specs.Shape.{Shape, slots}
@@ -87,12 +87,15 @@ collectedM (some r) s =
     ▷ setQueue (s .queue ++ (s .partition (r .block) ∷ r .evict ∷ []))
     ▷ setRequest none
 
+abbrev pub performM : State → Later → List ℕ → State
+performM s (later-request k b bs) e = accept k b bs e s
+performM s later-turn e = nextStepM s (decideP (hide s)) e
+performM s (later-completion c bs) e = complete c bs s
+performM s later-collect e = collectedM (s .request) s
+
 abbrev pub nextM : ℕ → State → Later → List ℕ → State
 nextM (suc n) s l e = s
-nextM zero s (later-request k b bs) e = accept k b bs e s
-nextM zero s later-turn e = nextStepM s (decideP (hide s)) e
-nextM zero s (later-completion c bs) e = complete c bs s
-nextM zero s later-collect e = collectedM (s .request) s
+nextM zero s l e = release (performM s l e)
 
 abbrev pub itemsStep : State → Items → Step → List ℕ → Items
 itemsStep s it idle e = it

@@ -15,7 +15,7 @@ use Rattle.rules.specs.Questions.{Ask, inHand, sends, firstNo}
 use Rattle.rules.specs.Ranges.{isKind, bytesOf}
 use Rattle.rules.specs.Shape.{Shape, within, slots, cell}
 use Rattle.rules.specs.Setters.{setPartition, setPlace, setBytes, setWaiting, setOrder, setHolds, setRequest, _▷_}
-use Rattle.rules.specs.State.{Command, read, write, nowhere, Request, State}
+use Rattle.rules.specs.State.{Command, read, write, nowhere, Request, State, Found, foundNowhere}
 use Rattle.rules.specs.Collect.{finished}
 use Rattle.rules.specs.Request.{held, levelsLeft}
 use Rattle.matching.specs.Keyed.{Key}
@@ -58,18 +58,23 @@ abbrev pub publicEntry : Shape → Entry → Entry
 publicEntry h (first m w) = first m w
 publicEntry h (later l m w n) = later (publicLater h l) m w n
 
--- ---- The public part of a state: of the request in hand, its partition p, the eviction partition and the level
+-- ---- The public part of a state: of the request in hand, its partition p, the eviction partition, the level, and whether it is held
 
 abbrev pub present : (ℕ → ℕ) → Option Request → ℕ
 present f none = 0
 present f (some r) = f (r .block)
 
-abbrev pub publicRequest : ℕ → ℕ → Request
-publicRequest evict level = record { kind = read; block = 0; bytes = []; next = 0; evict = evict; level = level }
+-- where the block was found is not public, but that the request is no longer held
+abbrev pub publicFound : Option Found → Option Found
+publicFound none = none
+publicFound (some x) = some foundNowhere
+
+abbrev pub publicRequest : ℕ → ℕ → Option Found → Request
+publicRequest evict level found = record { kind = read; block = 0; bytes = []; next = 0; evict = evict; level = level; found = publicFound found }
 
 abbrev pub blank : Option Request → Option Request
 blank none = none
-blank (some r) = some (publicRequest (r .evict) (r .level))
+blank (some r) = some (publicRequest (r .evict) (r .level) (r .found))
 
 abbrev pub hide : State → State
 hide s =
@@ -93,7 +98,7 @@ unreadIn h mark = openIn h mark (λ k. below (slots (k .1)))
 
 unfoldable pub requestStepP : State → Option Request → Option Step
 requestStepP s none = none
-requestStepP s (some r) = if held s r then none else firstRead (s .partition (r .block)) nowhere (λ ℓ. some 0) (levelsLeft s r)
+requestStepP s (some r) = if held r then none else firstRead (s .partition (r .block)) nowhere (λ ℓ. some 0) (levelsLeft s r)
 
 unfoldable pub plannedP : State → Step
 plannedP s = Option·getD (requestStepP s (s .request)) (jobStep s (s .queue))

@@ -1,5 +1,5 @@
 -- The rules' state after a call, as the middle machine has it: the state without its slots, what its unread items hold, and their slots.
-use mathlib.Core.Path.{_≡_, refl, ap, fun-ext, subst}
+use mathlib.Core.Path.{_≡_, refl, ap, _∙_, fun-ext, subst}
 use mathlib.Core.Bool.{Bool, true, false}
 use mathlib.Core.List.{List, [], _∷_}
 use mathlib.Core.Option.{Option, none, some}
@@ -13,7 +13,7 @@ use Rattle.lists.specs.Tests.{if_then_else_}
 use Rattle.lists.specs.Search.{below, indexOf}
 use Rattle.lists.specs.Distinct.{index-mem}
 use Rattle.rules.specs.Laws.Answers.{accepted-passed}
-use Rattle.rules.specs.Request.{accept}
+use Rattle.rules.specs.Request.{accept, release}
 use Rattle.rules.specs.Questions.{bounds, questions, inHand}
 use Rattle.rules.specs.Completion
 use Rattle.rules.specs.Completion.{complete}
@@ -27,7 +27,7 @@ use Rattle.rules.specs.State.{State, Command, Request, Place, nowhere, stored}
 use Rattle.rules.specs.Turn
 use Rattle.rules.specs.Turn.{Step, idle, noDummy, readForRequest, readForJob, rebuild, writeNext, decide, stepBounds, doStep, command}
 use Rattle.rules.specs.Blocks
-use Rattle.rules.specs.Run.{act, sentCommand}
+use Rattle.rules.specs.Run.{act, perform, sentCommand}
 use Rattle.rules.specs.Rebuild
 use Rattle.rules.specs.Rebuild.{gathered, newPlace, itemPlace}
 use Rattle.rules.specs.Laws.Range.{range-facts, InRange}
@@ -36,14 +36,15 @@ use Rattle.matching.specs.Order.{order-ok}
 use Rattle.reachable.specs.Live.{storedIn, isBelow}
 use Rattle.hiding.specs.Machines.Ideal.{slotted, seenIf, rebuildP}
 use Rattle.hiding.specs.Machines.Middle
-use Rattle.hiding.specs.Machines.Middle.{levelOnly, forget, chosenM, gatheredM, Items, nextStepM, nextM, itemsStep, itemsM, collectedM}
+use Rattle.hiding.specs.Machines.Middle.{levelOnly, forget, chosenM, gatheredM, Items, nextStepM, performM, nextM, itemsStep, itemsM, collectedM}
 use Rattle.hiding.specs.Orders.Trades.{HiddenOn, OpenP, rebuild-step, decideP-open, tradeStep, tradeIf}
 use Rattle.hiding.specs.Orders.Number.{slotless, step-hide, bounds-hide}
 use Rattle.hiding.specs.Orders.Rank.{rank-is, in-order}
 use Rattle.hiding.specs.Machines.Rules.{on, numberR, called, boundsR, nextR, seenR, Orders, itemsIn, slotsIn, itemsOf, ordersOf, view}
 use Rattle.hiding.specs.Orders.Items.{orders-read, items-read, orders-written, items-written, items-left}
-use Rattle.hiding.specs.Machines.Public.{Later, later-request, later-turn, later-completion, later-collect, hide, unreadIn, decideP}
+use Rattle.hiding.specs.Machines.Public.{Later, later-request, later-turn, later-completion, later-collect, ask, hide, unreadIn, decideP}
 use Rattle.hiding.specs.Unchanged.{Rest, complete-rest}
+use Rattle.hiding.specs.Machines.Release.{forget-release}
 use Rattle.hiding.specs.Machines.Needs.{Reachable}
 
 -- ---- what is forgotten plays no part
@@ -109,6 +110,9 @@ pub record Follows (s′ m : State) (it : Items) (o : Orders) : Type 0 where
 
 pub follows-view : (s′ m : State) (it : Items) (o : Orders) → Follows s′ m it o → view (on s′) ≡ (Middle.on m it, o)
 follows-view s′ m it o f = λ i. (Middle.on (f .state i) (f .items i), f .orders i)
+
+release-follows : (s′ m : State) (it : Items) (o : Orders) → Follows s′ m it o → Follows (release s′) (release m) it o
+release-follows s′ m it o f = record { state = forget-release s′ ∙ ap release (f .state); items = f .items; orders = f .orders }
 
 module _ (h : Shape) (reach : Reachable h) (s : State) (k : reach .Holds s) (hid : HiddenOn (forget s) (ordersOf s)) (d : List ℕ) where
   abbrev rangeOf : InRange s
@@ -222,12 +226,23 @@ module _ (h : Shape) (reach : Reachable h) (s : State) (k : reach .Holds s) (hid
   turn-follows : Drew (stepBounds (decide s)) d → TurnFollows (decideP (hide s)) (decideP-open (hide s))
   turn-follows b = subst (λ z. (p : OpenP (s .shape) (s .mark) z) → TurnFollows z p) (step-hide h reach s k) (λ p. step-follows (decide s) p refl b) (decideP-open (hide s))
 
-  pub call-follows : (n : ℕ) (l : Later) (m w j : ℕ) → numberR s l m w j ≡ n → Drew (boundsR n s l) d → CallFollows n l
-  unfolding act bounds sentCommand accept questions
-  call-follows (suc n) l m w j e b = (refl, record { state = refl; items = refl; orders = refl })
-  call-follows zero (later-request t a bs) m w j e b = (refl, record { state = refl; items = refl; orders = refl })
-  call-follows zero later-turn m w j e b =
+  -- ..before a request is released
+  abbrev pub PerformFollows : Later → Type 0
+  PerformFollows l =
+      let y = tradeIf 0 (forget s) (itemsOf s) l .f (ordersOf s, d) in
+      (seenR 0 s l ≡ seenIf 0 (hide s) l (y .0))
+      × Follows (perform s (ask l) d) (performM (forget s) l (y .0)) (itemsM 0 (forget s) (itemsOf s) l (y .0)) (y .1)
+
+  perform-follows : (l : Later) (m w j : ℕ) → numberR s l m w j ≡ 0 → Drew (boundsR 0 s l) d → PerformFollows l
+  unfolding perform bounds sentCommand accept questions
+  perform-follows (later-request t a bs) m w j e b = (refl, record { state = refl; items = refl; orders = refl })
+  perform-follows later-turn m w j e b =
       let r = turn-follows b in
       (λ i. (0, ap length (bounds-hide h reach s k later-turn) i, r .0 i), r .1)
-  call-follows zero (later-completion c bs) m w j e b = (refl, complete-follows c bs)
-  call-follows zero later-collect m w j e b = (refl, collect-follows (s .request) refl (accepted-passed s (called later-collect m w j) e .1 .1 .0))
+  perform-follows (later-completion c bs) m w j e b = (refl, complete-follows c bs)
+  perform-follows later-collect m w j e b = (refl, collect-follows (s .request) refl (accepted-passed s (called later-collect m w j) e .1 .1 .0))
+
+  pub call-follows : (n : ℕ) (l : Later) (m w j : ℕ) → numberR s l m w j ≡ n → Drew (boundsR n s l) d → CallFollows n l
+  unfolding act
+  call-follows (suc n) l m w j e b = (refl, record { state = refl; items = refl; orders = refl })
+  call-follows zero l m w j e b = let r = perform-follows l m w j e b in (r .0, release-follows _ _ _ _ (r .1))

@@ -3,7 +3,7 @@ use mathlib.Core.Path.{_≡_, refl, ap, sym, _∙_}
 use mathlib.Core.Bool.{Bool, true, false, not, _&&_, _||_, true≢false}
 use mathlib.Core.List.{List, [], _∷_}
 use mathlib.Core.Option.{Option, none, some, Option·getD}
-use Prim.Native.Nat.{ℕ, suc}
+use Prim.Native.Nat.{ℕ}
 use lib.ListN.{length, replicate, length-replicate}
 use lib.Dec.{eqb, leb, ltb}
 use borrow.Author.Tests.{leb-true, ltb-true, lt-ltb}
@@ -30,6 +30,7 @@ use Rattle.rules.specs.Laws.Drawn.{draws-enough}
 use Rattle.hiding.specs.Machines.Rules.{numberR}
 use Rattle.hiding.specs.Orders.Decides.{OpenStep, decide-open}
 use Rattle.hiding.specs.Machines.Needs.{Reachable}
+use Rattle.hiding.specs.Machines.Release.{held-public}
 use Rattle.hiding.specs.Machines.Public.{Later, later-request, later-turn, later-completion, later-collect, ask, formed, publicAsk, publicLater, publicRequest, blank, hide, requestStepP, plannedP, checked, isNil, decideP, boundsP, questionsP, numberP}
 
 -- words are enough if there is one for each draw
@@ -70,17 +71,13 @@ job-slotless s (q ∷ qs) = go (eqb (s .sent) 0) (Rebuild.unread s q) (any (λ c
     go false o a true = refl
     go false o a false = refl
 
-held-hide : (s : State) (r : Request) → s .request ≡ some r → held (hide s) (publicRequest (r .evict) (r .level)) ≡ held s r
-unfolding held
-held-hide s r e = rw e
-
-left-hide : (s : State) (r : Request) → s .request ≡ some r → levelsLeft (hide s) (publicRequest (r .evict) (r .level)) ≡ levelsLeft s r
+left-hide : (s : State) (r : Request) → s .request ≡ some r → levelsLeft (hide s) (publicRequest (r .evict) (r .level) (r .found)) ≡ levelsLeft s r
 unfolding levelsLeft
 left-hide s r e = rw e
 
-pub finished-hide : (s : State) (r : Request) → s .request ≡ some r → finished (hide s) (publicRequest (r .evict) (r .level)) ≡ finished s r
+pub finished-hide : (s : State) (r : Request) → s .request ≡ some r → finished (hide s) (publicRequest (r .evict) (r .level) (r .found)) ≡ finished s r
 unfolding finished
-finished-hide s r e = rw (held-hide s r e, left-hide s r e) (rw e)
+finished-hide s r e = rw (held-public r, left-hide s r e) (rw e)
 
 module _ (s : State) where
   -- the step of a state that lacks no dummy
@@ -89,7 +86,7 @@ module _ (s : State) where
   unfolding requestStep requestStepP firstRead readStep possible slotIn orElse
   decide-some none e p = job-slotless s (s .queue) ∙ sym (jobStep-hide s (s .queue))
   decide-some (some r) e p =
-      rw (held-hide s r e, left-hide s r e) (go (held s r) (levelsLeft s r) p)
+      rw (held-public r, left-hide s r e) (go (held r) (levelsLeft s r) p)
     where
       q : ℕ
       q = s .partition (r .block)

@@ -13,8 +13,9 @@ use Rattle.lists.specs.Search.{isNone}
 use Rattle.lists.specs.Tests.{if_then_else_}
 use Rattle.lists.specs.Tables.{put}
 use Rattle.rules.specs.Blocks
-use Rattle.rules.specs.Request.{passLevel, accept}
+use Rattle.rules.specs.Request.{passLevel, accept, release}
 use Rattle.rules.specs.Draws.{Drew}
+use Rattle.rules.specs.Laws.Released.{released-same}
 use Rattle.rules.specs.Shape.{Shape}
 use Rattle.rules.specs.Open.{fresh}
 use Rattle.rules.specs.State.{State, Command, Request}
@@ -31,8 +32,9 @@ use Rattle.matching.specs.TwoLists.{Stage}
 use Rattle.hiding.specs.Orders.Number.{formed-facts}
 use Rattle.hiding.specs.Machines.Middle.{Mid, unopened, shut, on, nextStepM, collectedM, nextM, boundsOpen, openM, mid, mid-legal, mid-next, mid-seen}
 use Rattle.hiding.specs.Positions.Trades.{PlacedIn, askP, tradeP, next-shape, fresh-placed}
+use Rattle.hiding.specs.Machines.Release.{hide-release}
 use Rattle.hiding.specs.Machines.Ideal
-use Rattle.hiding.specs.Machines.Ideal.{seenIf, Seen, legalIf, rebuildP, nextStepI, collectedI, nextI, Ideal, openI, ideal, ideal-legal, ideal-next, ideal-seen}
+use Rattle.hiding.specs.Machines.Ideal.{seenIf, Seen, legalIf, rebuildP, nextStepI, collectedI, performI, nextI, Ideal, openI, ideal, ideal-legal, ideal-next, ideal-seen}
 use Rattle.hiding.specs.Machines.Public.{Later, later-request, later-turn, later-completion, later-collect, Entry, first, later, formed, publicAsk, publicLater, publicEntry, present, blank, hide, decideP, questionsP, numberP, numberOpen}
 
 -- ---- the public part of the next state is the ideal machine's next state
@@ -104,7 +106,7 @@ module _ (s : State) where
   -- a request
   ask-leads : (h : Shape) (k b : ℕ) (bs e : List ℕ) → s .request ≡ none → Drew (s .shape .P ∷ s .shape .P ∷ []) e →
       let y = show b (positions s, e) in
-      (nextI zero (hide s) (publicLater h (later-request k b bs)) (y .0) ≡ hide (accept k b bs e s)) × (y .1 ≡ positions (accept k b bs e s))
+      (performI (hide s) (publicLater h (later-request k b bs)) (y .0) ≡ hide (accept k b bs e s)) × (y .1 ≡ positions (accept k b bs e s))
   unfolding accept
   ask-leads h k b bs [] n p = absurd p
   ask-leads h k b bs (d ∷ []) n p = absurd (p .1)
@@ -112,10 +114,14 @@ module _ (s : State) where
       let e : positions s ≡ s .partition = ap (positionsOf (s .partition)) n in
       (go (formed h k b (length bs)) (positions s b) (ap (λ (f : ℕ → ℕ). f b) e), ap (put b d) e)
     where
-      go : (t : Bool) (v : ℕ) → v ≡ s .partition b → nextI zero (hide s) (publicAsk t k b (length bs)) (v ∷ c ∷ []) ≡ hide (accept k b bs (d ∷ c ∷ []) s)
+      go : (t : Bool) (v : ℕ) → v ≡ s .partition b → performI (hide s) (publicAsk t k b (length bs)) (v ∷ c ∷ []) ≡ hide (accept k b bs (d ∷ c ∷ []) s)
       go true v e = rw e
       go false v e = rw e
   ask-leads h k b bs (d ∷ c ∷ a ∷ e) n p = absurd (p .1 .1)
+
+-- a request is released alike
+released : (i′ s′ : State) (pos : Positions) → (i′ ≡ hide s′) × (pos ≡ positions s′) → (release i′ ≡ hide (release s′)) × (pos ≡ positions (release s′))
+released i′ s′ pos k = (ap release (k .0) ∙ sym (hide-release s′), k .1 ∙ sym (released-same (positionsOf (s′ .partition)) (λ r x. refl) s′ (s′ .request)))
 
 -- ---- the stage
 
@@ -212,7 +218,7 @@ module _ (h : Shape) where
 
     ask-shows : (k b : ℕ) (bs : List ℕ) (t : Bool) (q : ltb b (s .shape .N) ≡ t) → t ≡ true → s .request ≡ none → legalIf zero (hide s) (later-request k b bs) e →
         Shows (later-request k b bs) zero (askP h (hide s) k b bs t q .f (positions s, e))
-    ask-shows k b bs true q i n p = (seen-public (show b (positions s, e) .0), ask-leads s h k b bs e n p)
+    ask-shows k b bs true q i n p = (seen-public (show b (positions s, e) .0), released _ (accept k b bs e s) _ (ask-leads s h k b bs e n p))
       where
         seen-public : (e′ : List ℕ) → seenIf zero (hide s) (later-request k b bs) e ≡ seenIf zero (hide s) (publicLater h (later-request k b bs)) e′
         seen-public e′ = go (formed h k b (length bs))
@@ -227,9 +233,9 @@ module _ (h : Shape) where
     call-shows (later-request k b bs) m w n zero q p =
         let r = asked s k b bs m w n (subst (λ h′. numberP (hide s) (publicLater h′ (later-request k b bs)) m w n ≡ 0) (sym same) q) in
         ask-shows k b bs (ltb b (s .shape .N)) refl (lt-ltb b (s .shape .N) (r .1)) (r .0) p
-    call-shows later-turn m w n zero q p = (refl, step-leads s (decideP (hide s)) e)
-    call-shows (later-completion c bs) m w n zero q p = (refl, complete-leads s c bs (replicate (length bs) 0))
-    call-shows later-collect m w n zero q p = (refl, collect-leads s (s .request) refl)
+    call-shows later-turn m w n zero q p = (refl, released _ (nextStepM s (decideP (hide s)) e) _ (step-leads s (decideP (hide s)) e))
+    call-shows (later-completion c bs) m w n zero q p = (refl, released _ (complete c bs s) _ (complete-leads s c bs (replicate (length bs) 0)))
+    call-shows later-collect m w n zero q p = (refl, released _ (collectedM (s .request) s) _ (collect-leads s (s .request) refl))
 
   start-shows : (e : List ℕ) (j : ℕ) → Drew (boundsOpen h j) e → (openI h j, start₂ j .f (λ b. 0, e) .1) ≡ publicView (openM h j e)
   unfolding fresh

@@ -5,10 +5,11 @@ use Prim.Native.Nat.{ℕ, _≤_}
 use native.Mathlib.Omega.{arith}
 use lib.ListN.{length, replicate, length-replicate}
 use Rattle.rules.specs.Shape.{within}
-use Rattle.rules.specs.State.{closed}
+use Rattle.rules.specs.State.{closed, foundNumber}
 use Rattle.rules.specs.Memory.{needed}
+use Rattle.rules.specs.Open.{fresh}
 use Rattle.rules.specs.Questions.{opening, number, bounds}
-use Rattle.rules.specs.Run.{refuse, act, sentCommand, handed}
+use Rattle.rules.specs.Run.{refuse, act, perform, sentCommand, handed, handedFound}
 use Rattle.memory.specs.Fits.{shapeOf}
 use Rattle.client.specs.View.{stateOf, view}
 use Rattle.rules.specs.Laws.Drawn.{taken-all}
@@ -83,7 +84,7 @@ same-length : tie.Need-same-length
 same-length c = omega arith
 
 returns-2 : tie.Need-returns-2
-unfolding bounds act sentCommand handed stateOf view
+unfolding bounds act perform fresh sentCommand handed handedFound foundNumber stateOf view
 returns-2 c =
     let d = c .before .before .before .before in
     let n = d .before .before .before .before .before .before .before in
@@ -101,6 +102,7 @@ returns-2 c =
       number = refl;
       taken = sym (taken-all (replicate (a .h .n) (a .h .p)) (wordsOf (a .tape .now)) words ∙ length-replicate (a .h .n) (a .h .p));
       command = refl;
+      found = refl;
       state = s;
       idle = λ z. refl;
       buffer = refl;

@@ -7,6 +7,7 @@ use mathlib.Core.Option.{none, some}
 use Prim.Native.Nat.{ℕ, _≤_, _-_}
 use native.Mathlib.Omega.{arith}
 use Rattle.lists.specs.All.{all-map}
+use Rattle.lists.specs.Search
 use Rattle.rules.specs.Laws.Range.{InRange}
 use Rattle.rules.specs.Request
 use Rattle.rules.specs.State.{State, Request}
@@ -16,7 +17,7 @@ use Rattle.reachable.specs.Live.{counted, drawn, pending}
 use Rattle.reachable.specs.Pending.{passed-none, pending-more}
 
 pub accept-kept : (s : State) → Reached s → s .request ≡ none → (k b : ℕ) (bs js : List ℕ) → InRange (Request.accept k b bs js s) → Reached (Request.accept k b bs js s)
-unfolding Request.accept counted drawn storedAt Live.storedIn
+unfolding Request.accept Request.held Search.isNone counted drawn storedAt Live.storedIn
 accept-kept s f e k b bs js range = record {
   range = range;
   waiting = f .waiting;
@@ -29,6 +30,7 @@ accept-kept s f e k b bs js range = record {
   begun = f .begun;
   reads = λ p m hp hm l. ⊎-elim inl (λ n. inr (omega (arith, more p m))) (f .reads p m hp hm l);
   unheld = λ r w. inl (sym (ap (λ (x : Request). x .level) (first w)));
+  released = λ r w k. absurd (true≢false (ap Request.held (first w) ∙ k));
   unread = λ x m j hx y. ⊎-elim inl (λ n. ⊎-elim (λ o. absurd (no-request (o .0) (o .1 .0))) (λ n. inr (inr n)) n) (f .unread x m j hx y);
   fetched = λ r m j w p l. absurd (omega (arith, l, ap (λ (x : Request). x .level) (first w)));
   scanned = f .scanned;

@@ -250,6 +250,7 @@ module _ (s : State) (f : Reached s) (r : Request) (inHand : s .request ≡ some
     begun = λ n. let x = f .begun n in (x .0, x .1 ++ more, (ap (λ l. l ++ more) (x .2 .0), x .2 .1));
     reads = reads-kept;
     unheld = λ x e. let z : _≡_ {A = ℕ} 0 1 = cc in absurd (omega arith);
+    released = λ x e. let z : _≡_ {A = ℕ} 0 1 = cc in absurd (omega arith);
     unread = unread-kept;
     fetched = λ x m j e. let z : _≡_ {A = ℕ} 0 1 = cc in absurd (omega arith);
     scanned = still-scanned (s .queue) refl;

@@ -11,9 +11,7 @@ use lib.Dec.{eqb}
 use lib.Pow.{pow-pos}
 use borrow.Author.Tests.{eqb-true, eq-eqb, not-true}
 use Rattle.lists.specs.All.{All, all-map, all-without, all-both, any-none}
-use Rattle.lists.specs.Members
-use Rattle.lists.specs.Members.{not-member}
-use Rattle.lists.specs.Search.{without, any, member}
+use Rattle.lists.specs.Search.{without, any}
 use Rattle.lists.specs.Tables.{put, put-same, put-other}
 use Rattle.lists.specs.Tests.{if_then_else_, and-l, and-r}
 use Rattle.rules.specs.Completion
@@ -24,7 +22,7 @@ use Rattle.rules.specs.Setters.{setBytes, setOutstanding}
 use Rattle.rules.specs.Shape.{slots}
 use Rattle.rules.specs.State.{State, Command, write, Request}
 use Rattle.reachable.specs.Consequences.{reading-away}
-use Rattle.reachable.specs.Invariant.{Reached, Reading, Writing, storedAt, Reads, Unheld, Commands}
+use Rattle.reachable.specs.Invariant.{Reached, Reading, Writing, storedAt, Reads, Commands}
 use Rattle.reachable.specs.Live
 use Rattle.reachable.specs.Live.{counted, drawn, pending, counted-calm, counted-drawn, front-is, counted-other, isFront, front-eq}
 use Rattle.reachable.specs.Outstanding.{apart-without}
@@ -46,6 +44,7 @@ outside-kept s f y os apart commands range = record {
   begun = f .begun;
   reads = f .reads;
   unheld = f .unheld;
+  released = f .released;
   unread = f .unread;
   fetched = f .fetched;
   scanned = f .scanned;
@@ -94,14 +93,6 @@ module _ (s : State) (f : Reached s) (q : ℕ) (rest : List ℕ) (front : s .que
       more : pending s p m ≤ pending e′ p m
       more = pending-more s e′ p m (λ k. inl (rw (← undrawn-rest q rest (s .sent) busy, ← front) k)) inr
 
-  unheld-kept : Unheld e′
-  unfolding Completion.endJob Request.held
-  unheld-kept x e = ⊎-elim inl (λ k. inr (go (member (s .partition (x .block)) rest) refl k)) (f .unheld x e)
-    where
-      go : (b : Bool) → member (s .partition (x .block)) rest ≡ b → member (s .partition (x .block)) (s .queue) ≡ false → member (s .partition (x .block)) rest ≡ false
-      go false w k = w
-      go true w k = absurd (not-member (s .partition (x .block)) (s .queue) k (rw front (inr (Members.member-mem (s .partition (x .block)) rest w))))
-
   -- an outstanding read is the request's, of another partition
   reading-still : (c : Command) → Reading s c → Reading e′ c
   unfolding Completion.endJob
@@ -132,7 +123,8 @@ module _ (s : State) (f : Reached s) (q : ℕ) (rest : List ℕ) (front : s .que
     taken = f .taken;
     begun = λ n. absurd (n refl);
     reads = reads-kept;
-    unheld = unheld-kept;
+    unheld = f .unheld;
+    released = λ x e k m. f .released x e k (rw front (inr m));
     unread = λ b m j hx e. ⊎-elim inl (λ k. ⊎-elim (λ o. inr (inl o)) (λ n. absurd (busy (n .1))) k) (f .unread b m j hx e);
     fetched = f .fetched;
     scanned = λ p m j a z l hj c. absurd (omega arith);

@@ -117,6 +117,7 @@ module _ (s : State) (f : Reached s) (q ℓ i : ℕ) (d : JobReads s q ℓ i) (h
     begun = f .begun;
     reads = reads-kept;
     unheld = f .unheld;
+    released = f .released;
     unread = unread-kept;
     fetched = λ r m j e p l. still-read (cell (s .shape) q ℓ i) (cell (s .shape) (s .partition (r .block)) m j) (s .mark) (f .fetched r m j e p l);
     scanned = scanned-kept;

@@ -49,6 +49,7 @@ module _ (h : Shape) (js : List ℕ) where
     begun = λ n. absurd (n refl);
     reads = λ q ℓ hq hℓ e. absurd (no-level q ℓ e);
     unheld = λ r e. let z : _≡_ {A = ℕ} 0 1 = cc in absurd (omega arith);
+    released = λ r e. let z : _≡_ {A = ℕ} 0 1 = cc in absurd (omega arith);
     unread = λ b m j hb e. absurd (not-nowhere m j e);
     fetched = λ r m j e. let z : _≡_ {A = ℕ} 0 1 = cc in absurd (omega arith);
     scanned = λ q ℓ i a z l hi c. absurd (omega arith);

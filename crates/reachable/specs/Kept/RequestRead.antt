@@ -36,7 +36,7 @@ module _ (s : State) (f : Reached s) (q ℓ i : ℕ) (d : RequestReads s q ℓ i
   r = d .asked
 
   abbrev r′ : Request
-  r′ = record { kind = r .kind; block = r .block; bytes = r .bytes; next = r .next; evict = r .evict; level = suc ℓ }
+  r′ = record { kind = r .kind; block = r .block; bytes = r .bytes; next = r .next; evict = r .evict; level = suc ℓ; found = r .found }
 
   abbrev s′ : State
   s′ = doStep (readForRequest q ℓ i) js s
@@ -180,6 +180,7 @@ module _ (s : State) (f : Reached s) (q ℓ i : ℕ) (d : RequestReads s q ℓ i
     begun = f .begun;
     reads = reads-kept;
     unheld = unheld-kept;
+    released = λ x e k m. away (let w : x ≡ r′ = cc (passed, e) in let z : s .partition (x .block) ≡ q = ap (λ (y : Request). s .partition (y .block)) w ∙ d .part in rw (← z) m);
     unread = unread-kept;
     fetched = fetched-kept;
     scanned = λ p m j a z l hj c. still-read (cell h q ℓ i) (cell h p m j) (s .mark) (f .scanned p m j a z l hj c);

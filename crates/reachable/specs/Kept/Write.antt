@@ -63,6 +63,7 @@ module _ (s : State) (f : Reached s) (q t i : ℕ) (d : Writes s q t i) (js : Li
     begun = λ n. (q, d .rest, (d .front, rw (← d .goal) (d .slot)));
     reads = reads-kept;
     unheld = f .unheld;
+    released = f .released;
     unread = λ b m j hx e. ⊎-elim inl (λ k. ⊎-elim (λ o. inr (inl o)) (λ n. absurd (d .busy (n .1))) k) (f .unread b m j hx e);
     fetched = f .fetched;
     scanned = λ p m j a z. absurd (omega arith);

@@ -3,7 +3,8 @@ use mathlib.Core.List.{[], _∷_}
 use native.Mathlib.Omega.{arith}
 use lib.ListN.{length}
 use Rattle.rules.specs.Questions.{request, number, bounds}
-use Rattle.rules.specs.Run.{refuse, act, sentCommand, handed}
+use Rattle.rules.specs.Run.{refuse, act, perform, sentCommand, handed, handedFound}
+use Rattle.rules.specs.State.{foundNumber}
 use Rattle.client.specs.View.{stateOf, view}
 use Rattle.rules.specs.Laws.Drawn.{taken-all}
 use Rattle.tape.specs.Tape.{wordsOf}
@@ -33,7 +34,7 @@ asked c =
     ∙ sym (request-number (a .c) (a .m .now) (a .kind) (a .block) (a .contents .now) (a .tape .now))
 
 yes : (c : tie.After-number) → c .number .result ≡ 0 → let a = c .before .before .before .before .before .before .args in
-    Asked (a .c) (a .m .now) (a .kind) (a .contents .now) (a .tape .now)
+    Asked (a .c) (a .m .now) (a .kind) (a .block) (a .contents .now) (a .tape .now)
 yes c e = let a = c .before .before .before .before .before .before .args in request-passed (a .c) (a .m .now) (a .kind) (a .block) (a .contents .now) (a .tape .now) (sym (asked c) ∙ e)
 
 returns : tie.Need-returns
@@ -45,7 +46,7 @@ returns c =
     (meets-no (a .c) (stateOf (a .c) (a .m .now)) (request (a .kind) (a .block) (a .contents .now)) (a .m .now) (a .tape .now) [] (n .number .result) (asked n) (c .before .if1 .taken) refl)
 
 take-requires : tie.Need-take-requires
-take-requires c κs = let y = yes (c .before .before) (omega arith) in (y .usable .room, y .some, y .size, y .words)
+take-requires c κs = let y = yes (c .before .before) (omega arith) in (y .usable .room, y .usable .jobs, omega (arith, y .usable .counts .waiting, y .usable .places), y .block, y .some, y .size, y .words)
 
 accepted-requires : tie.Need-accepted-requires
 accepted-requires c κs = omega arith
@@ -54,7 +55,7 @@ same-length-2 : tie.Need-same-length-2
 same-length-2 c = omega arith
 
 returns-2 : tie.Need-returns-2
-unfolding bounds act sentCommand handed stateOf view
+unfolding bounds act perform sentCommand handed handedFound foundNumber stateOf view
 returns-2 c =
     let d = c .before .before .before in
     let n = d .before .before .before in
@@ -66,6 +67,7 @@ returns-2 c =
       number = refl;
       taken = sym (taken-all (a .c .shape .p ∷ a .c .shape .p ∷ []) (wordsOf (a .tape .now)) (y .words));
       command = refl;
+      found = refl;
       state = d .take .ensures .state;
       idle = λ z. absurd (in-hand (a .c) _ (a .m .now) _ (a .kind) (a .block) (a .contents .now) (a .tape .now) (d .take .ensures .state) z);
       buffer = refl;

@@ -45,6 +45,10 @@ asked = step store (call (request read 0 []) 1000000 (0 ∷ 0 ∷ []) 0) .0
 queued : State
 queued = store ▷ setQueue (0 ∷ [])
 
+-- a read of block 0 that the job holds
+kept : State
+kept = step queued (call (request read 0 []) 1000000 (0 ∷ 0 ∷ []) 0) .0
+
 writing : State
 writing = queued ▷ setSent 1 ▷ setOutstanding (cmd write 0 0 0 ∷ [])
 
@@ -85,7 +89,7 @@ numbers =
     ∷ reads (waits ▷ setQueue (replicate 63 0)) 1000000 0 0 ∷ reads waits 1000000 0 0 ∷ reads store 1000000 0 0  -- 7 before 8; 8 before 3; 3
     ∷ completes store 0 ∷ completes store 1000000 ∷ completes (store ▷ setOutstanding (cmd read 0 0 0 ∷ [])) 1000000  -- 2 before 11; 11 before 12; 12
     ∷ collects store 0 ∷ collects store 1000000  -- 2 before 13; 13 before 14 and 15
-    ∷ collects (asked ▷ setQueue (0 ∷ [])) 1000000 ∷ collects asked 1000000 ∷ []  -- 14 before 15; 15
+    ∷ collects kept 1000000 ∷ collects asked 1000000 ∷ []  -- 14 before 15; 15
 
 pub turning : List ℕ
 turning =
@@ -97,7 +101,7 @@ unfolding model opens bounds shapes
 bounds-hold = refl
 
 pub first-no : numbers ≡ 1 ∷ 2 ∷ 2 ∷ 4 ∷ 5 ∷ 6 ∷ 7 ∷ 8 ∷ 3 ∷ 2 ∷ 11 ∷ 12 ∷ 2 ∷ 13 ∷ 14 ∷ 15 ∷ []
-unfolding model opens store asked waits reads collects completes numbers
+unfolding model opens store asked queued kept waits reads collects completes numbers
 first-no = refl
 
 pub first-no-turn : turning ≡ 2 ∷ 9 ∷ 9 ∷ 10 ∷ 15 ∷ 3 ∷ 2 ∷ []

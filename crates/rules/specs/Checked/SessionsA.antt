@@ -1,10 +1,10 @@
 -- Random sessions, with the outcomes of an independent implementation. Written by plain/src/bin/sessions.rs.
 use mathlib.Core.Path.{_≡_, refl}
 use mathlib.Core.List.{List, [], _∷_}
-use Rattle.rules.specs.State.{cmd, closed}
+use Rattle.rules.specs.State.{cmd, closed, foundLevel}
 use Rattle.rules.specs.Questions.{opening, request, turn, completion, collect, Call}
 use Rattle.rules.specs.Run.{Outcome, run}
-use Rattle.rules.specs.Unfold.{model, shape, call, out}
+use Rattle.rules.specs.Unfold.{model, shape, call, out, outFound}
 
 session0-calls : List Call
 session0-calls =
@@ -84,7 +84,7 @@ session0-outcomes =
     ∷ out 0 0 (cmd 0 0 0 0) []
     ∷ out 0 0 (cmd 1 0 0 0) []
     ∷ out 0 0 (cmd 0 0 0 0) []
-    ∷ out 0 0 (cmd 0 0 0 0) (246 ∷ [])
+    ∷ outFound 0 0 (cmd 0 0 0 0) (246 ∷ []) (foundLevel 0)
     ∷ out 0 0 (cmd 1 0 0 1) []
     ∷ out 13 0 (cmd 0 0 0 0) []
     ∷ out 0 2 (cmd 0 0 0 0) []
@@ -194,7 +194,7 @@ session1-outcomes =
     ∷ out 0 0 (cmd 0 0 0 0) []
     ∷ out 0 0 (cmd 1 0 0 0) []
     ∷ out 0 0 (cmd 0 0 0 0) []
-    ∷ out 0 0 (cmd 0 0 0 0) (37 ∷ 3 ∷ [])
+    ∷ outFound 0 0 (cmd 0 0 0 0) (37 ∷ 3 ∷ []) (foundLevel 0)
     ∷ out 0 0 (cmd 1 0 0 1) []
     ∷ out 10 0 (cmd 0 0 0 0) []
     ∷ out 8 0 (cmd 0 0 0 0) []
@@ -241,7 +241,7 @@ session1-outcomes =
     ∷ out 0 0 (cmd 0 0 0 0) []
     ∷ out 0 0 (cmd 1 0 1 0) []
     ∷ out 0 0 (cmd 0 0 0 0) []
-    ∷ out 0 0 (cmd 0 0 0 0) (102 ∷ [])
+    ∷ outFound 0 0 (cmd 0 0 0 0) (102 ∷ []) (foundLevel 1)
     ∷ out 0 1 (cmd 2 0 0 0) (0 ∷ [])
     ∷ out 0 2 (cmd 0 0 0 0) []
     ∷ [])
@@ -370,7 +370,7 @@ session2-outcomes =
     ∷ out 11 0 (cmd 0 0 0 0) []
     ∷ out 0 0 (cmd 1 0 1 3) []
     ∷ out 0 0 (cmd 0 0 0 0) []
-    ∷ out 0 0 (cmd 0 0 0 0) (13 ∷ [])
+    ∷ outFound 0 0 (cmd 0 0 0 0) (13 ∷ []) (foundLevel 1)
     ∷ out 0 1 (cmd 2 0 0 0) (22 ∷ [])
     ∷ out 0 0 (cmd 2 0 0 1) (0 ∷ [])
     ∷ out 13 0 (cmd 0 0 0 0) []

@@ -1,10 +1,10 @@
 -- Random sessions, with the outcomes of an independent implementation. Written by plain/src/bin/sessions.rs.
 use mathlib.Core.Path.{_≡_, refl}
 use mathlib.Core.List.{List, [], _∷_}
-use Rattle.rules.specs.State.{cmd, closed}
+use Rattle.rules.specs.State.{cmd, closed, foundLevel}
 use Rattle.rules.specs.Questions.{opening, request, turn, completion, collect, Call}
 use Rattle.rules.specs.Run.{Outcome, run}
-use Rattle.rules.specs.Unfold.{model, shape, call, out}
+use Rattle.rules.specs.Unfold.{model, shape, call, out, outFound}
 
 session3-calls : List Call
 session3-calls =
@@ -143,7 +143,7 @@ session3-outcomes =
     ∷ out 0 3 (cmd 2 1 1 0) (0 ∷ [])
     ∷ out 0 0 (cmd 0 0 0 0) []
     ∷ out 0 0 (cmd 0 0 0 0) []
-    ∷ out 0 0 (cmd 0 0 0 0) (171 ∷ [])
+    ∷ outFound 0 0 (cmd 0 0 0 0) (171 ∷ []) (foundLevel 0)
     ∷ out 0 0 (cmd 2 1 1 1) (0 ∷ [])
     ∷ out 11 0 (cmd 0 0 0 0) []
     ∷ out 0 0 (cmd 2 1 1 2) (55 ∷ [])
@@ -332,7 +332,7 @@ session4-outcomes =
     ∷ out 0 0 (cmd 0 0 0 0) []
     ∷ out 0 0 (cmd 0 0 0 0) []
     ∷ out 0 0 (cmd 2 0 0 1) (0 ∷ 0 ∷ [])
-    ∷ out 0 0 (cmd 0 0 0 0) (124 ∷ 132 ∷ [])
+    ∷ outFound 0 0 (cmd 0 0 0 0) (124 ∷ 132 ∷ []) (foundLevel 1)
     ∷ out 0 2 (cmd 0 0 0 0) []
     ∷ out 0 0 (cmd 0 0 0 0) []
     ∷ out 0 0 (cmd 1 1 0 0) []

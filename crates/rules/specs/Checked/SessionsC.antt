@@ -1,10 +1,10 @@
 -- Random sessions, with the outcomes of an independent implementation. Written by plain/src/bin/sessions.rs.
 use mathlib.Core.Path.{_≡_, refl}
 use mathlib.Core.List.{List, [], _∷_}
-use Rattle.rules.specs.State.{cmd, closed}
+use Rattle.rules.specs.State.{cmd, closed, foundCache, foundLevel}
 use Rattle.rules.specs.Questions.{opening, request, turn, completion, collect, Call}
 use Rattle.rules.specs.Run.{Outcome, run}
-use Rattle.rules.specs.Unfold.{model, shape, call, out}
+use Rattle.rules.specs.Unfold.{model, shape, call, out, outFound}
 
 session5-calls : List Call
 session5-calls =
@@ -308,7 +308,7 @@ session6-outcomes =
     ∷ out 10 0 (cmd 0 0 0 0) []
     ∷ out 0 0 (cmd 0 0 0 0) []
     ∷ out 10 0 (cmd 0 0 0 0) []
-    ∷ out 0 0 (cmd 0 0 0 0) (121 ∷ [])
+    ∷ outFound 0 0 (cmd 0 0 0 0) (121 ∷ []) (foundLevel 0)
     ∷ out 0 2 (cmd 0 0 0 0) []
     ∷ out 0 0 (cmd 1 2 0 1) []
     ∷ out 0 0 (cmd 1 2 1 1) []
@@ -324,7 +324,7 @@ session6-outcomes =
     ∷ out 0 0 (cmd 0 0 0 0) []
     ∷ out 0 0 (cmd 0 0 0 0) []
     ∷ out 0 3 (cmd 2 2 1 0) (0 ∷ [])
-    ∷ out 0 0 (cmd 0 0 0 0) (65 ∷ [])
+    ∷ outFound 0 0 (cmd 0 0 0 0) (65 ∷ []) foundCache
     ∷ out 0 0 (cmd 2 2 1 1) (10 ∷ [])
     ∷ out 0 2 (cmd 0 0 0 0) []
     ∷ out 0 0 (cmd 2 2 1 2) (0 ∷ [])

@@ -80,7 +80,7 @@ module _ (s : State) (f : InRange s) where
   pub requestStep-in : (r : Option Request) → IfSome (RequestIn (s .shape)) r → IfSome (StepIn (s .shape)) (Turn.requestStep s r)
   unfolding Turn.requestStep
   requestStep-in none h = tt
-  requestStep-in (some r) h = go (Request.held s r)
+  requestStep-in (some r) h = go (Request.held r)
     where
       q : ℕ
       q = s .partition (r .block)

@@ -1,8 +1,8 @@
 -- Every accepted call leaves each number of the state in its range.
 use mathlib.Core.Path.{_≡_, refl, sym}
-use mathlib.Core.Bool.{Bool, true, false, not, true≢false}
+use mathlib.Core.Bool.{Bool, true, false, not, _&&_, true≢false}
 use mathlib.Core.List.{List, [], _∷_, _++_, map}
-use mathlib.Core.Option.{Option, none, some}
+use mathlib.Core.Option.{Option, none, some, Option·map}
 use Prim.Native.Nat.{ℕ, suc, _+_, _-_, _^_, _≤_, _<_}
 use native.Mathlib.Nat.{mod-lt}
 use native.Mathlib.Omega.{arith}
@@ -20,7 +20,7 @@ use Rattle.lists.specs.Tables.{put, putAll-has, put-has}
 use Rattle.rules.specs.Memory
 use Rattle.rules.specs.Blocks
 use Rattle.rules.specs.Levels.{grown}
-use Rattle.rules.specs.Laws.Range.{PlaceIn, CommandIn, RequestIn, JobsIn, InRange, range-facts}
+use Rattle.rules.specs.Laws.Range.{PlaceIn, FoundIn, CommandIn, RequestIn, JobsIn, InRange, range-facts}
 use Rattle.rules.specs.Request
 use Rattle.rules.specs.Laws.Orders.{drew-each, order-below, length-order}
 use Rattle.rules.specs.Laws.Levels.{grown-lt, partitions-pos, levels-pos, slots-le}
@@ -65,7 +65,7 @@ mark-in s f q ℓ i = inMark s f (put (cell (s .shape) q ℓ i) 0 (s .mark)) (λ
 pub pass-in : (h : Shape) (ℓ : ℕ) (r : Option Request) → ℓ < h .L → IfSome (RequestIn h) r → IfSome (RequestIn h) (Request.passLevel ℓ r)
 unfolding Request.passLevel
 pass-in h ℓ none k f = tt
-pass-in h ℓ (some r) k f = record { kind = f .kind; block = f .block; bytes = f .bytes; next = f .next; evict = f .evict; level = k }
+pass-in h ℓ (some r) k f = record { kind = f .kind; block = f .block; bytes = f .bytes; next = f .next; evict = f .evict; level = k; found = f .found }
 
 pub pass-jobs : (qs : List ℕ) (ℓ : ℕ) (r : Option Request) → JobsIn qs r → JobsIn qs (Request.passLevel ℓ r)
 unfolding Request.passLevel
@@ -195,6 +195,44 @@ module _ (s : State) (f : InRange s) where
     cache = rw length-append (omega (arith, c .1));
   }
 
+-- A request released is for the same block
+module _ (s : State) where
+  pub released-jobs : (qs : List ℕ) (o : Option Request) → JobsIn qs o → JobsIn qs (Option·map (Request.releasedIn s) o)
+  released-jobs qs none h = h
+  released-jobs qs (some r) h = h
+
+  pub released-waits : (e : ℕ) (xs : List ℕ) (o : Option Request) → Waits e xs o → Waits e xs (Option·map (Request.releasedIn s) o)
+  unfolding Request.releasedIn
+  released-waits e xs none h = h
+  released-waits e xs (some r) h = go (Request.held r && not (Request.blocked s r))
+    where
+      go : (t : Bool) → Waits e xs (some (if t then Request.withFound (Blocks.lookUp s (r .block)) r else r))
+      go true = h
+      go false = h
+
+-- A request released: where its block was found is in range, and nothing else is another
+module _ (s : State) (f : InRange s) where
+  found-in : (b : ℕ) → b < s .shape .N → FoundIn (s .shape .L) (some (Blocks.lookUp s b))
+  unfolding Blocks.lookUp Blocks.foundAt
+  found-in b hb = go (s .place b) (f .places b hb) (Search.member b (s .waiting))
+    where
+      go : (x : Place) → PlaceIn (s .shape .L) x → (t : Bool) → FoundIn (s .shape .L) (some (Blocks.foundAt x t))
+      go nowhere h true = tt
+      go nowhere h false = tt
+      go (stored ℓ i) h t = h .0
+
+  released-in : (o : Option Request) → IfSome (RequestIn (s .shape)) o → IfSome (RequestIn (s .shape)) (Option·map (Request.releasedIn s) o)
+  unfolding Request.releasedIn
+  released-in none k = tt
+  released-in (some r) k = go (Request.held r && not (Request.blocked s r))
+    where
+      go : (t : Bool) → RequestIn (s .shape) (if t then Request.withFound (Blocks.lookUp s (r .block)) r else r)
+      go true = record { kind = k .kind; block = k .block; bytes = k .bytes; next = k .next; evict = k .evict; level = k .level; found = found-in (r .block) (k .block) }
+      go false = k
+
+  pub release-in : InRange (Request.release s)
+  release-in = inRequest s f _ (released-in (s .request) (f .request)) (released-jobs s (s .queue) (s .request) (f .jobs)) (released-waits s (s .shape .E) (s .waiting) (s .request) (f .cache))
+
 -- A fresh state
 pub fresh-in : (h : Shape) (js : List ℕ) → within h ≡ true → Drew (replicate (h .N) (h .P)) js → InRange (Open.fresh h js)
 unfolding Open.fresh
@@ -226,17 +264,21 @@ module _ (s : State) (f : InRange s) where
       go true = gatherBytes-in (Completion.completed c s) (completed-in s f c) (Blocks.holder s (c .partition) (c .level) (c .slot)) bs
       go false = finishJob-in (Completion.completed c s) (completed-in s f c) (s .queue) (f .queue) (f .jobs)
 
-  -- Every accepted call leaves a state in range
-  pub act-in : (a : Ask) (m : ℕ) (ws : List ℕ) (k : ℕ) (js : List ℕ) → Passed (questions s a m ws k) → Drew (bounds s a) js → InRange (act s a js)
-  unfolding act questions bounds Request.accept
-  act-in (opening h) m ws k js p d = fresh-in h js (p .0) d
-  act-in (request j b bs) m ws k (x ∷ y ∷ []) p (a, (c, _)) = inRequest s f _
-      (record { kind = and-r (Questions.ready s m) (isKind j) (p .0); block = ltb-true b (s .shape .N) (p .1 .1 .0); bytes = eqb-true _ _ (p .1 .1 .1 .0); next = a; evict = c; level = omega arith })
+  pub perform-in : (a : Ask) (m : ℕ) (ws : List ℕ) (k : ℕ) (js : List ℕ) → Passed (questions s a m ws k) → Drew (bounds s a) js → InRange (Run.perform s a js)
+  unfolding Run.perform questions bounds Request.accept
+  perform-in (opening h) m ws k js p d = fresh-in h js (p .0) d
+  perform-in (request j b bs) m ws k (x ∷ y ∷ []) p (a, (c, _)) = inRequest s f _
+      (record { kind = and-r (Questions.ready s m) (isKind j) (p .0); block = ltb-true b (s .shape .N) (p .1 .1 .0); bytes = eqb-true _ _ (p .1 .1 .1 .0); next = a; evict = c; level = omega arith; found = tt })
       (leb-true (length (s .queue)) 62 (p .1 .1 .1 .1 .0))
       (let h = waits-le (s .shape .E) (s .waiting) (s .request) (f .cache) in (h, others-room (s .shape .E) b (s .waiting) h (p .1 .1 .1 .1 .1 .0)))
-  act-in turn m ws k js p d = doStep-in s f (decide s) js (decide-in s f) (ltb-true (length (s .outstanding)) (s .shape .W) (p .1 .0))
-  act-in (completion c bs) m ws k js p d = complete-in c bs
-  act-in collect m ws k js p d = collected-in s f (s .request) (f .request) (f .jobs) (f .cache)
+  perform-in turn m ws k js p d = doStep-in s f (decide s) js (decide-in s f) (ltb-true (length (s .outstanding)) (s .shape .W) (p .1 .0))
+  perform-in (completion c bs) m ws k js p d = complete-in c bs
+  perform-in collect m ws k js p d = collected-in s f (s .request) (f .request) (f .jobs) (f .cache)
+
+  -- Every accepted call leaves a state in range
+  pub act-in : (a : Ask) (m : ℕ) (ws : List ℕ) (k : ℕ) (js : List ℕ) → Passed (questions s a m ws k) → Drew (bounds s a) js → InRange (act s a js)
+  unfolding act
+  act-in a m ws k js p d = release-in (Run.perform s a js) (perform-in a m ws k js p d)
 
 -- The words lent give such numbers
 pub drew-of : (ms ws : List ℕ) → All (λ m. 0 < m) ms → not (Search.isNone (draws ms ws)) ≡ true → Drew ms (Run.numbersOf (draws ms ws))
@@ -257,7 +299,7 @@ given-in s m e = range-facts s (and-r (leb (Memory.needed (s .shape)) m) (inRang
 -- Whatever state a call was given, if it is accepted it leaves a state in range
 pub accepted-in : (s : State) (a : Ask) (m : ℕ) (ws : List ℕ) (k : ℕ) → Passed (questions s a m ws k) → InRange (act s a (Run.numbersOf (draws (bounds s a) ws)))
 unfolding questions bounds
-accepted-in s (opening h) m ws k p = unfold act in (fresh-in h _ (p .0) (drew-of _ ws (all-replicate (λ m. 0 < m) (h .N) (h .P) (partitions-pos h (p .0))) (p .1 .1 .0)))
+accepted-in s (opening h) m ws k p = unfold act Run.perform in (release-in _ (fresh-in h _ (p .0) (drew-of _ ws (all-replicate (λ m. 0 < m) (h .N) (h .P) (partitions-pos h (p .0))) (p .1 .1 .0))))
 accepted-in s (request j b bs) m ws k p =
     let f = given-in s m (and-l (Questions.ready s m) (isKind j) (p .0)) in
     let h = partitions-pos (s .shape) (f .shape) in

@@ -10,7 +10,7 @@ use borrow.Author.Tests.{eqb-true, eq-eqb, leb-true, le-leb, ltb-true, lt-ltb}
 use Rattle.lists.specs.Tests.{and-true, and-l, and-r, every-yes, yes-every}
 use Rattle.lists.specs.All.{All, IfSome, all-map, all-yes, yes-all, all-below, below-all}
 use Rattle.rules.specs.Shape.{Shape, cell, slots, within}
-use Rattle.rules.specs.State.{State, Command, Place, nowhere, stored, Request}
+use Rattle.rules.specs.State.{State, Command, Place, nowhere, stored, Found, foundNowhere, foundCache, foundLevel, Request}
 use Rattle.rules.specs.Ranges
 use Rattle.rules.specs.Ranges.{inRange, ranges, others, isKind, bytesOf}
 use Rattle.rules.specs.Laws.Waiting.{Waits}
@@ -18,6 +18,12 @@ use Rattle.rules.specs.Laws.Waiting.{Waits}
 abbrev pub PlaceIn : ℕ → Place → Type 0
 PlaceIn top nowhere = Unit {0}
 PlaceIn top (stored ℓ i) = (ℓ < top) × (i < slots ℓ)
+
+abbrev pub FoundIn : ℕ → Option Found → Type 0
+FoundIn top none = Unit {0}
+FoundIn top (some foundNowhere) = Unit {0}
+FoundIn top (some foundCache) = Unit {0}
+FoundIn top (some (foundLevel ℓ)) = ℓ < top
 
 pub record CommandIn (h : Shape) (c : Command) : Type 0 where
   pub kind : isKind (c .kind) ≡ true
@@ -32,6 +38,7 @@ pub record RequestIn (h : Shape) (r : Request) : Type 0 where
   pub next : r .next < h .P
   pub evict : r .evict < h .P
   pub level : r .level ≤ h .L
+  pub found : FoundIn (h .L) (r .found)
 
 abbrev pub JobsIn : List ℕ → Option Request → Type 0
 JobsIn qs none = length qs ≤ 64
@@ -74,6 +81,20 @@ in-command : (h : Shape) (c : Command) → CommandIn h c → Ranges.rangeCommand
 unfolding Ranges.rangeCommand
 in-command h c k = yes-every _ (k .kind, (lt-ltb (c .partition) (h .P) (k .partition), (lt-ltb (c .level) (h .L) (k .level), (lt-ltb (c .slot) (slots (c .level)) (k .slot), tt))))
 
+found-in : (top : ℕ) (x : Option Found) → Ranges.rangeFound top x ≡ true → FoundIn top x
+unfolding Ranges.rangeFound
+found-in top none h = tt
+found-in top (some foundNowhere) h = tt
+found-in top (some foundCache) h = tt
+found-in top (some (foundLevel ℓ)) h = ltb-true ℓ top h
+
+in-found : (top : ℕ) (x : Option Found) → FoundIn top x → Ranges.rangeFound top x ≡ true
+unfolding Ranges.rangeFound
+in-found top none h = refl
+in-found top (some foundNowhere) h = refl
+in-found top (some foundCache) h = refl
+in-found top (some (foundLevel ℓ)) h = lt-ltb ℓ top h
+
 request-in : (h : Shape) (r : Option Request) → Ranges.rangeRequest h r ≡ true → IfSome (RequestIn h) r
 unfolding Ranges.rangeRequest
 request-in h none e = tt
@@ -84,12 +105,13 @@ request-in h (some r) e = let y = every-yes _ e in record {
   next = ltb-true (r .next) (h .P) (y .1 .1 .1 .0);
   evict = ltb-true (r .evict) (h .P) (y .1 .1 .1 .1 .0);
   level = leb-true (r .level) (h .L) (y .1 .1 .1 .1 .1 .0);
+  found = found-in (h .L) (r .found) (y .1 .1 .1 .1 .1 .1 .0);
 }
 
 in-request : (h : Shape) (r : Option Request) → IfSome (RequestIn h) r → Ranges.rangeRequest h r ≡ true
 unfolding Ranges.rangeRequest
 in-request h none k = refl
-in-request h (some r) k = yes-every _ (k .kind, (lt-ltb (r .block) (h .N) (k .block), (eq-eqb _ _ (k .bytes), (lt-ltb (r .next) (h .P) (k .next), (lt-ltb (r .evict) (h .P) (k .evict), (le-leb (r .level) (h .L) (k .level), tt))))))
+in-request h (some r) k = yes-every _ (k .kind, (lt-ltb (r .block) (h .N) (k .block), (eq-eqb _ _ (k .bytes), (lt-ltb (r .next) (h .P) (k .next), (lt-ltb (r .evict) (h .P) (k .evict), (le-leb (r .level) (h .L) (k .level), (in-found (h .L) (r .found) (k .found), tt)))))))
 
 jobs-in : (qs : List ℕ) (r : Option Request) → Ranges.queueFits qs r ≡ true → JobsIn qs r
 unfolding Ranges.queueFits

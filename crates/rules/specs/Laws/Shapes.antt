@@ -13,7 +13,7 @@ use Rattle.rules.specs.Laws.Answers.{opens}
 use Rattle.rules.specs.Questions.{Ask, opening, request, turn, completion, collect}
 use Rattle.rules.specs.Rebuild.{doRebuild}
 use Rattle.rules.specs.Request.{accept}
-use Rattle.rules.specs.Run.{act}
+use Rattle.rules.specs.Run.{act, perform}
 use Rattle.rules.specs.Shape.{Shape}
 use Rattle.rules.specs.State.{State, Command, Request}
 use Rattle.rules.specs.Turn.{Step, idle, noDummy, readForRequest, readForJob, rebuild, writeNext, decide, doStep, markRead, send}
@@ -54,7 +54,7 @@ collect-shape s none = refl
 collect-shape s (some r) = refl
 
 pub act-shape : (s : State) (a : Ask) (js : List ℕ) → opens a ≡ false → act s a js .shape ≡ s .shape
-unfolding act accept opens
+unfolding act perform accept opens
 act-shape s (opening h) js o = absurd (true≢false o)
 act-shape s (request k b bs) js o = refl
 act-shape s turn js o = turn-shape s (decide s) js

@@ -1,10 +1,13 @@
 use lib.Pow.{pow-mono}
 use mathlib.Core.Path.{_≡_, refl}
-use Prim.Native.Nat.{suc, _+_, _-_, _≤_}
+use mathlib.Core.List.{List, []}
+use Prim.Native.Nat.{ℕ, suc, _+_, _-_, _≤_}
 use Rattle.rules.specs.Shape.{slots, offset}
-use Rattle.rules.specs.Turn.{readForJob, command, stepBounds}
+use Rattle.rules.specs.Turn.{readForJob, command, stepBounds, doStep}
 use Rattle.rules.specs.Questions.{sends, possible}
-use Rattle.sending.specs.Sent.{read-meets, job-sent}
+use Rattle.client.specs.View.{stateOf}
+use Rattle.sending.specs.Sent.{Left, may-release, read-meets, job-sent}
+use lib.ListN.{length}
 use native.Mathlib.Omega.{arith}
 use Rattle.sending.proofs.read_for_job.Statement.{statement}
 use Rattle.sending.proofs.read_for_job.Tie as tie
@@ -43,24 +46,39 @@ with-cursor-requires c κs = omega arith
 send-requires : tie.Need-send-requires
 send-requires c κs = rw (c .before .with-cursor .ensures) (omega arith)
 
+-- what is left before a request is released
+left : (c : tie.After-send) → let r = c .before .before .before .before .before .before .before .before .before .args in (js : List ℕ) → Left (r .c) (c .send .result) (r .m .now) (c .send .last .1 .0) (doStep (readForJob (r .q) (r .l) (r .i)) js (stateOf (r .c) (r .m .now)))
+left c js =
+    let p = c .before .before .with-cursor in
+    let t = c .before .before .before .pow2 in
+    let k = c .before .before .before .before .before .before .mark-read in
+    let r = c .before .before .before .before .before .before .before .before .before .args in
+    let n : t .result - 2 + r .i + 1 ≡ suc (offset (r .l) (r .i)) = unfold offset in omega arith in
+    job-sent (r .c) (p .result) (c .send .result) (r .m .now) (k .last .1 .0) (c .send .last .1 .0) (r .q) (r .l) (r .i) (t .result - 2 + r .i + 1) (k .ensures) n (p .ensures) (c .send .ensures .0) (c .send .ensures .1) js
+
+sent-length : (c : tie.After-send) → length (c .send .last .1 .0) ≡ length (c .before .before .before .before .before .before .before .before .before .args .m .now)
+sent-length c = omega arith
+
+release-requires : tie.Need-release-requires
+release-requires c κs =
+    let s = c .before .before .before in
+    let a = s .before .before .before .before .before .before .before .before .before in
+    let r = a .args in
+    may-release (r .c) (r .m .now) [] [] (readForJob (r .q) (r .l) (r .i)) (a .pre) (s .send .result) (s .send .last .1 .0) [] (sent-length s) (left s [])
+
 sent-requires : tie.Need-sent-requires
 sent-requires c κs = omega arith
 
 same-length : tie.Need-same-length
-same-length c = omega arith
+same-length c = sent-length (c .before .before .before .before .before)
 
 returns : tie.Need-returns
 unfolding command sends possible stepBounds
 returns c =
-    let s = c .before .before .before .send in
-    let p = c .before .before .before .before .before .with-cursor in
-    let t = c .before .before .before .before .before .before .pow2 in
-    let k = c .before .before .before .before .before .before .before .before .before .mark-read in
-    let a = c .before .before .before .before .before .before .before .before .before .before .before .before in
+    let s = c .before .before .before .before .before in
+    let a = s .before .before .before .before .before .before .before .before .before in
     let r = a .args in
-    let n : t .result - 2 + r .i + 1 ≡ suc (offset (r .l) (r .i)) = unfold offset in omega arith in
-    rw (c .sent .ensures) (λ tape b. read-meets (r .c) (r .m .now) tape b (readForJob (r .q) (r .l) (r .i)) (a .pre) _ _ (r .q) (r .l) (r .i) refl refl refl refl
-    (job-sent (r .c) (p .result) (s .result) (r .m .now) (k .last .1 .0) (s .last .1 .0) (r .q) (r .l) (r .i) (t .result - 2 + r .i + 1) (k .ensures) n (p .ensures) (s .ensures .0) (s .ensures .1) _))
+    rw (c .sent .ensures) (λ tape b. read-meets (r .c) (r .m .now) tape b (readForJob (r .q) (r .l) (r .i)) (a .pre) (s .send .result) _ _ (r .q) (r .l) (r .i) refl refl refl refl (left s _) (c .before .release .ensures))
 
 pub read-for-job-spec : {M : Type 1} → statement M
 read-for-job-spec =
@@ -74,6 +92,7 @@ read-for-job-spec =
     add-with-cursor-2
     with-cursor-requires
     send-requires
+    release-requires
     sent-requires
     same-length
     returns)

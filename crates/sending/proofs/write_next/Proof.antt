@@ -1,12 +1,14 @@
 use Rattle.client.specs.declared.Client.{Client}
-use Prim.Native.Nat.{_+_, _≤_}
+use Prim.Native.Nat.{ℕ, _+_, _≤_}
+use lib.ListN.{length}
 use lib.Pow.{pow-mono}
 use Rattle.rules.specs.Shape.{slots}
 use mathlib.Core.Path.{_≡_, refl, ap, _∙_}
-use mathlib.Core.List.{[]}
-use Rattle.rules.specs.Turn.{writeNext, command, stepBounds}
+use mathlib.Core.List.{List, []}
+use Rattle.rules.specs.Turn.{writeNext, command, stepBounds, doStep}
 use Rattle.rules.specs.Questions.{sends, possible}
-use Rattle.sending.specs.Sent.{refuses, other-buffer, write-meets, write-sent}
+use Rattle.client.specs.View.{stateOf}
+use Rattle.sending.specs.Sent.{Left, may-release, refuses, other-buffer, write-meets, write-sent}
 use native.Mathlib.Omega.{arith}
 use Rattle.sending.proofs.write_next.Statement.{statement}
 use Rattle.sending.proofs.write_next.Tie as tie
@@ -50,27 +52,45 @@ put-bytes-requires c κs =
     let h : s .result .shape ≡ f .before .before .before .before .args .c .shape = ap (λ (x : Client). x .shape) (s .ensures .0) ∙ ap (λ (x : Client). x .shape) (d .ensures) in
     rw h (omega (arith, p .usable .room), p .inside .0, p .inside .1, p .inside .2, omega (arith, f .if1 .left))
 
+-- what is left before a request is released
+left : (c : tie.After-send) → let r = c .before .before .before .before .before .before .before .args in (js : List ℕ) → Left (r .c) (c .send .result) (r .m .now) (c .send .last .1 .0) (doStep (writeNext (r .q) (r .t) (r .i)) js (stateOf (r .c) (r .m .now)))
+left c js =
+    let p = c .before .before .with-sent in
+    let r = c .before .before .before .before .before .before .before .args in
+    write-sent (r .c) (p .result) (c .send .result) (r .m .now) (c .send .last .1 .0) [] (r .q) (r .t) (r .i) (p .ensures) (c .send .ensures .0) (c .send .ensures .1) js
+
+sent-length : (c : tie.After-send) → length (c .send .last .1 .0) ≡ length (c .before .before .before .before .before .before .before .args .m .now)
+sent-length c = omega arith
+
+release-requires : tie.Need-release-requires
+release-requires c κs =
+    let s = c .before .before .before .before .before .before .before .before in
+    let a = s .before .before .before .before .before .before .before in
+    let r = a .args in
+    may-release (r .c) (r .m .now) [] [] (writeNext (r .q) (r .t) (r .i)) (a .pre) (s .send .result) (s .send .last .1 .0) [] (sent-length s) (left s [])
+
+full : (c : tie.After-put-bytes) → length (c .put-bytes .last .1 .1 .1 .1 .1 .0) ≡ length (c .before .before .before .before .before .before .before .before .before .before .before .before .args .buffer .now)
+full c = omega arith
+
 sent-requires : tie.Need-sent-requires
 sent-requires c κs = omega arith
 
 same-length : tie.Need-same-length
-same-length c = omega arith
+same-length c = sent-length (c .before .before .before .before .before .before .before .before .before .before)
 
 same-length-2 : tie.Need-same-length-2
-same-length-2 c = omega arith
+same-length-2 c = full (c .before .before .before .before .before)
 
 returns-2 : tie.Need-returns-2
 unfolding command sends possible stepBounds
 returns-2 c =
-    let o = c .before .before .before .put-bytes in
-    let s = c .before .before .before .before .before .before .before .before .send in
-    let p = c .before .before .before .before .before .before .before .before .before .before .with-sent in
-    let f = c .before .before .before .before .before .before .before .before .before .before .before in
-    let a = f .before .before .before .before in
+    let o = c .before .before .before .before .before .put-bytes in
+    let s = c .before .before .before .before .before .before .before .before .before .before in
+    let a = s .before .before .before .before .before .before .before in
     let r = a .args in
     let some : 1 ≤ r .c .shape .b = a .pre .usable .room .someBytes in
-    rw (c .sent .ensures) (λ tape. write-meets (r .c) (r .m .now) tape (r .buffer .now) (writeNext (r .q) (r .t) (r .i)) (a .pre) (r .q) (r .t) (r .i) refl refl _ _ _ 0 refl (f .if1 .left) refl (omega arith)
-    (write-sent (r .c) (p .result) (s .result) (r .m .now) (s .last .1 .0) [] (r .q) (r .t) (r .i) (p .ensures) (s .ensures .0) (s .ensures .1) _) (omega arith) (o .ensures))
+    rw (c .sent .ensures) (λ tape. write-meets (r .c) (r .m .now) tape (r .buffer .now) (writeNext (r .q) (r .t) (r .i)) (a .pre) (r .q) (r .t) (r .i) refl refl (s .send .result) _ _ _ 0 refl (s .before .before .before .if1 .left) refl (omega arith)
+    (left s _) (c .before .release .ensures) (omega (arith, some, s .before .before .before .if1 .left, full (c .before .before .before .before .before))) (o .ensures))
 
 pub write-next-spec : {M : Type 1} → statement M
 write-next-spec =
@@ -82,6 +102,7 @@ write-next-spec =
     with-sent-requires
     send-requires
     put-bytes-requires
+    release-requires
     sent-requires
     same-length
     same-length-2

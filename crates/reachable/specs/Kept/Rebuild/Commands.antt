@@ -10,7 +10,7 @@ use lib.ListN.{getD}
 use borrow.Author.Tests.{eqb-false}
 use Rattle.lists.specs.All.{nil, cons, all-append, all-map, all-both}
 use Rattle.lists.specs.Distinct.{Mem, index}
-use Rattle.lists.specs.Members.{not-member, all-mem, decMem}
+use Rattle.lists.specs.Members.{all-mem, decMem}
 use Rattle.rules.specs.Laws.Range.{InRange, CommandIn}
 use Rattle.rules.specs.Levels.{sources}
 use Rattle.rules.specs.Rebuild.{gathered, doRebuild}
@@ -72,8 +72,8 @@ module _ (s : State) (f : Reached s) (q t : ℕ) (o : List ℕ) (d : Drawing s q
   fetched-kept r m j e p l =
       let hx = block-lt s f r e in
       let hq = all-mem (f .range .queue) q (rw (d .step .front) (inl refl)) in
-      let unheld : Request.held s r ≡ false = ⊎-elim (λ z. absurd (omega arith)) (λ u. u) (f .unheld r e) in
-      let away : ¬ (s .partition (r .block) ≡ q) = λ z. not-member (s .partition (r .block)) (s .queue) unheld (rw (d .step .front) (inl z)) in
+      let unheld : Request.held r ≡ false = ⊎-elim (λ z. absurd (omega arith)) (λ u. u) (f .unheld r e) in
+      let away : ¬ (s .partition (r .block) ≡ q) = λ z. f .released r e unheld (rw (d .step .front) (inl z)) in
       let out : ¬ Mem (r .block) (gathered s q) = λ k. ⊎-elim (λ c. away (chosen-waits s q (r .block) c .0)) (λ c. away (c .0)) (gathered-why s f q hq (r .block) k) in
       let old : s .place (r .block) ≡ stored m j = sym (place-out s f q t o d (r .block) out) ∙ p in
       let y = place-lt (h .L) m j (s .place (r .block)) (f .range .places (r .block) hx) old in
@@ -112,6 +112,7 @@ module _ (s : State) (f : Reached s) (q t : ℕ) (o : List ℕ) (d : Drawing s q
     begun = begun-kept s f q t o d;
     reads = reads-kept s f q t o d;
     unheld = f .unheld;
+    released = f .released;
     unread = unread-kept;
     fetched = fetched-kept;
     scanned = λ p ℓ i a z. absurd (omega arith);

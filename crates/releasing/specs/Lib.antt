@@ -1,0 +1,2 @@
+-- A request released, as client and memory have it.
+pub mod Released

@@ -1,0 +1,53 @@
+// A held request that no job holds any longer is released: the place of its block is looked up.
+use client::Client;
+use client::Request;
+ghost use mathlib.Core.Path.{_≡_};
+ghost use Prim.Native.Nat.{suc, _<_, _≤_};
+ghost use Rattle.rules.specs.State.{foundNumber};
+ghost use Rattle.rules.specs.Blocks.{lookUp};
+ghost use Rattle.client.specs.View.{stateOf};
+ghost use Rattle.client.specs.Moves.{Room};
+ghost use Rattle.releasing.specs.Released.{Held, Released};
+
+// Where the request's block is found, as the number that the request carries: 1 for nowhere, 2 for the cache, and from 3 on the levels.
+fn look_up(c: Client, m: &[u8]) -> usize
+    requires { ⌜ Room c (now m) × (c .waiting ≤ c .shape .n) × (c .request .block < c .shape .n) ⌝ }
+    ensures { λ r. ⌜ r ≡ suc (foundNumber (lookUp (stateOf c (now (m .entry))) (c .request .block))) ⌝ }
+{
+    let x = memory::tables::place(c.shape, m, c.request.block);
+    if 2 <= x {
+        return bits::level_of(x - 2) + 3;
+    }
+    if cache::is_waiting(c, m, c.request.block) {
+        2
+    } else {
+        1
+    }
+}
+
+// The queue is gone over only while a request is held.
+pub fn release(c: Client, m: &[u8]) -> Client
+    requires { ⌜ Held c (now m) ⌝ }
+    ensures { λ r. ⌜ Released c (now (m .entry)) r ⌝ }
+{
+    let r = c.request;
+    if r.kind == 0 {
+        return c;
+    }
+    if r.found != 0 {
+        return c;
+    }
+    let q = memory::tables::partition(c.shape, m, r.block);
+    if jobs::is_queued(c, m, q) {
+        return c;
+    }
+    let found = look_up(c, m);
+    c.with_request(Request {
+        kind: r.kind,
+        block: r.block,
+        next: r.next,
+        evict: r.evict,
+        level: r.level,
+        found,
+    })
+}

@@ -1,0 +1,245 @@
+//! Where a block was found (document 02, P2): each case, requests that jobs
+//! held and whose block they moved, refusals, and what holds of all calls.
+
+#[path = "common/run.rs"]
+mod run;
+
+use plain::calls::{Ask, Call, Outcome, Store};
+use plain::found::Found;
+use plain::mistakes::Mistake;
+use plain::script::{Script, replay};
+use plain::shape::Shape;
+use plain::state::Request;
+use run::{Run, read, write};
+
+impl Run {
+    /// Runs the front job; its order takes words of zero.
+    fn job(&mut self) {
+        let left = self.queued();
+        while self.queued() == left {
+            assert_eq!(self.t(&[0; 255]).number, 0);
+        }
+    }
+
+    fn request(&self) -> &Request {
+        let request = self.state().request.as_ref();
+        request.expect("a request is in hand")
+    }
+
+    /// A request that is held, with its block there at acceptance.
+    fn held(&mut self, ask: Ask, place: Found) {
+        assert_eq!(self.number(ask, &[0, 0]), 0);
+        assert!(self.request().is_held());
+        assert_eq!(self.state().look_up(self.request().block), place);
+        assert_eq!(self.refused(), 14);
+    }
+
+    /// Runs the jobs that hold the request in hand, all that are queued.
+    fn wait(&mut self) {
+        while self.queued() > 0 {
+            assert!(self.request().is_held());
+            self.job();
+        }
+        assert!(!self.request().is_held());
+    }
+
+    /// The number of a refused collect, which tells nothing.
+    fn refused(&mut self) -> u8 {
+        let outcome = self.call(Ask::Collect, &[]);
+        let refusal = Outcome {
+            number: outcome.number,
+            ..Outcome::default()
+        };
+        assert_ne!(outcome.number, 0);
+        assert_eq!(outcome, refusal);
+        outcome.number
+    }
+
+    /// Sends the request's reads, one to each of so many levels, and collects.
+    fn collect(&mut self, levels: usize) -> (Vec<u8>, Found) {
+        for _ in 0..levels {
+            assert_eq!(self.refused(), 14);
+            assert_eq!(self.t(&[]).number, 0);
+        }
+        let outcome = self.call(Ask::Collect, &[]);
+        assert_eq!(outcome.number, 0);
+        (outcome.bytes, outcome.found)
+    }
+}
+
+#[test]
+fn each_case_has_its_number() {
+    let all = [0, 1, 6, 7].map(Found::Level);
+    assert_eq!(all.map(Found::number), [2, 3, 8, 9]);
+    assert_eq!([Found::Nowhere, Found::Cache].map(Found::number), [0, 1]);
+    assert_eq!(Found::default(), Found::Nowhere);
+}
+
+/// No job holds these requests, so their block is looked up at acceptance.
+#[test]
+fn each_case_without_a_job() {
+    let mut run = Run::new(Shape::new(1, 2, 2, 1, 1, 1), &[0]);
+    assert_eq!(run.serve(read(0), [1, 0]).found, Found::Nowhere);
+    // It waits for partition 1, and both jobs are for partition 0.
+    assert_eq!(run.serve(read(0), [1, 0]).found, Found::Cache);
+    run.job();
+    run.job();
+    run.job();
+    run.job();
+    assert_eq!(run.serve(read(0), [1, 1]).found, Found::Level(0));
+    run.job();
+    run.job();
+    assert_eq!(run.serve(read(0), [1, 1]).found, Found::Level(1));
+}
+
+#[test]
+fn jobs_move_a_block_from_the_cache_to_a_level() {
+    let mut run = Run::new(Shape::new(1, 1, 2, 1, 1, 1), &[0]);
+    run.serve(write(0, &[5]), [0, 0]);
+    run.held(read(0), Found::Cache);
+    // The first job puts the block in level 0, the second one in level 1.
+    run.wait();
+    assert_eq!(run.collect(1), (vec![5], Found::Level(1)));
+}
+
+#[test]
+fn a_job_moves_a_block_from_a_level_to_another() {
+    let mut run = Run::new(Shape::new(1, 1, 2, 1, 1, 1), &[0]);
+    run.serve(write(0, &[5]), [0, 0]);
+    run.job();
+    run.held(write(0, &[6]), Found::Level(0));
+    run.wait();
+    assert_eq!(run.collect(1), (vec![5], Found::Level(1)));
+}
+
+/// The job for partition 0, which is full, takes a dummy.
+#[test]
+fn a_block_that_no_job_takes_is_found_in_the_cache() {
+    let mut run = Run::new(Shape::new(2, 2, 1, 1, 2, 1), &[0, 1]);
+    run.serve(write(0, &[7]), [0, 1]);
+    run.job();
+    run.job();
+    run.serve(write(1, &[9]), [0, 0]);
+    run.held(read(1), Found::Cache);
+    run.wait();
+    assert_eq!(run.collect(1), (vec![9], Found::Cache));
+}
+
+#[test]
+fn a_held_block_may_be_nowhere() {
+    let mut run = Run::new(Shape::new(2, 1, 2, 1, 2, 1), &[0, 0]);
+    run.serve(write(0, &[7]), [0, 0]);
+    run.held(read(1), Found::Nowhere);
+    run.wait();
+    assert_eq!(run.collect(1), (vec![0], Found::Nowhere));
+}
+
+/// Jobs of another partition, before and after the look-up, change nothing.
+#[test]
+fn jobs_of_other_partitions_hold_nothing() {
+    let mut run = Run::new(Shape::new(2, 2, 2, 1, 2, 1), &[0, 1]);
+    run.serve(write(0, &[5]), [0, 1]);
+    run.job();
+    run.job();
+    run.serve(read(1), [1, 1]);
+    assert_eq!(run.number(read(0), &[1, 1]), 0);
+    assert_eq!(run.request().found, Some(Found::Level(0)));
+    assert_eq!(run.t(&[]).command.partition, 0);
+    run.job();
+    run.job();
+    assert_eq!(run.request().found, Some(Found::Level(0)));
+    assert_eq!(run.collect(0), (vec![5], Found::Level(0)));
+}
+
+#[test]
+fn refusals_tell_nothing() {
+    let mut run = Run::new(Shape::new(1, 1, 1, 2, 1, 1), &[0]);
+    assert_eq!(run.refused(), 13);
+    run.serve(write(0, &[5, 6]), [0, 0]);
+    run.held(read(0), Found::Cache);
+    run.wait();
+    assert_eq!(run.request().found, Some(Found::Level(0)));
+    assert_eq!(run.refused(), 14);
+    let command = run.call(Ask::Turn, &[]).command;
+    assert_eq!(run.refused(), 14);
+    let bytes = vec![5, 6];
+    assert_eq!(run.number(Ask::Completion { command, bytes }, &[]), 0);
+    run.bytes = 1;
+    assert_eq!(run.refused(), 15);
+    let short = run.store.call(&Call {
+        ask: Ask::Collect,
+        memory: run.state().shape.needed() - 1,
+        words: Vec::new(),
+        buffer: 2,
+    });
+    assert_eq!((short.number, short.found), (2, Found::Nowhere));
+    run.bytes = 2;
+    assert_eq!(run.collect(0), (vec![5, 6], Found::Level(0)));
+    assert_eq!(run.refused(), 13);
+    assert_eq!(run.number(Ask::Open(Shape::new(1, 3, 1, 1, 1, 1)), &[0]), 1);
+    assert_eq!(run.refused(), 2);
+}
+
+const SHAPES: [Shape; 4] = [
+    Shape::new(2, 1, 2, 1, 2, 2),
+    Shape::new(4, 2, 2, 1, 2, 2),
+    Shape::new(4, 1, 3, 1, 3, 3),
+    Shape::new(8, 4, 2, 1, 8, 3),
+];
+
+fn scripts() -> impl Iterator<Item = Script> {
+    let seeds = |shape| (0..100).map(move |seed| Script::new(shape, None, seed, 300));
+    SHAPES.into_iter().flat_map(seeds)
+}
+
+/// After every call a request is held exactly while a job for its partition is
+/// queued, what was found is in its range and stays, and a collect tells it.
+#[test]
+fn what_is_found_stays_until_the_collect() {
+    let mut held = 0;
+    for script in scripts() {
+        let mut store = Store::new(Mistake::None);
+        let mut carried = None;
+        for (call, outcome) in script.calls.iter().zip(&script.outcomes) {
+            assert_eq!(store.call(call), *outcome);
+            if call.ask == Ask::Collect && outcome.number == 0 {
+                assert_eq!(carried.take(), Some(outcome.found));
+            } else {
+                assert_eq!(outcome.found, Found::Nowhere);
+            }
+            let request = store
+                .state
+                .as_ref()
+                .and_then(|s| Some((s, s.request.as_ref()?)));
+            let Some((state, request)) = request else {
+                continue;
+            };
+            let queued = state.queue.contains(&state.partition[request.block]);
+            assert_eq!(request.is_held(), queued);
+            assert!(carried.is_none() || carried == request.found);
+            carried = request.found;
+            let number = carried.map_or(0, Found::number);
+            assert!(number < 2 + state.shape.levels);
+            held += usize::from(queued);
+        }
+    }
+    assert!(held > 1000);
+}
+
+/// A wrong look-up shows in what is found, and in nothing that the host gets.
+#[test]
+fn nothing_else_depends_on_what_is_found() {
+    let without = |outcome: &Outcome| Outcome {
+        found: Found::Nowhere,
+        ..outcome.clone()
+    };
+    let mut told = Mistake::UNPRINTED.map(|mistake| (mistake, 0));
+    for script in scripts() {
+        for (mistake, times) in &mut told {
+            let wrong = replay(&script.calls, *mistake);
+            assert!({ script.outcomes.iter().map(without) }.eq(wrong.iter().map(without)));
+            *times += usize::from(script.outcomes != wrong);
+        }
+    }
+    assert!(told.iter().all(|(_, times)| *times > 50), "{told:?}");
+}
