@@ -2,7 +2,7 @@
 use mathlib.Core.Path.{_≡_, refl, ap, sym, _∙_}
 use mathlib.Core.Bool.{true, false, true≢false}
 use mathlib.Core.List.{List, [], _++_}
-use Prim.Native.Nat.{ℕ, suc, _+_, _%_, _≤_, _<_}
+use Prim.Native.Nat.{ℕ, _+_, _%_, _≤_, _<_}
 use native.Mathlib.Omega.{arith}
 use native.Mathlib.Decide.{ℕ-discrete, decLt}
 use lib.ListN.{length}
@@ -15,9 +15,10 @@ use Rattle.rules.specs.Open.{fresh}
 use Rattle.rules.specs.Questions.{Ask, opening, request, turn, completion, collect, Call, ready, questions, firstNo, bounds, number}
 use Rattle.rules.specs.Run.{Outcome, perform, act, step, accepted, refused, refuse, numbersOf, sentCommand, handed, handedFound}
 use Rattle.rules.specs.Shape.{Shape}
-use Rattle.rules.specs.State.{State, Found, foundNowhere, foundCache, foundLevel, foundNumber, closed}
+use Rattle.rules.specs.State.{State, closed}
 use Rattle.client.specs.declared.Client.{Client}
 use Rattle.client.specs.View.{stateOf, view, foundAs}
+use Rattle.client.specs.Readings.{as-number}
 use Rattle.contract.specs.declared.Answer.{Answer}
 use Rattle.contract.specs.Answers.{clearedClient}
 use Rattle.contract.specs.Meets.{Meets, callOf, commandOf, closed-is}
@@ -51,13 +52,6 @@ short-unready s m l = rw (lt-leb (needed (s .shape)) m l)
 abbrev readOff : Ask → Answer → List ℕ → Outcome
 readOff a r b′ = record { number = r .number; taken = r .taken; command = commandOf r; bytes = handsOut a (r .number) (r .kind) b′; found = foundAs (r .found) }
 
--- the number by which an answer tells where a block was found says just that
-found-again : (x : Found) → foundAs (foundNumber x) ≡ x
-unfolding foundAs foundNumber
-found-again foundNowhere = refl
-found-again foundCache = refl
-found-again (foundLevel ℓ) = let e : ℓ + 2 ≡ suc (suc ℓ) = omega arith in ap foundAs e
-
 meets-outcome : (c : Client) (s : State) (a : Ask) (m tape b : List ℕ) (r : Answer) (m′ b′ : List ℕ) → (number s (callOf a m tape b) ≡ 0 → Whole s) → Meets c s a m tape b r m′ b′
     → readOff a r b′ ≡ step s (callOf a m tape b) .1
 meets-outcome c s a m tape b r m′ b′ w k = λ i. record { number = k .number i; taken = k .taken i; command = k .command i; bytes = bytes i; found = found i }
@@ -66,7 +60,7 @@ meets-outcome c s a m tape b r m′ b′ w k = λ i. record { number = k .number
     o = step s (callOf a m tape b) .1
 
     found : foundAs (r .found) ≡ o .found
-    found = ap foundAs (k .found) ∙ found-again (o .found)
+    found = ap foundAs (k .found) ∙ as-number (o .found)
 
     bytes : handsOut a (r .number) (r .kind) b′ ≡ o .bytes
     bytes = (λ i. handsOut a (k .number i) (k .command i .kind) (k .buffer i)) ∙ hands-out s (callOf a m tape b) w b

@@ -2,7 +2,7 @@
 use mathlib.Core.Path.{_≡_, refl, ap, sym, _∙_}
 use mathlib.Core.Bool.{true, false}
 use mathlib.Core.List.{List}
-use mathlib.Core.Option.{none, some}
+use mathlib.Core.Option.{Option, none, some}
 use Prim.Native.Nat.{ℕ, zero, suc, _+_, _^_, _<_}
 use native.Mathlib.Omega.{arith}
 use lib.ListN.{length, getD}
@@ -25,11 +25,23 @@ number-as zero = refl
 number-as (suc zero) = refl
 number-as (suc (suc ℓ)) = omega arith
 
-pub said : (x : R.Found) → foundBy (suc (R.foundNumber x)) ≡ some x
-unfolding foundBy foundAs R.foundNumber
-said R.foundNowhere = refl
-said R.foundCache = refl
-said (R.foundLevel ℓ) = let e : ℓ + 2 ≡ suc (suc ℓ) = omega arith in ap (λ n. some (foundAs n)) e
+pub as-number : (x : R.Found) → foundAs (R.foundNumber x) ≡ x
+unfolding foundAs R.foundNumber
+as-number R.foundNowhere = refl
+as-number R.foundCache = refl
+as-number (R.foundLevel ℓ) = let e : ℓ + 2 ≡ suc (suc ℓ) = omega arith in ap foundAs e
+
+abbrev numberBy : Option R.Found → ℕ
+numberBy none = 0
+numberBy (some x) = suc (R.foundNumber x)
+
+number-by : (n : ℕ) → numberBy (foundBy n) ≡ n
+unfolding foundBy
+number-by zero = refl
+number-by (suc n) = ap suc (number-as n)
+
+pub same-found : (n k : ℕ) → foundBy n ≡ foundBy k → n ≡ k
+same-found n k e = sym (number-by n) ∙ ap numberBy e ∙ number-by k
 
 -- how many jobs are queued, and blocks wait
 module _ (c : Client) (t : Tables) where

@@ -3,23 +3,26 @@ use mathlib.Core.Path.{_≡_, refl, ap, sym, _∙_, subst}
 use mathlib.Core.Bool.{Bool, true, false, not, _&&_, true≢false}
 use mathlib.Core.Logic.{_⊎_, inl, inr}
 use mathlib.Core.List.{List, [], _∷_}
-use mathlib.Core.Option.{Option, some}
+use mathlib.Core.Option.{Option, none, some}
 use Prim.Native.Nat.{ℕ, zero, suc, _+_, _-_, _^_, _≤_, _<_, min}
 use native.Mathlib.Omega.{arith}
 use lib.ListN.{length}
 use lib.Dec.{eqb, leb}
+use lib.Pow.{pow-pos}
+use lib.Bits.{bitAnd}
 use borrow.Author.Tests.{eqb-true, eq-eqb, ne-eqb, leb-true}
 use Rattle.lists.specs.Tests.{if_then_else_, and-l, and-r, or-true, between}
 use Rattle.lists.specs.Search.{any, without, below, count}
 use Rattle.lists.specs.All.{All, nil, cons}
 use Rattle.lists.specs.Tables.{put}
-use Rattle.rules.specs.Shape.{Shape, cell}
+use Rattle.rules.specs.Shape.{Shape, slots, cell}
 use Rattle.rules.specs.State as R
-use Rattle.rules.specs.State.{Command, cmd, read, write, foundNumber}
+use Rattle.rules.specs.State.{State, Command, cmd, read, write, foundNumber}
 use Rattle.rules.specs.Setters.{setOutstanding, setQueue, setCounter, setCursor, setSent}
 use Rattle.rules.specs.Ranges.{isKind}
 use Rattle.rules.specs.Levels.{sources, target, grown, trailingOnes}
-use Rattle.rules.specs.Blocks.{holder, named}
+use Rattle.rules.specs.Blocks.{holder, named, lookUp}
+use Rattle.rules.specs.Request.{blocked, releasedIn, release}
 use Rattle.rules.specs.Completion.{isCommand, completed, gatherBytes, completeRead, jobDone, endJob, finishJob, completeWrite, complete}
 use Rattle.rules.specs.Draws.{draws}
 use Rattle.rules.specs.Questions.{completion, ready, bounds, questions, firstNo, number}
@@ -30,14 +33,15 @@ use Rattle.rules.specs.Laws.Shapes.{complete-keeps}
 use Rattle.memory.specs.Tables.{tablesOf, withBlocks, withCounter}
 use Rattle.memory.specs.Fits.{shapeOf, fit, fit-lt}
 use Rattle.client.specs.declared.Client.{Client}
+use Rattle.client.specs.declared.Request.{Request}
 use Rattle.client.specs.View.{stateOf, view, rows}
 use Rattle.client.specs.Rows.{dropAt, length-rows}
 use Rattle.client.specs.Changes.{view-bytes, view-counter}
-use Rattle.client.specs.Moves.{Room, Stands, stands, then as next, withJobs, withCursor, withSent}
+use Rattle.client.specs.Moves.{Room, Stands, stands, restated, then as next, withJobs, withCursor, withSent}
 use Rattle.contract.specs.Answers.{refusedWith}
 use Rattle.contract.specs.Meets.{Meets, callOf, meets-no, meets-yes}
-use Rattle.ready.specs.Usable.{usable}
-use Rattle.releasing.specs.Released.{Held, Released, released-stands, held-of}
+use Rattle.ready.specs.Usable.{Usable, usable}
+use Rattle.releasing.specs.Released.{Held, Released, held-of}
 use Rattle.jobs.specs.Queue.{jobsIn, queue-is}
 use Rattle.commands.specs.Outstanding.{OutstandingAt, ofKind}
 use Rattle.commands.specs.Commands.{outstanding-is}
@@ -75,18 +79,18 @@ module _ (c : Client) (m : List ℕ) (d : Command) (bs : List ℕ) where
       passed e = rw (r, a, eq-eqb (length bs) (wanted c d) e)
 
       -- all answers are yes, and the act leaves the rules' state
-      pub yes : (e c′ : Client) (m′ : List ℕ) → length bs ≡ wanted c d → e .request ≡ c .request → Stands e m m′ (complete d bs (stateOf c m)) → Released e m′ c′ → Meets c (stateOf c m) (completion d bs) m [] [] (refusedWith 0 c′) m′ []
+      pub yes : (c′ : Client) (m′ : List ℕ) → length bs ≡ wanted c d → (c′ .request .kind ≡ 0 → c′ .request ≡ c .request) → Stands c′ m m′ (release (complete d bs (stateOf c m))) → Meets c (stateOf c m) (completion d bs) m [] [] (refusedWith 0 c′) m′ []
       unfolding bounds draws takenOf numbersOf act perform sentCommand handed handedFound foundNumber stateOf view
-      yes e c′ m′ l k s f = let x = released-stands s f in meets-yes c (stateOf c m) (completion d bs) m [] [] (refusedWith 0 c′) m′ [] (record {
-        yes = passed l;
+      yes c′ m′ e k s = meets-yes c (stateOf c m) (completion d bs) m [] [] (refusedWith 0 c′) m′ [] (record {
+        yes = passed e;
         number = refl;
         taken = refl;
         command = refl;
         found = refl;
-        state = x .state;
-        idle = λ z. ap (λ (y : Client). y .request) (f .idle z) ∙ k;
+        state = s .state;
+        idle = k;
         buffer = refl;
-        tail = x .tail;
+        tail = s .tail;
       })
 
 -- ---- The command
@@ -114,6 +118,7 @@ command-in h d e (cons {x = x} {xs = xs} k a) = go (or-true (isCommand d x) (any
 
 -- what the act goes by: the command is at place j
 pub record Completes (c : Client) (m : List ℕ) (d : Command) (bs : List ℕ) (j : ℕ) : Type 0 where
+  pub usable : Usable c m
   pub room : Room c m
   pub jobs : c .jobs ≤ 64
   pub out : c .out ≤ 32
@@ -123,9 +128,8 @@ pub record Completes (c : Client) (m : List ℕ) (d : Command) (bs : List ℕ) (
   pub long : length bs ≡ wanted c d
 
 -- a request may be released then
-pub may-release : (c d : Client) (m m′ : List ℕ) (x : Command) (bs : List ℕ) → (ready (stateOf c m) (length m) && isKind (x .kind)) ≡ true → length m′ ≡ length m → Stands d m m′ (complete x bs (stateOf c m)) → Held d m′
-may-release c d m m′ x bs r l s =
-    let u = usable c m (and-l (ready (stateOf c m) (length m)) (isKind (x .kind)) r) in
+pub may-release : (c d : Client) (m m′ : List ℕ) (x : Command) (bs : List ℕ) → Usable c m → length m′ ≡ length m → Stands d m m′ (complete x bs (stateOf c m)) → Held d m′
+may-release c d m m′ x bs u l s =
     let h : complete x bs (stateOf c m) .shape ≡ stateOf c m .shape = ap (λ (y : Shape × Option R.Request). y .0) (complete-keeps (stateOf c m) x bs) in
     held-of c d m m′ (complete x bs (stateOf c m)) (u .room) l (s .state) (h ∙ (unfold stateOf view in refl)) (complete-in (stateOf c m) (u .range) x bs)
 
@@ -142,6 +146,7 @@ unfolding stateOf view
 completes c m d bs j r o l =
     let u = usable c m (and-l (ready (stateOf c m) (length m)) (isKind (d .kind)) r) in
     record {
+      usable = u;
       room = u .room;
       jobs = u .jobs;
       out = omega (arith, u .counts .out, u .window);
@@ -177,6 +182,33 @@ module _ (c : Client) (m : List ℕ) (q ℓ i x b : ℕ) (bs : List ℕ) (at : x
       stands c m m′ _ _ t refl (view-bytes c (tablesOf (shapeOf (c .shape)) m) (b - 1) bs u ∙ sym (ap (λ o. gatherBytes o bs (stateOf c m)) (holder-is ∙ named-some b n)))
 
 -- ---- A write
+
+-- a test that n passes if a level has so many slots
+abbrev pub AllOfLevel : ℕ → Bool → Type 0
+AllOfLevel n r = (t : ℕ) → t < 8 → n ≡ slots t → r ≡ true
+
+pub none-of-level : AllOfLevel 0 false
+none-of-level t l e = absurd (omega (arith, pow-pos (t + 1)))
+
+-- the bit of a power of two is gone from the number before it
+pub one-bit : (n : ℕ) → AllOfLevel n (eqb (bitAnd n (n - 1)) 0)
+one-bit n t l e = rw e (go t l)
+  where
+    go : (t : ℕ) → t < 8 → eqb (bitAnd (slots t) (slots t - 1)) 0 ≡ true
+    go zero l = refl
+    go (suc zero) l = refl
+    go (suc (suc zero)) l = refl
+    go (suc (suc (suc zero))) l = refl
+    go (suc (suc (suc (suc zero)))) l = refl
+    go (suc (suc (suc (suc (suc zero))))) l = refl
+    go (suc (suc (suc (suc (suc (suc zero)))))) l = refl
+    go (suc (suc (suc (suc (suc (suc (suc zero))))))) l = refl
+    go (suc (suc (suc (suc (suc (suc (suc (suc t)))))))) l = absurd (omega arith)
+
+-- while the writes sent are not as many as the slots of some level, the job is not done
+pub not-done : (c : Client) (m : List ℕ) (q : ℕ) (one : Bool) → Room c m → AllOfLevel (c .sent) one → one ≡ false → jobDone (stateOf c m) q ≡ false
+unfolding jobDone target stateOf view
+not-done c m q one r f e = rw (ne-eqb (c .sent) (slots (min (sources (shapeOf (c .shape)) (stateOf c m .counter q)) (c .shape .l - 1))) (λ z. true≢false (sym (f _ (omega (arith, r .levels, r .someLevels)) z) ∙ e)))
 
 pub done-is : (c : Client) (m : List ℕ) (q n s t w : ℕ) (writing : Bool) → n ≡ fit (2 ^ c .shape .l) (tablesOf (shapeOf (c .shape)) m .counter q) → s ≡ trailingOnes (c .shape .l) n → t ≡ min s (c .shape .l - 1) → w ≡ 2 ^ (t + 1)
     → writing ≡ any (ofKind write) (stateOf c m .outstanding) → (eqb (c .sent) w && not writing) ≡ jobDone (stateOf c m) q
@@ -218,11 +250,11 @@ module _ (c : Client) (m : List ℕ) where
 
 -- ---- Both: the command leaves the list first
 
-module _ (c d : Client) (m m₁ : List ℕ) (x : Command) (bs : List ℕ) (j : ℕ) (o : Completes c m x bs j)
+module _ (c d : Client) (m m₁ : List ℕ) (x : Command) (bs : List ℕ) (j : ℕ) (gone : without (isCommand x) (stateOf c m .outstanding) ≡ dropAt j (stateOf c m .outstanding))
     (s : Stands d m m₁ (setOutstanding (dropAt j (stateOf c m .outstanding)) (stateOf c m))) where
   left : stateOf d m₁ ≡ completed x (stateOf c m)
   unfolding completed
-  left = s .state ∙ ap (λ cs. setOutstanding cs (stateOf c m)) (sym (o .gone))
+  left = s .state ∙ ap (λ cs. setOutstanding cs (stateOf c m)) (sym gone)
 
   pub read-done : (m₂ : List ℕ) → x .kind ≡ 1 → Stands d m₁ m₂ (gatherBytes (holder (stateOf d m₁) (x .partition) (x .level) (x .slot)) bs (stateOf d m₁)) → Stands d m m₂ (complete x bs (stateOf c m))
   unfolding complete completeRead completed holder
@@ -239,3 +271,30 @@ module _ (c d : Client) (m m₁ : List ℕ) (x : Command) (bs : List ℕ) (j : �
         state = a .state ∙ ap (λ z. finishJob (z .queue) z) left ∙ sym (ap (λ t. if t then completeRead x bs (stateOf c m) else completeWrite x (stateOf c m)) (ne-eqb (x .kind) 1 k));
         tail = a .tail;
       }
+
+-- ---- A request released before a read is completed
+
+read-commutes : (s : State) (x : Command) (bs : List ℕ) → x .kind ≡ 1 → complete x bs (release s) ≡ release (complete x bs s)
+unfolding complete completeRead completed holder releasedIn blocked lookUp
+read-commutes s x bs k =
+    let e = eq-eqb (x .kind) 1 k in
+    ap (λ t. if t then completeRead x bs (release s) else completeWrite x (release s)) e ∙ go (holder s (x .partition) (x .level) (x .slot)) ∙ sym (ap (λ t. release (if t then completeRead x bs s else completeWrite x s)) e)
+  where
+    go : (o : Option ℕ) → gatherBytes o bs (completed x (release s)) ≡ release (gatherBytes o bs (completed x s))
+    go none = unfold gatherBytes in refl
+    go (some b) = unfold gatherBytes in refl
+
+module _ (c d : Client) (m : List ℕ) (x : Command) (bs : List ℕ) (j : ℕ) (a : Released c m d) where
+  -- the command is where it was
+  pub still-there : without (isCommand x) (stateOf c m .outstanding) ≡ dropAt j (stateOf c m .outstanding) → without (isCommand x) (stateOf d m .outstanding) ≡ dropAt j (stateOf d m .outstanding)
+  still-there g = rw (ap (λ (s : State). s .outstanding) (a .state)) g
+
+  pub released-before : (e : Client) (m′ : List ℕ) → x .kind ≡ 1 → Stands e m m′ (complete x bs (stateOf d m)) → Stands e m m′ (release (complete x bs (stateOf c m)))
+  released-before e m′ k s = restated s (ap (complete x bs) (a .state) ∙ read-commutes (stateOf c m) x bs k)
+
+-- while none is in hand, its numbers stay
+pub idle-first : (c d e : Client) (m : List ℕ) → Released c m d → e .request ≡ d .request → e .request .kind ≡ 0 → e .request ≡ c .request
+idle-first c d e m a k z = k ∙ ap (λ (x : Client). x .request) (a .idle (sym (ap (λ (x : Request). x .kind) k) ∙ z))
+
+pub idle-last : (c d e : Client) (m : List ℕ) → Released d m e → d .request ≡ c .request → e .request .kind ≡ 0 → e .request ≡ c .request
+idle-last c d e m a k z = ap (λ (x : Client). x .request) (a .idle z) ∙ k

@@ -14,6 +14,7 @@ ghost use Rattle.rules.specs.Shape.{slots};
 ghost use Rattle.rules.specs.State.{cmd, read};
 ghost use Rattle.rules.specs.Levels.{grown as grownOf};
 ghost use Rattle.rules.specs.Blocks.{holder};
+ghost use Rattle.rules.specs.Request.{release};
 ghost use Rattle.rules.specs.Completion.{gatherBytes, jobDone, endJob, finishJob, complete as completeOf};
 ghost use Rattle.rules.specs.Questions.{completion as completionOf};
 ghost use Rattle.memory.specs.Fits.{shapeOf};
@@ -21,7 +22,7 @@ ghost use Rattle.client.specs.View.{stateOf};
 ghost use Rattle.client.specs.Rows.{dropAt};
 ghost use Rattle.client.specs.Moves.{Room, Stands};
 ghost use Rattle.contract.specs.Meets.{Meets};
-ghost use Rattle.completing.specs.Completing.{Completes};
+ghost use Rattle.completing.specs.Completing.{AllOfLevel, Completes};
 
 // The length that is asked for: that of a block for a read, 0 for a write.
 fn expected(kind: usize, block: usize) -> usize
@@ -43,11 +44,25 @@ fn store_read(c: Client, m: &mut [u8], q: usize, l: usize, i: usize, bytes: &[u8
     memory::blocks::store(c.shape, m, b - 1, bytes);
 }
 
-// The job for q has sent all its writes, and none is outstanding.
+// Whether a number is a power of two, as that of the slots of each level is.
+fn one_bit(n: usize) -> bool
+    ensures { λ r. ⌜ AllOfLevel n r ⌝ }
+{
+    if n == 0 {
+        return false;
+    }
+    n & (n - 1) == 0
+}
+
+// The job for q has sent all its writes, and none is outstanding. Most completions of writes come while the number sent is no power of two: then it is
+// not all of them, whatever the target.
 fn is_done(c: Client, m: &[u8], q: usize) -> bool
     requires { ⌜ Room c (now m) × (c .out ≤ 32) × (q < c .shape .p) ⌝ }
     ensures { λ r. ⌜ r ≡ jobDone (stateOf c (now (m .entry))) q ⌝ }
 {
+    if !one_bit(c.sent) {
+        return false;
+    }
     let l = c.shape.l;
     let sources = bits::sources(memory::tables::counter(c.shape, m, q), l);
     let writes = bits::pow2(bits::target(sources, l) + 1);
@@ -90,7 +105,8 @@ fn finish_job(c: Client, m: &mut [u8]) -> Client
     end_job(c, m, q)
 }
 
-// The command at place j is completed.
+// The command at place j is completed, and a request that no job holds any longer is released: before the first store where a read is completed, which
+// changes nothing that a release looks at, so that the compiler need not keep its numbers until the end.
 fn complete(
     c: Client,
     m: &mut [u8],
@@ -102,14 +118,17 @@ fn complete(
     bytes: &[u8],
 ) -> Client
     requires { ⌜ Completes c (now m) (cmd kind q l i) (now bytes) j ⌝ }
-    ensures { λ r. ⌜ (r .request ≡ c .request) × Stands r (now (m .entry)) (now (m .exit)) (completeOf (cmd kind q l i) (now (bytes .entry)) (stateOf c (now (m .entry)))) ⌝ }
+    ensures { λ r. ⌜ (r .request .kind ≡ 0 → r .request ≡ c .request) × Stands r (now (m .entry)) (now (m .exit)) (release (completeOf (cmd kind q l i) (now (bytes .entry)) (stateOf c (now (m .entry))))) ⌝ }
 {
-    let d = commands::complete(c, m, j);
     if kind == READ {
-        store_read(d, m, q, l, i, bytes);
-        return d;
+        let d = releasing::release(c, m);
+        let e = commands::complete(d, m, j);
+        store_read(e, m, q, l, i, bytes);
+        return e;
     }
-    finish_job(d, m)
+    let d = commands::complete(c, m, j);
+    let e = finish_job(d, m);
+    releasing::release(e, m)
 }
 
 pub fn completion(
@@ -137,6 +156,5 @@ pub fn completion(
         return contract::refused(12, c);
     }
     let d = complete(c, m, j, kind, partition, level, slot, bytes);
-    let e = releasing::release(d, m);
-    contract::accepted(e, 0)
+    contract::accepted(d, 0)
 }

@@ -75,16 +75,9 @@ pub fn accepted(client: Client, taken: usize) -> Answer
 pub fn collected(client: Client, found: usize) -> Answer
     ensures { λ r. ⌜ r ≡ collectedWith client found ⌝ }
 {
-    Answer {
-        number: 0,
-        taken: 0,
-        kind: 0,
-        partition: 0,
-        level: 0,
-        slot: 0,
-        found,
-        client,
-    }
+    let mut r = accepted(client, 0);
+    r.found = found;
+    r
 }
 
 // The closed state, all zeros.

@@ -1,9 +1,9 @@
 -- The contract of an exported call says all of the number that it answers and every byte of the state after it: two that meet it from the same
 -- bytes are the same. (Of the memory it says what it stands for: docs/MEMORY.md names the bytes that are free.)
-use mathlib.Core.Path.{_≡_, refl, ap, sym, _∙_}
+use mathlib.Core.Path.{_≡_, ap, sym, _∙_}
 use mathlib.Core.List.{List, [], _++_}
-use mathlib.Core.Option.{Option, none, some, Option·getD}
-use Prim.Native.Nat.{ℕ, zero, suc, _+_, _*_, _/_, _%_}
+use mathlib.Core.Option.{Option·getD}
+use Prim.Native.Nat.{ℕ, _+_, _*_, _/_, _%_}
 use native.Mathlib.Omega.{arith}
 use native.Mathlib.Decide.{ℕ-discrete}
 use lib.ListN.{length, drop}
@@ -15,9 +15,9 @@ use Rattle.memory.specs.Words.{wordAt}
 use Rattle.memory.specs.Fits.{shapeOf}
 use Rattle.client.specs.declared.Client.{Client}
 use Rattle.client.specs.declared.Request.{Request}
-use Rattle.client.specs.View.{stateOf, view, foundAs, foundBy}
+use Rattle.client.specs.View.{stateOf, view}
 use Rattle.client.specs.Rows.{length-rows}
-use Rattle.client.specs.Readings.{jobs-count, waiting-count, handOf, hand-none, hand-some}
+use Rattle.client.specs.Readings.{jobs-count, waiting-count, handOf, hand-none, hand-some, same-found}
 use Rattle.contract.specs.Answers.{clearedClient}
 use Rattle.contract.specs.Meets.{Meets, commandOf}
 use Rattle.report.specs.Page.{page}
@@ -27,21 +27,6 @@ use Rattle.exports.specs.Idle.{Idle, none-kind}
 use Rattle.exports.specs.Paged.{Paged, told}
 
 -- ---- The client
-
--- the number by which a request says where its block was found is given by what it says
-numberOf : Option R.Found → ℕ
-numberOf none = 0
-numberOf (some x) = suc (R.foundNumber x)
-
-number-found : (n : ℕ) → numberOf (foundBy n) ≡ n
-unfolding numberOf foundBy foundAs R.foundNumber
-number-found zero = refl
-number-found (suc zero) = refl
-number-found (suc (suc zero)) = refl
-number-found (suc (suc (suc ℓ))) = omega arith
-
-same-found : (n k : ℕ) → foundBy n ≡ foundBy k → n ≡ k
-same-found n k e = sym (number-found n) ∙ ap numberOf e ∙ number-found k
 
 -- a client is given by the state that it stands for and, while no request is in hand, by what is left of one
 module _ (c d : Client) (m n : List ℕ) (e : stateOf c m ≡ stateOf d n) where

@@ -26,9 +26,9 @@ use Rattle.memory.specs.Fits.{shapeOf, fit, fit-lt}
 use Rattle.client.specs.declared.Client.{Client}
 use Rattle.client.specs.Changes.{level-is}
 use Rattle.client.specs.Moves.{withRequest, atFound, Room, Stands}
-use Rattle.client.specs.Readings.{handOf, hand-none, hand-some, hand-held, hand-released, place-as, said}
+use Rattle.client.specs.Readings.{handOf, hand-none, hand-some, hand-held, hand-released, place-as, as-number}
 use Rattle.client.specs.View.{stateOf, view, levelOf, placeOf, foundBy, handBy, requestOf}
-use Rattle.ready.specs.Usable.{usable}
+use Rattle.ready.specs.Usable.{Usable, usable}
 
 -- the client's counts fit, and so does the block of a request in hand
 pub record Held (c : Client) (m : List ℕ) : Type 0 where
@@ -36,6 +36,9 @@ pub record Held (c : Client) (m : List ℕ) : Type 0 where
   pub jobs : c .jobs ≤ 64
   pub waiting : c .waiting ≤ c .shape .n
   pub block : (c .request .kind ≡ 0 → ⊥) → c .request .block < c .shape .n
+
+pub held-usable : (c : Client) (m : List ℕ) → Usable c m → Held c m
+held-usable c m u = record { room = u .room; jobs = u .jobs; waiting = omega (arith, u .counts .waiting, u .places); block = λ n. u .asked n .0 .block }
 
 -- so it is with client and memory that stand for a state in range, of the shape that c has
 module _ (c d : Client) (m m′ : List ℕ) (s : State) (room : Room c m) (long : length m′ ≡ length m) (e : stateOf d m′ ≡ s) (h : s .shape ≡ shapeOf (c .shape)) (f : InRange s) where
@@ -46,13 +49,13 @@ module _ (c d : Client) (m m′ : List ℕ) (s : State) (room : Room c m) (long 
 
   pub held-of : Held d m′
   held-of =
-      let u = usable d m′ (unfold ready in (and-true enough (facts-range (stateOf d m′) (subst InRange (sym e) f)))) in
-      record { room = u .room; jobs = u .jobs; waiting = omega (arith, u .counts .waiting, u .places); block = λ n. u .asked n .0 .block }
+      held-usable d m′ (usable d m′ (unfold ready in (and-true enough (facts-range (stateOf d m′) (subst InRange (sym e) f)))))
 
 -- The client r after it, with the memory as it was; where none is in hand it is c
 pub record Released (c : Client) (m : List ℕ) (r : Client) : Type 0 where
   pub state : stateOf r m ≡ release (stateOf c m)
   pub shape : r .shape ≡ c .shape
+  pub out : r .out ≡ c .out
   pub idle : r .request .kind ≡ 0 → r ≡ c
 
 -- after a move to the state s
@@ -116,7 +119,7 @@ module _ (c : Client) (m : List ℕ) where
 
       hand-found : handBy (atFound x (c .request)) (tablesOf (shapeOf (c .shape)) m .blocks (c .shape .n)) ≡ withFound (lookUp s (c .request .block)) (handOf c m)
       hand-found =
-          let y : foundBy x ≡ some (lookUp s (c .request .block)) = ap foundBy e ∙ said (lookUp s (c .request .block)) in
+          let y : foundBy x ≡ some (lookUp s (c .request .block)) = ap foundBy e ∙ (unfold foundBy in (ap some (as-number (lookUp s (c .request .block))))) in
           let r = handOf c m in
           λ i. record { kind = r .kind; block = r .block; bytes = r .bytes; next = r .next; evict = r .evict; level = r .level; found = y i }
 

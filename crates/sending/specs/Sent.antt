@@ -14,7 +14,7 @@ use Rattle.rules.specs.State.{State, cmd, read, write, foundNumber}
 use Rattle.rules.specs.Setters.{setRequest, setCursor, setSent, setWaiting}
 use Rattle.rules.specs.Draws.{draws, newOrder}
 use Rattle.rules.specs.Levels.{sources}
-use Rattle.rules.specs.Request.{passLevel}
+use Rattle.rules.specs.Request.{passLevel, release}
 use Rattle.rules.specs.Blocks.{holder, slotBytes, named, zeros}
 use Rattle.rules.specs.Rebuild.{gathered, doRebuild}
 use Rattle.rules.specs.Turn.{Step, idle, noDummy, readForRequest, readForJob, rebuild, writeNext, decide, command, stepBounds, markRead, send, doStep}
@@ -25,11 +25,11 @@ use Rattle.rules.specs.Laws.Answers.{opens}
 use Rattle.rules.specs.Laws.Asked.{reads-asked}
 use Rattle.rules.specs.Laws.Decided.{StepIn, decide-in}
 use Rattle.rules.specs.Laws.Kept.{doStep-in}
-use Rattle.rules.specs.Laws.Released.{written-release}
 use Rattle.rules.specs.Laws.Shapes.{act-shape}
 use Rattle.memory.specs.Fits.{shapeOf, fit, fit-lt}
 use Rattle.memory.specs.Tables.{tablesOf}
 use Rattle.client.specs.declared.Client.{Client}
+use Rattle.client.specs.declared.Request.{Request}
 use Rattle.client.specs.View.{stateOf, view, handBy, requestOf, bytesIn}
 use Rattle.client.specs.Rows.{length-rows}
 use Rattle.client.specs.Readings.{hand-none}
@@ -42,7 +42,8 @@ use Rattle.contract.specs.Buffers.{filled}
 use Rattle.contract.specs.Meets.{callOf, handedTo, commandOf, Meets, meets-no, meets-yes}
 use Rattle.rebuild.specs.Target.{rebuilt, rebuild-is}
 use Rattle.client.specs.declared.Found.{Found}
-use Rattle.releasing.specs.Released.{Held, Released, released-stands, held-of}
+use Rattle.releasing.specs.Released.{Held, Released, released-stands, held-usable, held-of}
+use Rattle.sending.specs.Commutes.{Commutes}
 use Rattle.sending.specs.Chosen.{Chosen, leftBy}
 
 -- a turn that may be made, and the step that it decides
@@ -63,10 +64,23 @@ Reads c m r m′ = (tape b : List ℕ) → Meets c (stateOf c m) turn m tape b r
 abbrev pub Writes : Client → List ℕ → List ℕ → Answer → List ℕ → List ℕ → Type 0
 Writes c m b r m′ b′ = (tape : List ℕ) → Meets c (stateOf c m) turn m tape b r m′ b′
 
--- Before a request is released a turn of the client c leaves e, which stands for s; while no request is in hand, its numbers stay
+-- A turn of the client c leaves e, which stands for s; while no request is in hand, its numbers stay
 pub record Left (c e : Client) (m m′ : List ℕ) (s : State) : Type 0 where
   pub stands : Stands e m m′ s
   pub idle : e .request .kind ≡ 0 → e .request ≡ c .request
+
+-- a request released last, or first, where that is the same
+pub released-last : {c e f : Client} {m m′ : List ℕ} {s : State} → Left c e m m′ s → Released e m′ f → Left c f m m′ (release s)
+released-last a b = record {
+  stands = released-stands (a .stands) b;
+  idle = λ z. ap (λ (q : Client). q .request) (b .idle z) ∙ a .idle (sym (ap (λ (q : Client). q .request .kind) (b .idle z)) ∙ z);
+}
+
+pub released-first : (c d : Client) {f : Client} {m m′ : List ℕ} (x : Step) (js : List ℕ) → Commutes x → Released c m d → Left d f m m′ (doStep x js (stateOf d m)) → Left c f m m′ (release (doStep x js (stateOf c m)))
+released-first c d {m = m} x js k a b = record {
+  stands = restated (b .stands) (ap (doStep x js) (a .state) ∙ k (stateOf c m) js);
+  idle = λ z. let e = b .idle z in e ∙ ap (λ (q : Client). q .request) (a .idle (sym (ap (λ (q : Request). q .kind) e) ∙ z));
+}
 
 -- ---- The number
 
@@ -108,23 +122,26 @@ module _ (c : Client) (m tape b : List ℕ) (x : Step) (d : Due c m x) where
   abbrev drawn : List ℕ
   drawn = numbersOf (draws (stepBounds x) (wordsOf tape))
 
-  pub accepts : (e : Client) (r : Answer) (m′ b′ : List ℕ) → firstNo asked ≡ 0 → length (stepBounds x) ≤ length (wordsOf tape)
+  pub accepts : (r : Answer) (m′ b′ : List ℕ) → firstNo asked ≡ 0 → length (stepBounds x) ≤ length (wordsOf tape)
       → r .number ≡ 0 → r .taken ≡ length (stepBounds x) → commandOf r ≡ command x → r .found ≡ 0
-      → Left c e m m′ (doStep x drawn s) → Released e m′ (r .client) → b′ ≡ handedTo b (written (doStep x drawn s) (command x)) → Meets c s turn m tape b r m′ b′
+      → Left c (r .client) m m′ (release (doStep x drawn s)) → b′ ≡ handedTo b (written (release (doStep x drawn s)) (command x)) → Meets c s turn m tape b r m′ b′
   unfolding bounds act perform sentCommand handed handedFound foundNumber stateOf view
-  accepts e r m′ b′ y l n t k u f g h = let z = released-stands (f .stands) g in meets-yes c s turn m tape b r m′ b′ (record {
-    yes = turn-number ∙ y;
+  accepts r m′ b′ e l n t k u f h = meets-yes c s turn m tape b r m′ b′ (record {
+    yes = turn-number ∙ e;
     number = n;
     taken = rw (d .step) (t ∙ sym (taken-all (stepBounds x) (wordsOf tape) l));
     command = rw (d .step) k;
     found = u;
-    state = rw (d .step) (z .state);
-    idle = λ w. ap (λ (q : Client). q .request) (g .idle w) ∙ f .idle (sym (ap (λ (q : Client). q .request .kind) (g .idle w)) ∙ w);
-    buffer = rw (d .step) (rw (written-release (doStep x drawn s) (command x)) h);
-    tail = z .tail;
+    state = rw (d .step) (f .stands .state);
+    idle = f .idle;
+    buffer = rw (d .step) h;
+    tail = f .stands .tail;
   })
 
-  -- a request may be released then
+  -- a request may be released before it, and after it
+  pub may-release-first : Held c m
+  may-release-first = held-usable c m (d .usable)
+
   pub may-release : (e : Client) (m′ js : List ℕ) → length m′ ≡ length m → Left c e m m′ (doStep x js s) → Held e m′
   may-release e m′ js l f = held-of c e m m′ (doStep x js s) (d .usable .room) l (f .stands .state) shape (doStep-in s (d .usable .range) x js (unfold stateOf view in (d .inside)) (omega (arith, out-is c m, window-is c m, d .free)))
     where
@@ -165,6 +182,10 @@ handed-write b b′ s q l i n e = e ∙ sym (filled b (slotBytes s (holder s q l
 left : {c e : Client} {m m′ : List ℕ} {s : State} → (e .request .kind ≡ 0 → e .request ≡ c .request) → Stands e m m′ s → Left c e m m′ s
 left i k = record { stands = k; idle = i }
 
+-- a read for a request: there is one in hand, also after a release
+pub asked-for : (c d : Client) (m : List ℕ) (q l i : ℕ) → Due c m (readForRequest q l i) → Released c m d → d .request .kind ≡ 0 → ⊥
+asked-for c d m q l i k a z = reads-asked (stateOf c m) q l i (k .step) (hand-none c m (sym (ap (λ (x : Client). x .request .kind) (a .idle z)) ∙ z))
+
 -- the request goes on from the level above l
 abbrev pub passed : ℕ → Client → Client
 passed l c = withRequest (atLevel (l + 1) (c .request)) c
@@ -184,13 +205,13 @@ module _ (c d e : Client) (m m₁ m₂ : List ℕ) where
   abbrev S : State
   S = stateOf c m
 
-  pub request-sent : (q l i : ℕ) → decide S ≡ readForRequest q l i → Stands c m m₁ (markRead q l i S) → d ≡ passed l c → e ≡ withOut (d .out + 1) d → Stands e m₁ m₂ (send (cmd 1 q l i) (stateOf d m₁))
+  pub request-sent : (q l i : ℕ) → (c .request .kind ≡ 0 → ⊥) → Stands c m m₁ (markRead q l i S) → d ≡ passed l c → e ≡ withOut (d .out + 1) d → Stands e m₁ m₂ (send (cmd 1 q l i) (stateOf d m₁))
       → (js : List ℕ) → Left c e m m₂ (doStep (readForRequest q l i) js S)
   unfolding doStep markRead
   request-sent q l i k a x y b js =
       let shape : e .shape ≡ c .shape = ap (λ (z : Client). z .shape) y ∙ ap (λ (z : Client). z .shape) x in
       let kind : e .request .kind ≡ c .request .kind = ap (λ (z : Client). z .request .kind) y ∙ ap (λ (z : Client). z .request .kind) x in
-      left (λ z. absurd (reads-asked S q l i k (hand-none c m (sym kind ∙ z)))) (restated (next c e m m₁ m₂ _ _ shape a b) (ap (send (cmd 1 q l i)) (ap (λ z. stateOf z m₁) x ∙ passed-is l c m₁ ∙ ap (λ (z : State). setRequest (passLevel l (z .request)) z) (a .state))))
+      left (λ z. absurd (k (sym kind ∙ z))) (restated (next c e m m₁ m₂ _ _ shape a b) (ap (send (cmd 1 q l i)) (ap (λ z. stateOf z m₁) x ∙ passed-is l c m₁ ∙ ap (λ (z : State). setRequest (passLevel l (z .request)) z) (a .state))))
 
   pub job-sent : (q l i n : ℕ) → Stands c m m₁ (markRead q l i S) → n ≡ suc (offset l i) → d ≡ withCursor n c → e ≡ withOut (d .out + 1) d → Stands e m₁ m₂ (send (cmd 1 q l i) (stateOf d m₁))
       → (js : List ℕ) → Left c e m m₂ (doStep (readForJob q l i) js S)
@@ -231,12 +252,12 @@ module _ (c : Client) (m tape b : List ℕ) (x : Step) (d : Due c m x) where
   lacks-number e = rw e (unfold sends command stepBounds possible in (rw (le-leb 0 (length (wordsOf tape)) (omega arith))))
 
   -- a read
-  pub read-meets : (e r : Client) (m′ : List ℕ) (q l i : ℕ) → command x ≡ cmd 1 q l i → sends x ≡ true → possible (stateOf c m) x ≡ true → length (stepBounds x) ≡ 0
-      → Left c e m m′ (doStep x (drawn c m tape b x d) (stateOf c m)) → Released e m′ r → Meets c (stateOf c m) turn m tape b (acceptedWith r 0 1 q l i) m′ b
+  pub read-meets : (e : Client) (m′ : List ℕ) (q l i : ℕ) → command x ≡ cmd 1 q l i → sends x ≡ true → possible (stateOf c m) x ≡ true → length (stepBounds x) ≡ 0
+      → Left c e m m′ (release (doStep x (drawn c m tape b x d) (stateOf c m))) → Meets c (stateOf c m) turn m tape b (acceptedWith e 0 1 q l i) m′ b
   unfolding firstNo
-  read-meets e r m′ q l i k g p n f u = accepts c m tape b x d e (acceptedWith r 0 1 q l i) m′ b
+  read-meets e m′ q l i k g p n f = accepts c m tape b x d (acceptedWith e 0 1 q l i) m′ b
       (rw (g, k, p, n, le-leb 0 (length (wordsOf tape)) (omega arith)))
-      (omega arith) refl (sym n) (sym k) refl f u (rw k (handed-read b (doStep x (drawn c m tape b x d) (stateOf c m)) q l i))
+      (omega arith) refl (sym n) (sym k) refl f (rw k (handed-read b (release (doStep x (drawn c m tape b x d) (stateOf c m))) q l i))
 
   -- a write
   module _ (q l i : ℕ) (k : command x ≡ cmd 2 q l i) (g : sends x ≡ true) where
@@ -252,13 +273,13 @@ module _ (c : Client) (m tape b : List ℕ) (x : Step) (d : Due c m x) where
     unfolding firstNo
     no-room e n p = rw (g, k, eq-eqb (length b) (c .shape .b) e, le-leb (length (stepBounds x)) (length (wordsOf tape)) n, p)
 
-    pub write-meets : (e r : Client) (m′ b′ : List ℕ) (n : ℕ) → possible (stateOf c m) x ≡ true → length b ≡ c .shape .b → n ≡ length (stepBounds x) → n ≤ length (wordsOf tape)
-        → Left c e m m′ (doStep x (drawn c m tape b x d) (stateOf c m)) → Released e m′ r → 1 ≤ length b′ → b′ ≡ slotBytes (stateOf e m′) (holder (stateOf e m′) q l i)
-        → Meets c (stateOf c m) turn m tape b (acceptedWith r n 2 q l i) m′ b′
+    pub write-meets : (e : Client) (m′ b′ : List ℕ) (n : ℕ) → possible (stateOf c m) x ≡ true → length b ≡ c .shape .b → n ≡ length (stepBounds x) → n ≤ length (wordsOf tape)
+        → Left c e m m′ (release (doStep x (drawn c m tape b x d) (stateOf c m))) → 1 ≤ length b′ → b′ ≡ slotBytes (stateOf e m′) (holder (stateOf e m′) q l i)
+        → Meets c (stateOf c m) turn m tape b (acceptedWith e n 2 q l i) m′ b′
     unfolding firstNo
-    write-meets e r m′ b′ n p h t w f u o z = accepts c m tape b x d e (acceptedWith r n 2 q l i) m′ b′
+    write-meets e m′ b′ n p h t w f o z = accepts c m tape b x d (acceptedWith e n 2 q l i) m′ b′
         (rw (g, k, eq-eqb (length b) (c .shape .b) h, le-leb (length (stepBounds x)) (length (wordsOf tape)) (omega arith), p))
-        (omega arith) refl t (sym k) refl f u (rw k (handed-write b b′ (doStep x (drawn c m tape b x d) (stateOf c m)) q l i o (z ∙ ap (λ s. slotBytes s (holder s q l i)) (f .stands .state))))
+        (omega arith) refl t (sym k) refl f (rw k (handed-write b b′ (release (doStep x (drawn c m tape b x d) (stateOf c m))) q l i o (z ∙ ap (λ s. slotBytes s (holder s q l i)) (f .stands .state))))
 
 -- ---- The rebuild
 pub rebuilt-stands : (c d : Client) (m m₁ m₂ : List ℕ) (q t n : ℕ) (bs o : List ℕ) (x : Found) → d .shape ≡ c .shape

@@ -42,15 +42,16 @@ fn pass_level(c: Client, l: usize) -> Client
     })
 }
 
-// Sends the request's read.
+// Sends the request's read. A release comes before the first store where it sees the same there: so the compiler need not keep its numbers
+// until the end.
 pub fn read_for_request(c: Client, m: &mut [u8], q: usize, l: usize, i: usize) -> Answer
     requires { ⌜ Due c (now m) (readForRequestOf q l i) ⌝ }
     ensures { λ r. ⌜ Reads c (now (m .entry)) r (now (m .exit)) ⌝ }
 {
-    levels::mark_read(c, m, q, l, i);
-    let d = pass_level(c, l);
-    let e = commands::send(d, m, READ, q, l, i);
-    let f = releasing::release(e, m);
+    let d = releasing::release(c, m);
+    levels::mark_read(d, m, q, l, i);
+    let e = pass_level(d, l);
+    let f = commands::send(e, m, READ, q, l, i);
     contract::sent(f, 0, READ, q, l, i)
 }
 
@@ -59,10 +60,10 @@ pub fn read_for_job(c: Client, m: &mut [u8], q: usize, l: usize, i: usize) -> An
     requires { ⌜ Due c (now m) (readForJobOf q l i) ⌝ }
     ensures { λ r. ⌜ Reads c (now (m .entry)) r (now (m .exit)) ⌝ }
 {
-    levels::mark_read(c, m, q, l, i);
-    let d = c.with_cursor(bits::pow2(l + 1) - 2 + i + 1);
-    let e = commands::send(d, m, READ, q, l, i);
-    let f = releasing::release(e, m);
+    let d = releasing::release(c, m);
+    levels::mark_read(d, m, q, l, i);
+    let e = d.with_cursor(bits::pow2(l + 1) - 2 + i + 1);
+    let f = commands::send(e, m, READ, q, l, i);
     contract::sent(f, 0, READ, q, l, i)
 }
 
@@ -95,10 +96,10 @@ pub fn write_next(
     if buffer.len() != c.shape.b {
         return contract::refused(15, c);
     }
-    let d = c.with_sent(i + 1);
-    let e = commands::send(d, m, WRITE, q, t, i);
-    put_bytes(e, m, q, t, i, buffer);
-    let f = releasing::release(e, m);
+    let d = releasing::release(c, m);
+    let e = d.with_sent(i + 1);
+    let f = commands::send(e, m, WRITE, q, t, i);
+    put_bytes(f, m, q, t, i, buffer);
     contract::sent(f, 0, WRITE, q, t, i)
 }
 
@@ -195,8 +196,8 @@ fn send_rebuild(
     let words = bits::pow2(t + 1) - 1;
     let d = write_level(c, m, q, t, x, list, k, tape);
     let e = commands::send(d, m, WRITE, q, t, 0);
-    put_bytes(e, m, q, t, 0, buffer);
     let f = releasing::release(e, m);
+    put_bytes(f, m, q, t, 0, buffer);
     contract::sent(f, words, WRITE, q, t, 0)
 }
 

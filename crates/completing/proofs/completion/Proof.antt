@@ -10,7 +10,7 @@ use Rattle.rules.specs.Questions.{ready}
 use Rattle.client.specs.View.{stateOf}
 use Rattle.ready.specs.Usable.{unready-part}
 use Rattle.commands.specs.Outstanding.{OutstandingAt}
-use Rattle.completing.specs.Completing.{wanted, no-ready, no-command, no-length, yes, may-release, begins, completes}
+use Rattle.completing.specs.Completing.{wanted, no-ready, no-command, no-length, yes, begins, completes}
 use Rattle.completing.proofs.completion.Statement.{statement}
 use Rattle.completing.proofs.completion.Tie as tie
 
@@ -116,14 +116,6 @@ complete-requires c κs =
     let s = f .before .before .before .before .before .before .before .before .before .before in
     completes (s .args .c) (s .args .m .now) (named s) (s .args .bytes .now) _ (begun (f .before .before)) (there k) (sized (c .before))
 
-release-requires : tie.Need-release-requires
-release-requires c κs =
-    let x = c .before .before .before .complete in
-    let k = c .before .before .before .before .before .before .before in
-    let f = k .before .before .before in
-    let s = f .before .before .before .before .before .before .before .before .before .before in
-    may-release (s .args .c) (x .result) (s .args .m .now) (x .last .1 .0) (named s) (s .args .bytes .now) (begun (f .before .before)) (omega arith) (x .ensures .1)
-
 accepted-requires : tie.Need-accepted-requires
 accepted-requires c κs = omega arith
 
@@ -132,13 +124,12 @@ same-length-4 c = omega arith
 
 returns-5 : tie.Need-returns-5
 returns-5 c =
-    let x = c .before .before .before .before .before .complete in
-    let d = c .before .before .before .before .before .before .before in
+    let d = c .before .before .before .before .before in
     let k = d .before .before in
     let f = k .before .before .before in
     let s = f .before .before .before .before .before .before .before .before .before .before in
     rw (c .accepted .ensures)
-    (yes (s .args .c) (s .args .m .now) (named s) (s .args .bytes .now) (begun (f .before .before)) (there k .there) (x .result) _ _ (sized d) (x .ensures .0) (x .ensures .1) (c .before .release .ensures))
+    (yes (s .args .c) (s .args .m .now) (named s) (s .args .bytes .now) (begun (f .before .before)) (there k .there) _ _ (sized d) (c .before .before .before .complete .ensures .0) (c .before .before .before .complete .ensures .1))
 
 pub completion-spec : {M : Type 1} → statement M
 completion-spec =
@@ -163,7 +154,6 @@ completion-spec =
     same-length-3
     returns-4
     complete-requires
-    release-requires
     accepted-requires
     same-length-4
     returns-5)

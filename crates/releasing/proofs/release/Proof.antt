@@ -10,12 +10,12 @@ use Rattle.releasing.proofs.release.Tie as tie
 returns : tie.Need-returns
 returns c =
     let a = c .before .before .before .before .args in
-    record { state = sym (unasked (a .c) (a .m .now) (c .if1 .taken)); shape = refl; idle = λ z. refl }
+    record { state = sym (unasked (a .c) (a .m .now) (c .if1 .taken)); shape = refl; out = refl; idle = λ z. refl }
 
 returns-2 : tie.Need-returns-2
 returns-2 c =
     let a = c .before .before .before .before .before .before .args in
-    record { state = sym (found-before (a .c) (a .m .now) (c .before .before .if1 .left) (c .if2 .taken)); shape = refl; idle = λ z. refl }
+    record { state = sym (found-before (a .c) (a .m .now) (c .before .before .if1 .left) (c .if2 .taken)); shape = refl; out = refl; idle = λ z. refl }
 
 partition-requires : tie.Need-partition-requires
 partition-requires c κs = let p = c .before .before .before .before .before .before .pre in (p .room, p .block (c .before .before .if1 .left))
@@ -35,7 +35,7 @@ returns-3 : tie.Need-returns-3
 returns-3 c =
     let d = c .before .before .before in
     let a = d .before .before .before .before .before .before .args in
-    record { state = sym (still-held (a .c) (a .m .now) (d .before .before .if1 .left) (queued (c .before) ∙ c .if3 .taken)); shape = refl; idle = λ z. refl }
+    record { state = sym (still-held (a .c) (a .m .now) (d .before .before .if1 .left) (queued (c .before) ∙ c .if3 .taken)); shape = refl; out = refl; idle = λ z. refl }
 
 look-up-requires : tie.Need-look-up-requires
 look-up-requires c κs =
@@ -55,6 +55,7 @@ returns-4 c =
     rw (c .with-request .ensures) (record {
       state = released (a .c) (a .m .now) n (c .before .look-up .result) (omega (arith, d .if2 .left)) (queued (e .before) ∙ e .if3 .left) (c .before .look-up .ensures);
       shape = refl;
+      out = refl;
       idle = λ z. absurd (n z);
     })
 
