@@ -22,7 +22,7 @@ use Rattle.rules.specs.Draws.{draws}
 use Rattle.rules.specs.Laws.Answers.{Passed, opens, accepted-passed, step-accepted, step-refused, step-number, refuse-keeps}
 use Rattle.rules.specs.Laws.Lengths.{Whole, slot-length, contents-length}
 use Rattle.rules.specs.Laws.Range.{RequestIn}
-use Rattle.rules.specs.Laws.Released.{written-release}
+use Rattle.rules.specs.Laws.Released.{handed-release}
 use Rattle.rules.specs.Laws.Shapes.{act-shape}
 use Rattle.rules.specs.Open.{fresh}
 use Rattle.rules.specs.Questions.{Ask, opening, request, turn, completion, collect, Call, bounds, number, questions}
@@ -186,18 +186,10 @@ module _ (s : State) (w : Whole s) (q ℓ i : ℕ) where
   released : (s′ : State) (c : Command) (bs : List ℕ) → Effect s q ℓ i s′ c bs → Effect s q ℓ i (Request.release s′) c bs
   released s′ c bs e = record { whole = e .whole; shape = e .shape; kind = e .kind; sized = e .sized; out = e .out }
 
-  handed-release : (a : Ask) (s′ : State) → Run.handed s a (Request.release s′) ≡ Run.handed s a s′
-  unfolding Run.handed
-  handed-release (opening h) s′ = refl
-  handed-release (request k b bs) s′ = refl
-  handed-release turn s′ = written-release s′ (command (decide s))
-  handed-release (completion c bs) s′ = refl
-  handed-release collect s′ = refl
-
   act-effect : (a : Ask) (m : ℕ) (ws : List ℕ) (n : ℕ) (js : List ℕ) → opens a ≡ false → Was s → Passed (questions s a m ws n) →
       Effect s q ℓ i (act s a js) (Run.sentCommand s a) (Run.handed s a (act s a js))
   unfolding act
-  act-effect a m ws n js o l p = rw (handed-release a (Run.perform s a js)) (released (Run.perform s a js) _ _ (perform-effect a m ws n js o l p))
+  act-effect a m ws n js o l p = rw (handed-release s a (Run.perform s a js)) (released (Run.perform s a js) _ _ (perform-effect a m ws n js o l p))
 
   -- every call that is no open
   step-effect : (c : Call) → opens (c .ask) ≡ false → Was s → Effect s q ℓ i (step s c .0) (step s c .1 .command) (step s c .1 .bytes)

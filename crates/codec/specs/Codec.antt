@@ -3,8 +3,12 @@ use mathlib.Core.Path.{_≡_, refl, fun-ext, sym, _∙_}
 use Prim.Native.Nat.{ℕ, _+_, _*_, _/_, _%_, _<_}
 use native.Mathlib.Omega.{arith}
 use native.Mathlib.Decide.{ℕ-discrete}
+use mathlib.Core.Bool.{Bool, true, false}
 use mathlib.Core.List.{List}
 use lib.ListN.{length}
+use lib.Dec.{eqb}
+use Rattle.lists.specs.Tests.{if_then_else_}
+use Rattle.rules.specs.State.{read}
 use Rattle.lists.specs.Tables.{put, put-same, put-other}
 use Rattle.memory.specs.Words.{wordAt, setWord, word-same, word-other}
 use Rattle.memory.specs.declared.Shape.{Shape}
@@ -41,6 +45,17 @@ withShape h w = withSix 0 (h .n) (h .p) (h .l) (h .b) (h .e) (h .w) w
 
 abbrev pub withAsked : Request → (ℕ → ℕ) → ℕ → ℕ
 withAsked r w = put 18 (r .evict % 65536) (put 16 (r .next % 65536) (put 14 (r .block % 65536) (put 12 (r .kind % 65536) w)))
+
+-- words with the numbers that a turn changes, by the kind of the command that it sends; with those that a completion changes
+abbrev pub withTurn : ℕ → Client → (ℕ → ℕ) → ℕ → ℕ
+withTurn k c w =
+    let v = put 32 (c .out % 65536) (put 22 (c .request .found % 65536) w) in
+    if eqb k read then put 26 (c .cursor % 65536) (put 20 (c .request .level % 65536) v) else put 30 (c .waiting % 65536) (put 28 (c .sent % 65536) v)
+
+abbrev pub withCompletion : ℕ → Client → (ℕ → ℕ) → ℕ → ℕ
+withCompletion k c w =
+    let v = put 32 (c .out % 65536) (put 22 (c .request .found % 65536) w) in
+    if eqb k read then v else put 28 (c .sent % 65536) (put 26 (c .cursor % 65536) (put 24 (c .jobs % 65536) v))
 
 -- words with the numbers that tell how far a client is and where its request's block was found; with all but its shape
 abbrev pub withProgress : Client → (ℕ → ℕ) → ℕ → ℕ
@@ -109,6 +124,28 @@ between-six k a b c d e f w w′ h = between (k + 5) _ w _ (between (k + 4) _ w 
 
 pub between-progress : (c : Client) (w w′ : ℕ → ℕ) → Between w w′ → Between w (withProgress c w′)
 between-progress c w w′ h = between-six 11 (c .request .found) (c .jobs) (c .cursor) (c .sent) (c .waiting) (c .out) w _ (between 10 _ w w′ h)
+
+pub between-turn : (k : ℕ) (c : Client) (w : ℕ → ℕ) → Between w (withTurn k c w)
+between-turn k c w = go (eqb k read)
+  where
+    v : Between w (put 32 (c .out % 65536) (put 22 (c .request .found % 65536) w))
+    v = between 16 _ w _ (between 11 _ w w (λ k. refl))
+
+    go : (t : Bool) → Between w (if t then put 26 (c .cursor % 65536) (put 20 (c .request .level % 65536) (put 32 (c .out % 65536) (put 22 (c .request .found % 65536) w)))
+        else put 30 (c .waiting % 65536) (put 28 (c .sent % 65536) (put 32 (c .out % 65536) (put 22 (c .request .found % 65536) w))))
+    go true = between 13 _ w _ (between 10 _ w _ v)
+    go false = between 15 _ w _ (between 14 _ w _ v)
+
+pub between-completion : (k : ℕ) (c : Client) (w : ℕ → ℕ) → Between w (withCompletion k c w)
+between-completion k c w = go (eqb k read)
+  where
+    v : Between w (put 32 (c .out % 65536) (put 22 (c .request .found % 65536) w))
+    v = between 16 _ w _ (between 11 _ w w (λ k. refl))
+
+    go : (t : Bool) → Between w (if t then put 32 (c .out % 65536) (put 22 (c .request .found % 65536) w)
+        else put 28 (c .sent % 65536) (put 26 (c .cursor % 65536) (put 24 (c .jobs % 65536) (put 32 (c .out % 65536) (put 22 (c .request .found % 65536) w)))))
+    go true = v
+    go false = between 14 _ w _ (between 13 _ w _ (between 12 _ w _ v))
 
 pub between-rest : (c : Client) (w w′ : ℕ → ℕ) → Between w w′ → Between w (withRest c w′)
 between-rest c w w′ h = between-progress c w _ (between 9 _ w _ (between 8 _ w _ (between 7 _ w _ (between 6 _ w w′ h))))

@@ -1,5 +1,6 @@
 // The client's state as 68 bytes, and an answer as one number.
 use client::Client;
+use client::READ;
 use client::Request;
 use contract::Answer;
 use memory::Shape;
@@ -8,7 +9,7 @@ ghost use Prim.Native.Nat.{_*_, _%_, _≤_, _<_};
 ghost use lib.ListN.{length};
 ghost use Rattle.lists.specs.Tables.{put as putAt};
 ghost use Rattle.memory.specs.Words.{wordAt};
-ghost use Rattle.codec.specs.Codec.{stateLength, clientOf, withSix, withShape, withAsked, withProgress, withRest, packed};
+ghost use Rattle.codec.specs.Codec.{stateLength, clientOf, withSix, withShape, withAsked, withTurn, withCompletion, withProgress, withRest, packed};
 
 // The bytes of a state.
 pub const STATE: usize = 68;
@@ -102,8 +103,39 @@ fn put_request(s: &mut [u8], r: Request)
     set_number(s, 9, r.evict);
 }
 
-// Stores how far the client is, and where its request's block was found: all that a turn or a completion changes.
-pub fn encode_progress(s: &mut [u8], c: Client)
+// Stores what a turn changes that sends a command of this kind: the others stay as they are in the bytes.
+pub fn encode_turn(s: &mut [u8], c: Client, kind: usize)
+    requires { ⌜ length (now s) ≡ stateLength ⌝ }
+    ensures { λ _. ⌜ wordAt (now (s .exit)) ≡ withTurn kind c (wordAt (now (s .entry))) ⌝ }
+{
+    set_number(s, 11, c.request.found);
+    set_number(s, 16, c.out);
+    if kind == READ {
+        set_number(s, 10, c.request.level);
+        set_number(s, 13, c.cursor);
+        return;
+    }
+    set_number(s, 14, c.sent);
+    set_number(s, 15, c.waiting);
+}
+
+// Stores what the completion of a command of this kind changes.
+pub fn encode_completion(s: &mut [u8], c: Client, kind: usize)
+    requires { ⌜ length (now s) ≡ stateLength ⌝ }
+    ensures { λ _. ⌜ wordAt (now (s .exit)) ≡ withCompletion kind c (wordAt (now (s .entry))) ⌝ }
+{
+    set_number(s, 11, c.request.found);
+    set_number(s, 16, c.out);
+    if kind == READ {
+        return;
+    }
+    set_number(s, 12, c.jobs);
+    set_number(s, 13, c.cursor);
+    set_number(s, 14, c.sent);
+}
+
+// Stores how far the client is, and where its request's block was found.
+fn encode_progress(s: &mut [u8], c: Client)
     requires { ⌜ length (now s) ≡ stateLength ⌝ }
     ensures { λ _. ⌜ wordAt (now (s .exit)) ≡ withProgress c (wordAt (now (s .entry))) ⌝ }
 {

@@ -27,7 +27,7 @@ use Rattle.tape.specs.Tape.{wordsOf}
 use Rattle.contract.specs.declared.Answer.{Answer}
 use Rattle.contract.specs.Answers.{clearedClient}
 use Rattle.contract.specs.Meets.{Meets, callOf, commandOf, unasked}
-use Rattle.codec.specs.Codec.{stateLength, clientOf, reshaped, lowShape, lowClient, withShape, withProgress, withRest, rest-is, progress-is, stored-is, Between, between-progress, between-rest, between-shape, packed, answerOf}
+use Rattle.codec.specs.Codec.{stateLength, clientOf, reshaped, lowShape, lowClient, withShape, withRest, progressed, rest-is, stored-is, Between, between-rest, between-shape, packed, answerOf}
 use Rattle.exports.specs.Idle.{Idle, rest-idle, progress-idle}
 use Rattle.exports.specs.Progress.{same-state}
 use Rattle.exports.specs.Small.{SmallCommand, accepted-small, accepted-found, low-shape, low-client}
@@ -248,15 +248,15 @@ module _ (a : Ask) (four : opens a ≡ false) (st m tape b : List ℕ) (r : Answ
       ap (λ x. stateOf x m′) (rest-is (r .client) (wordAt st) ∙ ap (λ x. reshaped x (lowClient (r .client))) (shape-low z)) ∙ left-low (clientIn st) s a m tape b r m′ b′ k z)
       (λ z. subst (Idle a (clientIn st .request)) (sym (rest-is (r .client) (wordAt st))) (rest-idle st a (r .client) m′ (left-low (clientIn st) s a m tape b r m′ b′ k z) (k .idle z)))
 
-  -- ..by a call that changes no more of the request than its level, and where its block was found
-  pub exported-progress : ((js : List ℕ) → asked (act s a js .request) ≡ asked (s .request)) → unasked a (clientIn st .request) ≡ clientIn st .request → HandedBack (withProgress (r .client)) r u st st′
-      → Exported a st m tape b u st′ m′ b′
-  exported-progress e n h = handed (withProgress (r .client)) h (between-progress (r .client) (wordAt st) (wordAt st) (λ k. refl)) (λ z.
+  -- ..by a call that changes no more of the request than its level, and where its block was found. The bytes then say how far the client is
+  pub exported-progress : (stored : (ℕ → ℕ) → ℕ → ℕ) → Between (wordAt st) (stored (wordAt st)) → (r .number ≡ 0 → clientOf (stored (wordAt st)) ≡ progressed (clientIn st) (lowClient (r .client)))
+      → ((js : List ℕ) → asked (act s a js .request) ≡ asked (s .request)) → unasked a (clientIn st .request) ≡ clientIn st .request → HandedBack stored r u st st′ → Exported a st m tape b u st′ m′ b′
+  exported-progress stored between says e n h = handed stored h between (λ z.
       let low = left-low (clientIn st) s a m tape b r m′ b′ k z in
-      ap (λ x. stateOf x m′) (progress-is (r .client) (wordAt st))
+      ap (λ x. stateOf x m′) (says z)
       ∙ same-state (clientIn st) (lowClient (r .client)) m m′ (shape-low z) (ap (λ (x : State). asked (x .request)) low ∙ left-asked (clientIn st) s a m tape b r m′ b′ k z e)
       ∙ low)
-      (λ z. subst (Idle a (clientIn st .request)) (sym (progress-is (r .client) (wordAt st))) (λ y. progress-idle st (r .client) m m′ (left-asked (clientIn st) s a m tape b r m′ b′ k z e) (λ x. k .idle z x ∙ n) y ∙ sym n))
+      (λ z. subst (Idle a (clientIn st .request)) (sym (says z)) (λ y. progress-idle st (r .client) m m′ (left-asked (clientIn st) s a m tape b r m′ b′ k z e) (λ x. k .idle z x ∙ n) y ∙ sym n))
 
 -- with a state of another length each of the four calls answers 2 at once
 pub exported-length : {a : Ask} {st m tape b : List ℕ} → (length st ≡ stateLength → ⊥) → Exported a st m tape b 2 st m b

@@ -43,7 +43,7 @@ module _ (st : List ℕ) where
   given = clientOf (wordAt st) .request
 
   -- numbers read off bytes are below 2^16
-  low-word : (k : ℕ) → wordAt st k % 65536 ≡ wordAt st k
+  pub low-word : (k : ℕ) → wordAt st k % 65536 ≡ wordAt st k
   low-word k = mod-eq-of-lt (wordAt-lt st k)
 
   low-given : lowRequest given ≡ given

@@ -13,7 +13,7 @@ ghost use Rattle.rules.specs.Shape.{within};
 ghost use Rattle.rules.specs.State.{cmd};
 ghost use Rattle.rules.specs.Questions.{request, turn, completion as completionOf, collect};
 ghost use Rattle.memory.specs.Fits.{shapeOf};
-ghost use Rattle.codec.specs.Codec.{stateLength, withProgress, withRest, packed};
+ghost use Rattle.codec.specs.Codec.{stateLength, withTurn, withCompletion, withRest, packed};
 ghost use Rattle.contract.specs.Answers.{refusedWith, acceptedWith};
 ghost use Rattle.exports.specs.Exported.{Opened, Exported, HandedBack, HandedBackOpened, numbers};
 ghost use Rattle.exports.specs.Paged.{Paged};
@@ -30,15 +30,27 @@ fn hand_back(state: &mut [u8], r: Answer) -> u64
     codec::pack(r)
 }
 
-// So it is by a turn and a completion, which don't change what the request asks for either.
-fn hand_back_progress(state: &mut [u8], r: Answer) -> u64
+// A turn changes what the command that it sends says.
+fn hand_back_turn(state: &mut [u8], r: Answer) -> u64
     requires { ⌜ length (now state) ≡ stateLength ⌝ }
-    ensures { λ u. ⌜ HandedBack (withProgress (r .client)) r u (now (state .entry)) (now (state .exit)) ⌝ }
+    ensures { λ u. ⌜ HandedBack (withTurn (r .kind) (r .client)) r u (now (state .entry)) (now (state .exit)) ⌝ }
 {
     if r.number != 0 {
         return codec::pack(r);
     }
-    codec::encode_progress(state, r.client);
+    codec::encode_turn(state, r.client, r.kind);
+    codec::pack(r)
+}
+
+// A completion changes what the command that is completed says.
+fn hand_back_completion(state: &mut [u8], r: Answer, kind: usize) -> u64
+    requires { ⌜ length (now state) ≡ stateLength ⌝ }
+    ensures { λ u. ⌜ HandedBack (withCompletion kind (r .client)) r u (now (state .entry)) (now (state .exit)) ⌝ }
+{
+    if r.number != 0 {
+        return codec::pack(r);
+    }
+    codec::encode_completion(state, r.client, kind);
     codec::pack(r)
 }
 
@@ -117,7 +129,7 @@ pub extern "C" fn rinwolfedd_turn(
     }
     let c = codec::decode(state);
     let r = turning::turn(c, memory, tape, buffer);
-    hand_back_progress(state, r)
+    hand_back_turn(state, r)
 }
 
 #[no_mangle]
@@ -137,7 +149,7 @@ pub extern "C" fn rinwolfedd_completion(
     }
     let c = codec::decode(state);
     let r = completing::completion(c, memory, kind, partition, level, slot, bytes);
-    hand_back_progress(state, r)
+    hand_back_completion(state, r, kind)
 }
 
 #[no_mangle]

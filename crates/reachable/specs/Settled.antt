@@ -11,11 +11,11 @@ use borrow.Author.Tests.{eqb-true, eqb-false}
 use Rattle.lists.specs.Members.{member-mem}
 use Rattle.lists.specs.Search.{isNone}
 use Rattle.lists.specs.Tests.{if_then_else_, and-true, both-true}
-use Rattle.rules.specs.Before.{untold, heldOnly, withoutFound, heldByRule, before}
+use Rattle.rules.specs.Before.{untold, heldOnly, withoutFound, heldByRule, stepBefore, before}
 use Rattle.rules.specs.Blocks.{lookUp}
 use Rattle.rules.specs.Draws.{draws}
 use Rattle.rules.specs.Laws.Answers.{step-accepted, step-refused}
-use Rattle.rules.specs.Laws.Before.{step-silent}
+use Rattle.rules.specs.Laws.Before.{step-silent, step-before}
 use Rattle.rules.specs.Laws.Kept
 use Rattle.rules.specs.Questions.{Ask, opening, request, turn, completion, collect, Call, bounds, number}
 use Rattle.rules.specs.Request.{blocked, held, withFound, releasedIn, release}
@@ -105,13 +105,23 @@ left : (s : State) → Was s → Kept.Left s
 left s (shut e) = Kept.shut e
 left s (live f) = Kept.live (f .range)
 
--- The outcomes but for where a block was found are those of document 01's rules, from a state that differs in that alone
-pub runs-before : (cs : List Call) (s t : State) → Was s → Settled s → withoutFound s ≡ withoutFound t → map untold (run s cs) ≡ before t cs
+-- A call, and one of document 01's rules in a state that differs in where the block was found alone: the same is answered, and they leave such states
+module _ (c : Call) (s t : State) (l : Was s) (k : Settled s) (e : heldByRule s ≡ heldByRule t) where
+  same : heldByRule t ≡ withoutFound s
+  same = sym e ∙ rule-same s l k
+
+  told-before : untold (step s c .1) ≡ stepBefore (heldByRule t) c .1
+  told-before = sym (step-silent s (left s l) c .0) ∙ ap (λ x. untold (step x c .1)) (sym same) ∙ step-before (heldByRule t) c .0
+
+  left-before : heldByRule (step s c .0) ≡ heldByRule (stepBefore (heldByRule t) c .0)
+  left-before =
+      sym (rule-without (step s c .0)) ∙ ap heldByRule (sym (step-silent s (left s l) c .1)) ∙ rule-without (step (withoutFound s) c .0)
+      ∙ ap (λ x. heldByRule (step x c .0)) (sym same) ∙ step-before (heldByRule t) c .1
+
+-- The outcomes of a run but for where a block was found are those of document 01's rules
+pub runs-before : (cs : List Call) (s t : State) → Was s → Settled s → heldByRule s ≡ heldByRule t → map untold (run s cs) ≡ before t cs
 unfolding run before
 runs-before [] s t l k e = refl
 runs-before (c ∷ cs) s t l k e =
-    let same : heldByRule t ≡ withoutFound s = sym (rule-without t) ∙ ap heldByRule (sym e) ∙ rule-without s ∙ rule-same s l k in
-    let a = step-silent s (left s l) c in
-    let told : untold (step s c .1) ≡ untold (step (heldByRule t) c .1) = sym (a .0) ∙ ap (λ x. untold (step x c .1)) (sym same) in
-    let rest = runs-before cs (step s c .0) (step (heldByRule t) c .0) (step-was s c l) (step-settles s c k) (sym (a .1) ∙ ap (λ x. withoutFound (step x c .0)) (sym same)) in
-    λ i. told i ∷ rest i
+    let rest = runs-before cs (step s c .0) (stepBefore (heldByRule t) c .0) (step-was s c l) (step-settles s c k) (left-before c s t l k e) in
+    λ i. told-before c s t l k e i ∷ rest i

@@ -13,11 +13,12 @@ use borrow.Author.Tests.{leb-false}
 use Rattle.lists.specs.All.{All}
 use Rattle.lists.specs.Search.{find, any, orElse}
 use Rattle.lists.specs.Totals.{total}
-use Rattle.rules.specs.Before.{untold, heldByRule, before}
+use Rattle.rules.specs.Before.{untold, heldByRule, stepBefore, before}
 use Rattle.rules.specs.Blocks.{isUnread}
 use Rattle.rules.specs.Completion.{isCommand}
 use Rattle.rules.specs.Figures.{nowhereBlocks, storedBlocks, waitingBlocks, jobsFor}
 use Rattle.rules.specs.Laws.Answers.{opens}
+use Rattle.rules.specs.Laws.Before.{step-before}
 use Rattle.rules.specs.Laws.Figures.{places-add, ColumnsAdd, columns-add, front-counts}
 use Rattle.rules.specs.Levels.{filled, sources}
 use Rattle.rules.specs.Memory.{needed}
@@ -95,9 +96,9 @@ module _ (s : State) (c : Call) (h : Shape) (first : c .ask ≡ opening h) (cs :
   pub as-before : map untold (run s (c ∷ cs)) ≡ before s (c ∷ cs)
   unfolding run before
   as-before =
-      let same : step (heldByRule s) c ≡ step s c = open-first (heldByRule s) c h first ∙ sym (open-first s c h first) in
-      let told = ap (λ (x : State × Outcome). untold (x .1)) (sym same) in
-      let rest = runs-before cs (step s c .0) (step s c .0) opened-was opened-settled refl ∙ ap (λ (x : State × Outcome). before (x .0) cs) (sym same) in
+      let same : step s c ≡ step (heldByRule s) c = open-first s c h first ∙ sym (open-first (heldByRule s) c h first) in
+      let told = ap (λ (x : State × Outcome). untold (x .1)) same ∙ step-before (heldByRule s) c .0 in
+      let rest = runs-before cs (step s c .0) (stepBefore (heldByRule s) c .0) opened-was opened-settled (ap (λ (x : State × Outcome). heldByRule (x .0)) same ∙ step-before (heldByRule s) c .1) in
       λ i. told i ∷ rest i
 
   -- ---- "Then it sends one read to each filled level of p": while a request that isn't held has a filled level left, a turn reads the first of

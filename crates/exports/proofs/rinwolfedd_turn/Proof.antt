@@ -1,9 +1,6 @@
-use mathlib.Core.Path.{refl}
 use native.Mathlib.Omega.{arith}
-use Rattle.rules.specs.Questions.{turn}
-use Rattle.rules.specs.Laws.Answers.{opens}
-use Rattle.rules.specs.Laws.Asked.{turn-asked}
-use Rattle.exports.specs.Exported.{exported-progress, exported-length}
+use Rattle.exports.specs.Stored.{exported-turn}
+use Rattle.exports.specs.Exported.{exported-length}
 use Rattle.exports.proofs.rinwolfedd_turn.Statement.{statement}
 use Rattle.exports.proofs.rinwolfedd_turn.Tie as tie
 
@@ -16,8 +13,8 @@ decode-requires c κs = omega arith
 turn-requires : tie.Need-turn-requires
 turn-requires c κs = omega arith
 
-hand-back-progress-requires : tie.Need-hand-back-progress-requires
-hand-back-progress-requires c κs = omega arith
+hand-back-turn-requires : tie.Need-hand-back-turn-requires
+hand-back-turn-requires c κs = omega arith
 
 same-length : tie.Need-same-length
 same-length c = omega arith
@@ -30,11 +27,11 @@ same-length-3 c = omega arith
 
 returns-2 : tie.Need-returns-2
 returns-2 c =
-    let h = c .before .before .hand-back-progress in
+    let h = c .before .before .hand-back-turn in
     let r = c .before .before .before .before .before .before .before .before .turn in
     let d = c .before .before .before .before .before .before .before .before .before .before .before .decode in
     let a = c .before .before .before .before .before .before .before .before .before .before .before .before .before .before .before .before .before .before .args in
-    exported-progress (turn) (unfold opens in refl) (a .state .now) (a .memory .now) (a .tape .now) (a .buffer .now) (r .result) (h .result) _ _ _ (c .before .before .before .before .before .before .before .before .before .before .before .before .before .if1 .left) (rw (← d .ensures) (r .ensures)) (turn-asked _) refl (h .ensures)
+    exported-turn (a .state .now) (a .memory .now) (a .tape .now) (a .buffer .now) (d .result) (r .result) (h .result) _ _ _ (c .before .before .before .before .before .before .before .before .before .before .before .before .before .if1 .left) (d .ensures) (r .ensures) (h .ensures)
 
 pub rinwolfedd-turn-spec : {M : Type 1} → statement M
 rinwolfedd-turn-spec =
@@ -43,7 +40,7 @@ rinwolfedd-turn-spec =
     returns
     decode-requires
     turn-requires
-    hand-back-progress-requires
+    hand-back-turn-requires
     same-length
     same-length-2
     same-length-3

@@ -10,7 +10,7 @@ use borrow.Author.Tests.{eqb-true, eqb-false}
 use Rattle.lists.specs.All.{IfSome}
 use Rattle.lists.specs.Search.{isNone}
 use Rattle.lists.specs.Tests.{if_then_else_}
-use Rattle.rules.specs.Before.{untold, heldOnly, withoutFound}
+use Rattle.rules.specs.Before.{untold, heldOnly, withoutFound, heldByRule, performed, stepBefore}
 use Rattle.rules.specs.Blocks
 use Rattle.rules.specs.Collect
 use Rattle.rules.specs.Completion
@@ -19,7 +19,7 @@ use Rattle.rules.specs.Laws.Answers.{step-accepted, step-refused}
 use Rattle.rules.specs.Laws.Kept.{Left, shut, live, step-left}
 use Rattle.rules.specs.Laws.Range.{InRange, FoundIn, RequestIn, JobsIn, facts-range}
 use Rattle.rules.specs.Laws.RangeSetters.{inRequest}
-use Rattle.rules.specs.Laws.Released.{written-same}
+use Rattle.rules.specs.Laws.Released.{written-same, handed-release, rule-release}
 use Rattle.rules.specs.Laws.Waiting.{Waits}
 use Rattle.rules.specs.Memory.{needed}
 use Rattle.rules.specs.Rebuild
@@ -148,7 +148,7 @@ module _ (s : State) where
   possible-without (writeNext q t i) = refl
 
   finished-without : (o : Option Request) → Questions.inHand (Collect.finished (withoutFound s)) (without o) ≡ Questions.inHand (Collect.finished s) o
-  unfolding Questions.inHand Collect.finished Request.levelsLeft
+  unfolding Questions.inHand Collect.finished Request.levelsLeft Blocks.holder
   finished-without none = refl
   finished-without (some r) = rw (held-same (held r) r)
 
@@ -281,3 +281,21 @@ silent (c ∷ cs) s t k l e =
     let told : untold (step s c .1) ≡ untold (step t c .1) = sym (a .0) ∙ ap (λ x. untold (step x c .1)) e ∙ b .0 in
     let rest = silent cs (step s c .0) (step t c .0) (step-left s c k) (step-left t c l) (sym (a .1) ∙ ap (λ x. withoutFound (step x c .0)) e ∙ b .1) in
     λ i. told i ∷ rest i
+
+-- A call of document 01's rules answers the same and leaves the same, but for what was found
+pub step-before : (s : State) (c : Call) → (untold (step s c .1) ≡ stepBefore s c .1) × (heldByRule (step s c .0) ≡ heldByRule (stepBefore s c .0))
+unfolding stepBefore performed Run.accepted Run.refused
+step-before s c = go (eqb (number s c) 0) refl
+  where
+    go : (t : Bool) → eqb (number s c) 0 ≡ t → (untold (step s c .1) ≡ stepBefore s c .1) × (heldByRule (step s c .0) ≡ heldByRule (stepBefore s c .0))
+    go true e = rw (step-accepted s c (eqb-true (number s c) 0 e), e) (
+      (unfold act in (λ i. record {
+        number = 0;
+        taken = Run.takenOf (draws (bounds s (c .ask)) (c .words));
+        command = Run.sentCommand s (c .ask);
+        bytes = handed-release s (c .ask) (perform s (c .ask) (Run.numbersOf (draws (bounds s (c .ask)) (c .words)))) i;
+        found = foundNowhere;
+      })),
+      unfold act in (rule-release (perform s (c .ask) (Run.numbersOf (draws (bounds s (c .ask)) (c .words))))),
+    )
+    go false e = rw (step-refused s c (eqb-false (number s c) 0 e), e) (refl, refl)

@@ -5,10 +5,9 @@ use mathlib.Core.List.{List, [], _∷_}
 use mathlib.Core.Option.{Option, none, some, Option·getD, Option·map}
 use Prim.Native.Nat.{ℕ}
 use native.Mathlib.Omega.{arith}
-use lib.ListN.{length}
 use lib.Dec.{eqb}
 use borrow.Author.Tests.{eqb-true, eqb-false}
-use Rattle.lists.specs.Search.{isNone, any, member}
+use Rattle.lists.specs.Search.{isNone, member}
 use Rattle.lists.specs.Tests.{if_then_else_}
 use Rattle.rules.specs.Blocks.{lookUp}
 use Rattle.rules.specs.Collect.{carried, finished}
@@ -17,7 +16,7 @@ use Rattle.rules.specs.Laws.Answers.{Passed, opens, accepted-passed, ste
 use Rattle.rules.specs.Laws.Shapes.{complete-keeps}
 use Rattle.rules.specs.Questions.{Ask, opening, request, turn, completion, collect, Call, bounds, questions, number, inHand}
 use Rattle.rules.specs.Rebuild.{doRebuild}
-use Rattle.rules.specs.Request.{accept, blocked, held, withFound, releasedIn, release, levelsLeft, passLevel}
+use Rattle.rules.specs.Request.{accept, blocked, held, withFound, releasedIn, release, passLevel}
 use Rattle.rules.specs.Run
 use Rattle.rules.specs.Run.{act, perform, step, after}
 use Rattle.rules.specs.Shape.{Shape}
@@ -128,12 +127,12 @@ unfinished : (s : State) (b : ℕ) → hand (s .request) ≡ some (b, none) → 
 unfolding inHand finished held isNone
 unfinished s b e = go (s .request) e
   where
-    by : (r : Request) → r .found ≡ none → (not (isNone (r .found)) && eqb (length (levelsLeft s r)) 0 && not (any (λ c. eqb (c .partition) (s .partition (r .block))) (s .outstanding))) ≡ true → ⊥
-    by r w = rw w (λ k. true≢false (sym k))
+    by : (r : Request) (x y : Bool) → r .found ≡ none → (not (isNone (r .found)) && x && y) ≡ true → ⊥
+    by r x y w = rw w (λ k. true≢false (sym k))
 
     go : (o : Option Request) → hand o ≡ some (b, none) → inHand (finished s) o ≡ true → ⊥
     go none w k = true≢false (sym k)
-    go (some r) w k = by r (ap (λ (p : Hand). p .1) (one-hand (r .block, r .found) (b, none) w)) k
+    go (some r) w k = by r _ _ (ap (λ (p : Hand). p .1) (one-hand (r .block, r .found) (b, none) w)) k
 
 carried-hand : (o : Option Request) (b : ℕ) (x : Found) → hand o ≡ some (b, some x) → carried o ≡ x
 unfolding carried
