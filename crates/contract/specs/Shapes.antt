@@ -1,14 +1,14 @@
 -- The bounds of a shape, as the code tests them: first the numbers, and the product once they are small.
-use mathlib.Core.Path.{_≡_, refl, sym}
+use mathlib.Core.Path.{_≡_, refl, sym, _∙_}
 use mathlib.Core.Bool.{Bool, true, false, not, _&&_}
 use mathlib.Core.List.{List, [], _∷_}
-use Prim.Native.Nat.{ℕ, zero, suc, _-_, _*_, _^_, _≤_, _<_}
+use Prim.Native.Nat.{ℕ, zero, suc, _-_, _*_, _^_, _≤_}
 use native.Mathlib.Omega.{arith}
-use native.Mathlib.Decide.{ℕ-discrete, decLe}
+use native.Mathlib.Decide.{ℕ-discrete}
 use lib.Bits.{bitAnd}
 use lib.Dec.{eqb, leb}
-use borrow.Author.Tests.{leb-true, lt-leb, ne-eqb}
-use Rattle.lists.specs.Tests.{every, between, and-l, and-r}
+use borrow.Author.Tests.{leb-true, le-leb}
+use Rattle.lists.specs.Tests.{every, between, and-l, and-r, and-true}
 use Rattle.lists.specs.Search.{any, member}
 use Rattle.rules.specs.Shape.{within}
 use Rattle.memory.specs.Fits.{shapeOf, parts-le}
@@ -24,7 +24,7 @@ and-yes false = refl
 
 -- the bit of a power of two is gone from the number before it; up to 64 this is computed
 abbrev oneBit : ℕ → Bool
-oneBit p = leb p 64 && eqb (bitAnd p (p - 1)) 0
+oneBit p = eqb (bitAnd p (p - 1)) 0
 
 abbrev powers : List ℕ
 powers = 1 ∷ 2 ∷ 4 ∷ 8 ∷ 16 ∷ 32 ∷ 64 ∷ []
@@ -57,28 +57,16 @@ agree-all : agree 64 ≡ true
 unfolding agree same member any
 agree-all = refl
 
-over : (p : ℕ) → 64 < p → member p powers ≡ false
-unfolding member any
-over p l = rw (
-  ne-eqb p 1 (λ e. omega arith),
-  ne-eqb p 2 (λ e. omega arith),
-  ne-eqb p 4 (λ e. omega arith),
-  ne-eqb p 8 (λ e. omega arith),
-  ne-eqb p 16 (λ e. omega arith),
-  ne-eqb p 32 (λ e. omega arith),
-  ne-eqb p 64 (λ e. omega arith),
-)
+pub power-is : (p : ℕ) → 1 ≤ p → p ≤ 64 → eqb (bitAnd p (p - 1)) 0 ≡ member p (1 ∷ 2 ∷ 4 ∷ 8 ∷ 16 ∷ 32 ∷ 64 ∷ [])
+power-is p = agree-at 64 p agree-all
 
-pub power-is : (p : ℕ) → (p ≡ 0 → ⊥) → (leb p 64 && eqb (bitAnd p (p - 1)) 0) ≡ member p (1 ∷ 2 ∷ 4 ∷ 8 ∷ 16 ∷ 32 ∷ 64 ∷ [])
-power-is p n = go (decLe p 64)
+-- none of them is out of that range
+pub power-none : (p : ℕ) → (leb 1 p && leb p 64) ≡ false → false ≡ member p (1 ∷ 2 ∷ 4 ∷ 8 ∷ 16 ∷ 32 ∷ 64 ∷ [])
+power-none p t = go (member p powers) refl
   where
-    go : Dec (p ≤ 64) → oneBit p ≡ member p powers
-    go (yes l) = agree-at 64 p agree-all (omega (arith, n)) l
-    go (no l) = rw (lt-leb p 64 (omega arith)) (sym (over p (omega arith)))
-
-pub power-zero : (p : ℕ) → p ≡ 0 → false ≡ member p (1 ∷ 2 ∷ 4 ∷ 8 ∷ 16 ∷ 32 ∷ 64 ∷ [])
-unfolding member any
-power-zero p e = rw e
+    go : (a : Bool) → member p powers ≡ a → false ≡ a
+    go false e = refl
+    go true e = let l = parts-le p e in sym t ∙ and-true (le-leb 1 p (l .0)) (le-leb p 64 (l .1))
 
 abbrev pub small : Shape → Bool
 small h = (((((((((leb 1 (h .n) && leb (h .n) 4096) && member (h .p) (1 ∷ 2 ∷ 4 ∷ 8 ∷ 16 ∷ 32 ∷ 64 ∷ [])) && leb 1 (h .l)) && leb (h .l) 8) && leb 1 (h .b)) && leb (h .b) 512) && leb 1 (h .e)) && leb (h .e) (h .n)) && leb 1 (h .w)) && leb (h .w) 32

@@ -102,14 +102,14 @@ pub fn closed() -> Client
     }
 }
 
-// Whether P is 1, 2, 4, .. 64: at most 64, and it shares no bit with P - 1, as powers of two alone do.
+// Whether P is 1, 2, 4, .. 64: from 1 to 64, and it shares no bit with P - 1, as powers of two alone do.
 fn is_power(p: usize) -> bool
     ensures { λ r. ⌜ r ≡ member p (1 ∷ 2 ∷ 4 ∷ 8 ∷ 16 ∷ 32 ∷ 64 ∷ []) ⌝ }
 {
-    if p == 0 {
+    if !((1 <= p) & (p <= 64)) {
         return false;
     }
-    (p <= 64) & (p & (p - 1) == 0)
+    p & (p - 1) == 0
 }
 
 // Whether the shape is within bounds.
