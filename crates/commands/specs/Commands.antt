@@ -102,8 +102,33 @@ unfolding isCommand commandBy
 is-command h k q y a x l =
     and-assoc (eqb k (kindOf a) && eqb q (fit (h .P) (a % writeFrom))) _ _ ∙ ap (λ t. eqb k (kindOf a) && eqb q (fit (h .P) (a % writeFrom)) && t) (same-spot (h .L) y (spotOf (h .L) x) l (spot-two (h .L) x))
 
+-- the two numbers that a send stores are read as the command
+stored-is : (h : R.Shape) (k q y : ℕ) → 1 ≤ k → k ≤ 2 → h .P ≤ 64 → q < h .P → 2 ≤ y → y < slots (h .L) → commandBy h (q + writeFrom * (k - 1)) y ≡ spotCommand (h .L) k q y
+unfolding commandBy spotOf
+stored-is h k q y a b c d l u = λ z. spotCommand (h .L) (kind-is (decLt k 2) z) (partition-is z) (spot-is z)
+  where
+    kind-is : Dec (k < 2) → kindOf (q + writeFrom * (k - 1)) ≡ k
+    kind-is (yes e) = rw (lt-ltb (q + writeFrom * (k - 1)) writeFrom (omega arith)) (omega arith)
+    kind-is (no e) = rw (le-ltb (q + writeFrom * (k - 1)) writeFrom (omega arith)) (omega arith)
+
+    partition-is : fit (h .P) ((q + writeFrom * (k - 1)) % writeFrom) ≡ q
+    partition-is = let e : (q + writeFrom * (k - 1)) % writeFrom ≡ q = omega arith in rw e (fit-in (h .P) q d)
+
+    spot-is : (if ltb (fit (slots (h .L)) y) 2 then 2 else fit (slots (h .L)) y) ≡ y
+    spot-is = rw (fit-in (slots (h .L)) y u, le-ltb y 2 l)
+
+command-same : (d : Command) → isCommand d d ≡ true
+unfolding isCommand
+command-same d = rw (eq-eqb (d .kind) _ refl, eq-eqb (d .partition) _ refl, eq-eqb (d .level) _ refl, eq-eqb (d .slot) _ refl)
+
+-- so one that has these numbers is the command
+pub as-stored : (h : R.Shape) (k q y a x : ℕ) → 1 ≤ k → k ≤ 2 → h .P ≤ 64 → q < h .P → 2 ≤ y → y < slots (h .L) → (eqb a (q + writeFrom * (k - 1)) && eqb x y) ≡ true → isCommand (spotCommand (h .L) k q y) (commandBy h a x) ≡ true
+as-stored h k q y a x f g p d l u t =
+    let e : commandBy h a x ≡ spotCommand (h .L) k q y = (λ z. commandBy h (eqb-true a _ (and-l _ (eqb x y) t) z) (eqb-true x y (and-r (eqb a _) _ t) z)) ∙ stored-is h k q y f g p d l u in
+    ap (isCommand (spotCommand (h .L) k q y)) e ∙ command-same _
+
 -- no command out of range is outstanding
-pub none-such : (c : Client) (m : List ℕ) (k q ℓ i : ℕ) → Room c m → (ℓ < c .shape .l → slots ℓ ≤ i) → any (isCommand (cmd k q ℓ i)) (stateOf c m .outstanding) ≡ false
+pub none-such : (c : Client) (m : List ℕ) (k q ℓ i : ℕ) → Room c m → (q < c .shape .p → ℓ < c .shape .l → slots ℓ ≤ i) → any (isCommand (cmd k q ℓ i)) (stateOf c m .outstanding) ≡ false
 unfolding isCommand
 none-such c m k q ℓ i r f = rw outstanding-is (any-miss (isCommand (cmd k q ℓ i)) (commandIn (c .shape) m) (c .out) (λ x l. go x (isCommand (cmd k q ℓ i) (commandIn (c .shape) m x)) refl))
   where
@@ -113,26 +138,17 @@ none-such c m k q ℓ i r f = rw outstanding-is (any-miss (isCommand (cmd k q �
         let d = commandIn (c .shape) m x in
         let n = command-range (shapeOf (c .shape)) (tablesOf (shapeOf (c .shape)) m .kinds x) (tablesOf (shapeOf (c .shape)) m .spots x) (r .someLevels) (r .somePartitions) in
         let a = and-l (eqb k (d .kind) && eqb q (d .partition) && eqb ℓ (d .level)) (eqb i (d .slot)) e in
+        let b = and-l (eqb k (d .kind) && eqb q (d .partition)) (eqb ℓ (d .level)) a in
+        let w = eqb-true q (d .partition) (and-r (eqb k (d .kind)) (eqb q (d .partition)) b) in
         let p = eqb-true ℓ (d .level) (and-r (eqb k (d .kind) && eqb q (d .partition)) (eqb ℓ (d .level)) a) in
         let s = eqb-true i (d .slot) (and-r (eqb k (d .kind) && eqb q (d .partition) && eqb ℓ (d .level)) (eqb i (d .slot)) e) in
-        absurd (omega (arith, n .level, n .slot, ap slots p, f (omega (arith, n .level))))
+        absurd (omega (arith, n .level, n .slot, ap slots p, f (omega (arith, n .partition)) (omega (arith, n .level))))
 
 -- ---- Changes
 
 -- the numbers that are stored say the command
 pub command-is : (h : R.Shape) (k q ℓ i : ℕ) → 1 ≤ k → k ≤ 2 → h .P ≤ 64 → q < h .P → ℓ < h .L → i < slots ℓ → commandBy h (q + writeFrom * (k - 1)) (slots ℓ + i) ≡ cmd k q ℓ i
-unfolding commandBy spotOf
-command-is h k q ℓ i a b c d l u = (λ z. spotCommand (h .L) (kind-is (decLt k 2) z) (partition-is z) (spot-is z)) ∙ spot-command (h .L) k q ℓ i l u
-  where
-    kind-is : Dec (k < 2) → kindOf (q + writeFrom * (k - 1)) ≡ k
-    kind-is (yes e) = rw (lt-ltb (q + writeFrom * (k - 1)) writeFrom (omega arith)) (omega arith)
-    kind-is (no e) = rw (le-ltb (q + writeFrom * (k - 1)) writeFrom (omega arith)) (omega arith)
-
-    partition-is : fit (h .P) ((q + writeFrom * (k - 1)) % writeFrom) ≡ q
-    partition-is = let e : (q + writeFrom * (k - 1)) % writeFrom ≡ q = omega arith in rw e (fit-in (h .P) q d)
-
-    spot-is : (if ltb (fit (slots (h .L)) (slots ℓ + i)) 2 then 2 else fit (slots (h .L)) (slots ℓ + i)) ≡ slots ℓ + i
-    spot-is = rw (fit-in (slots (h .L)) (slots ℓ + i) (offset-lt (h .L) ℓ i l u), le-ltb (slots ℓ + i) 2 (omega (arith, pow-mono {i = 1} {j = ℓ + 1} (omega arith))))
+command-is h k q ℓ i a b c d l u = stored-is h k q (slots ℓ + i) a b c d (omega (arith, pow-mono {i = 1} {j = ℓ + 1} (omega arith))) (offset-lt (h .L) ℓ i l u) ∙ spot-command (h .L) k q ℓ i l u
 
 -- only the two tables are changed
 pub out-stands : (c : Client) (m₀ m : List ℕ) (f g : ℕ → ℕ) (n : ℕ) (ds : List Command) → tablesOf (shapeOf (c .shape)) m ≡ withSpots g (withKinds f (tablesOf (shapeOf (c .shape)) m₀)) → rows (λ i. commandBy (shapeOf (c .shape)) (f i) (g i)) n ≡ ds

@@ -55,11 +55,14 @@ pub fn is_writing(c: Client, m: &[u8]) -> bool
     false
 }
 
-// The place of an outstanding command of this kind, partition, level and slot.
+// The place of an outstanding command of this kind, partition, level and slot. None of them is outside the shape.
 pub fn find(c: Client, m: &[u8], kind: usize, q: usize, l: usize, i: usize) -> Found
     requires { ⌜ Room c (now m) × (c .out ≤ 32) × (1 ≤ kind) × (kind ≤ 2) ⌝ }
     ensures { λ r. ⌜ Outstanding (cmd kind q l i) (stateOf c (now (m .entry)) .outstanding) r ⌝ }
 {
+    if c.shape.p <= q {
+        return Found::Nothing;
+    }
     let levels = c.shape.l;
     if levels <= l {
         return Found::Nothing;
@@ -73,7 +76,7 @@ pub fn find(c: Client, m: &[u8], kind: usize, q: usize, l: usize, i: usize) -> F
 
 // The same, by the number of the slot, slots(level) + slot.
 fn search(c: Client, m: &[u8], kind: usize, q: usize, spot: usize) -> Found
-    requires { ⌜ Room c (now m) × (c .out ≤ 32) × (2 ≤ spot) ⌝ }
+    requires { ⌜ Room c (now m) × (c .out ≤ 32) × (1 ≤ kind) × (kind ≤ 2) × (q < c .shape .p) × (2 ≤ spot) × (spot < slots (c .shape .l)) ⌝ }
     ensures { λ r. ⌜ Outstanding (spotCommand (c .shape .l) kind q spot) (stateOf c (now (m .entry)) .outstanding) r ⌝ }
 {
     let n = c.out;
@@ -87,12 +90,16 @@ fn search(c: Client, m: &[u8], kind: usize, q: usize, spot: usize) -> Found
     Found::Nothing
 }
 
-// Whether the outstanding command at place j is of this kind, partition and slot.
+// Whether the outstanding command at place j is of this kind, partition and slot. One that lies as a send stores it is known by its two numbers, and
+// only another is taken apart.
 fn is_at(c: Client, m: &[u8], j: usize, kind: usize, q: usize, spot: usize) -> bool
-    requires { ⌜ Room c (now m) × (j < 32) × (2 ≤ spot) ⌝ }
+    requires { ⌜ Room c (now m) × (j < 32) × (1 ≤ kind) × (kind ≤ 2) × (q < c .shape .p) × (2 ≤ spot) × (spot < slots (c .shape .l)) ⌝ }
     ensures { λ r. ⌜ r ≡ isCommand (spotCommand (c .shape .l) kind q spot) (commandIn (c .shape) (now (m .entry)) j) ⌝ }
 {
     let a = memory::tables::command_kind(c.shape, m, j);
+    if (a == q + WRITE_FROM * (kind - 1)) & (memory::tables::command_spot(c.shape, m, j) == spot) {
+        return true;
+    }
     let p = memory::tables::fit(c.shape.p, a % WRITE_FROM);
     (kind == kind_of(a)) & (q == p) & (spot == spot_at(c, m, j))
 }
