@@ -8,6 +8,8 @@ use native.Mathlib.Omega.{arith}
 use native.Mathlib.Decide.{ℕ-discrete, decLt}
 use lib.ListN.{length}
 use lib.Dec.{eqb, ltb}
+use mir.Val.{boolByte}
+use borrow.Author.Count.{below-none, below-more}
 use borrow.Author.Tests.{eq-eqb, ne-eqb, lt-ltb, le-ltb}
 use Rattle.lists.specs.Tests.{if_then_else_}
 use Rattle.lists.specs.Search.{any, member}
@@ -63,6 +65,43 @@ waits-is c m b r f = rw waiting-is (go (decLt r (c .waiting)))
     go : Dec (r < c .waiting) → ltb r (c .waiting) ≡ any (eqb b) (rows (blocksIn (c .shape) m) (c .waiting))
     go (yes l) = lt-ltb r (c .waiting) l ∙ sym (any-hit (eqb b) _ _ r l (eq-eqb b _ (sym (f .here l))))
     go (no l) = le-ltb r (c .waiting) (omega arith) ∙ sym (any-miss (eqb b) _ _ (λ x h. ne-eqb b _ (λ e. true≢false (sym (eq-eqb _ b (sym e)) ∙ f .before x (omega (arith, f .le))))))
+
+-- one that is not among them has no place
+pub waits-not : (c : Client) (m : List ℕ) (b : ℕ) → member b (stateOf c m .waiting) ≡ false → FirstAt (blocksIn (c .shape) m) (c .waiting) b (c .waiting)
+unfolding member
+waits-not c m b e = record {
+  le = omega arith;
+  before = λ x l. ne-eqb _ b (λ q. true≢false (sym (any-hit (eqb b) _ _ x l (eq-eqb b _ (sym q))) ∙ rw waiting-is at e));
+  here = λ l. absurd (omega arith);
+}
+
+-- ---- A count k of the entries that are b, of the first i of n: it is 0 where none is
+pub record Counted (f : ℕ → ℕ) (n b k i : ℕ) : Type 0 where
+  pub le : k ≤ i
+  pub none : k ≡ 0 → (x : ℕ) → x < i → eqb b (f x) ≡ false
+  pub some : 0 < k → any (eqb b) (rows f n) ≡ true
+
+module _ (f : ℕ → ℕ) (n b : ℕ) where
+  pub counted-none : Counted f n b 0 0
+  counted-none = record { le = omega arith; none = λ e. below-none _; some = λ l. absurd (omega arith) }
+
+  pub counted-more : (k i x : ℕ) → i < n → x ≡ f i → Counted f n b k i → Counted f n b (k + boolByte (eqb x b)) (i + 1)
+  counted-more k i x l e s = go (ℕ-discrete x b)
+    where
+      go : Dec (x ≡ b) → Counted f n b (k + boolByte (eqb x b)) (i + 1)
+      go (yes q) = rw (eq-eqb x b q) (record { le = omega (arith, s .le); none = λ z. absurd (omega arith); some = λ z. any-hit (eqb b) f n i l (eq-eqb b (f i) (sym q ∙ e)) })
+      go (no q) = rw (ne-eqb x b q) (record { le = omega (arith, s .le); none = λ z. below-more _ _ (s .none (omega arith)) (ne-eqb b (f i) (λ p. q (e ∙ sym p))); some = λ z. s .some (omega arith) })
+
+  counted-all : (k i : ℕ) → n ≤ i → Counted f n b k i → not (eqb k 0) ≡ any (eqb b) (rows f n)
+  counted-all k i l s = go (ℕ-discrete k 0)
+    where
+      go : Dec (k ≡ 0) → not (eqb k 0) ≡ any (eqb b) (rows f n)
+      go (yes e) = rw (eq-eqb k 0 e) (sym (any-miss (eqb b) f n (λ x u. s .none e x (omega arith))))
+      go (no e) = rw (ne-eqb k 0 e) (sym (s .some (omega (arith, e))))
+
+pub waits-counted : (c : Client) (m : List ℕ) (b k i : ℕ) → c .waiting ≤ i → Counted (blocksIn (c .shape) m) (c .waiting) b k i → not (eqb k 0) ≡ member b (stateOf c m .waiting)
+unfolding member
+waits-counted c m b k i l s = rw waiting-is (counted-all (blocksIn (c .shape) m) (c .waiting) b k i l s)
 
 -- ---- One is renewed: the first k blocks are those of the first i that are not b
 abbrev pub other : ℕ → ℕ → Bool

@@ -39,6 +39,22 @@ pub fn is_waiting(c: Client, m: &[u8], b: usize) -> bool
     place(c, m, b) < c.waiting
 }
 
+// Whether block b waits, by a count of its entries, which has 16 bits as they have, so that the compiler counts eight at a time. Where b does not wait
+// that is quicker than to look for its place.
+fn waits(c: Client, m: &[u8], b: usize) -> bool
+    requires { ⌜ Room c (now m) × (c .waiting ≤ c .shape .n) ⌝ }
+    ensures { λ r. ⌜ r ≡ member b (stateOf c (now (m .entry)) .waiting) ⌝ }
+{
+    let n = c.waiting;
+    let mut k: u16 = 0;
+    let mut i = 0;
+    while i < n {
+        k += (memory::tables::waiting(c.shape, m, i) == b) as u16;
+        i += 1;
+    }
+    k != 0
+}
+
 // The place in the cache of the block that has waited longest for partition q.
 pub fn longest(c: Client, m: &[u8], q: usize) -> Found
     requires { ⌜ Room c (now m) × (c .waiting ≤ c .shape .n) ⌝ }
@@ -66,13 +82,14 @@ pub fn leave(c: Client, m: &mut [u8], j: usize) -> Client
     c.with_waiting(last)
 }
 
-// Block b leaves the cache wherever it waits, and joins its young end. Those before its first place stay where they are.
+// Block b leaves the cache wherever it waits, and joins its young end. Those before its first place stay where they are. Mostly it does not wait, so
+// that is asked first.
 pub fn renew(c: Client, m: &mut [u8], b: usize) -> Client
     requires { ⌜ Room c (now m) × (c .waiting ≤ c .shape .n) × (b < c .shape .n) × (length (others (stateOf c (now m) .waiting) b) < c .shape .n) ⌝ }
     ensures { λ r. ⌜ (r ≡ withWaiting (length (others (stateOf c (now (m .entry)) .waiting) b) + 1) c) × Stands r (now (m .entry)) (now (m .exit)) (setWaiting (others (stateOf c (now (m .entry)) .waiting) b ++ (b ∷ [])) (stateOf c (now (m .entry)))) ⌝ }
 {
     let n = c.waiting;
-    let mut k = place(c, m, b);
+    let mut k = if waits(c, m, b) { place(c, m, b) } else { n };
     let mut i = k;
     while i < n {
         k = join(c, m, k, i, b);
