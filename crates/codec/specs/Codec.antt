@@ -14,7 +14,7 @@ use Rattle.memory.specs.Words.{wordAt, setWord, word-same, word-other}
 use Rattle.memory.specs.declared.Shape.{Shape}
 use Rattle.client.specs.declared.Client.{Client}
 use Rattle.client.specs.declared.Request.{Request}
-use Rattle.client.specs.Moves.{atLevel, atFound}
+use Rattle.client.specs.Moves.{atLevel}
 use Rattle.contract.specs.declared.Answer.{Answer}
 
 -- The state lies in 68 bytes
@@ -49,12 +49,12 @@ withAsked r w = put 18 (r .evict % 65536) (put 16 (r .next % 65536) (put 14 (r .
 -- words with the numbers that a turn changes, by the kind of the command that it sends; with those that a completion changes
 abbrev pub withTurn : ℕ → Client → (ℕ → ℕ) → ℕ → ℕ
 withTurn k c w =
-    let v = put 32 (c .out % 65536) (put 22 (c .request .found % 65536) w) in
+    let v = put 32 (c .out % 65536) w in
     if eqb k read then put 26 (c .cursor % 65536) (put 20 (c .request .level % 65536) v) else put 30 (c .waiting % 65536) (put 28 (c .sent % 65536) v)
 
 abbrev pub withCompletion : ℕ → Client → (ℕ → ℕ) → ℕ → ℕ
 withCompletion k c w =
-    let v = put 32 (c .out % 65536) (put 22 (c .request .found % 65536) w) in
+    let v = put 32 (c .out % 65536) w in
     if eqb k read then v else put 28 (c .sent % 65536) (put 26 (c .cursor % 65536) (put 24 (c .jobs % 65536) v))
 
 -- words with the numbers that tell how far a client is and where its request's block was found; with all but its shape
@@ -87,11 +87,11 @@ lowClient c = record {
 abbrev pub reshaped : Shape → Client → Client
 reshaped h c = record { shape = h; request = c .request; jobs = c .jobs; cursor = c .cursor; sent = c .sent; waiting = c .waiting; out = c .out }
 
--- how far d is and where its request's block was found, with what c's request asks for and c's shape
+-- how far d is, with c's request but for that, and c's shape
 abbrev pub progressed : Client → Client → Client
 progressed c d = record {
   shape = c .shape;
-  request = atFound (d .request .found) (atLevel (d .request .level) (c .request));
+  request = atLevel (d .request .level) (c .request);
   jobs = d .jobs;
   cursor = d .cursor;
   sent = d .sent;
@@ -103,10 +103,6 @@ progressed c d = record {
 pub rest-is : (c : Client) (w : ℕ → ℕ) → clientOf (withRest c w) ≡ reshaped (clientOf w .shape) (lowClient c)
 unfolding put
 rest-is c w = refl
-
-pub progress-is : (c : Client) (w : ℕ → ℕ) → clientOf (withProgress c w) ≡ progressed (clientOf w) (lowClient c)
-unfolding put
-progress-is c w = refl
 
 pub stored-is : (c : Client) (w : ℕ → ℕ) → clientOf (withRest c (withShape (c .shape) w)) ≡ lowClient c
 unfolding put
@@ -128,24 +124,26 @@ between-progress c w w′ h = between-six 11 (c .request .found) (c .jobs) (c .c
 pub between-turn : (k : ℕ) (c : Client) (w : ℕ → ℕ) → Between w (withTurn k c w)
 between-turn k c w = go (eqb k read)
   where
-    v : Between w (put 32 (c .out % 65536) (put 22 (c .request .found % 65536) w))
-    v = between 16 _ w _ (between 11 _ w w (λ k. refl))
+    v : Between w (put 32 (c .out % 65536) w)
+    v = between 16 _ w w (λ k. refl)
 
-    go : (t : Bool) → Between w (if t then put 26 (c .cursor % 65536) (put 20 (c .request .level % 65536) (put 32 (c .out % 65536) (put 22 (c .request .found % 65536) w)))
-        else put 30 (c .waiting % 65536) (put 28 (c .sent % 65536) (put 32 (c .out % 65536) (put 22 (c .request .found % 65536) w))))
+    go : (t : Bool) → Between w (if t then put 26 (c .cursor % 65536) (put 20 (c .request .level % 65536) (put 32 (c .out % 65536) w)) else put 30 (c .waiting % 65536) (put 28 (c .sent % 65536) (put 32 (c .out % 65536) w)))
     go true = between 13 _ w _ (between 10 _ w _ v)
     go false = between 15 _ w _ (between 14 _ w _ v)
 
 pub between-completion : (k : ℕ) (c : Client) (w : ℕ → ℕ) → Between w (withCompletion k c w)
 between-completion k c w = go (eqb k read)
   where
-    v : Between w (put 32 (c .out % 65536) (put 22 (c .request .found % 65536) w))
-    v = between 16 _ w _ (between 11 _ w w (λ k. refl))
+    v : Between w (put 32 (c .out % 65536) w)
+    v = between 16 _ w w (λ k. refl)
 
-    go : (t : Bool) → Between w (if t then put 32 (c .out % 65536) (put 22 (c .request .found % 65536) w)
-        else put 28 (c .sent % 65536) (put 26 (c .cursor % 65536) (put 24 (c .jobs % 65536) (put 32 (c .out % 65536) (put 22 (c .request .found % 65536) w)))))
+    go : (t : Bool) → Between w (if t then put 32 (c .out % 65536) w else put 28 (c .sent % 65536) (put 26 (c .cursor % 65536) (put 24 (c .jobs % 65536) (put 32 (c .out % 65536) w))))
     go true = v
     go false = between 14 _ w _ (between 13 _ w _ (between 12 _ w _ v))
+
+-- where the request's block was found
+pub between-found : (x : ℕ) (w : ℕ → ℕ) → Between w (put 22 x w)
+between-found x w = between 11 x w w (λ k. refl)
 
 pub between-rest : (c : Client) (w w′ : ℕ → ℕ) → Between w w′ → Between w (withRest c w′)
 between-rest c w w′ h = between-progress c w _ (between 9 _ w _ (between 8 _ w _ (between 7 _ w _ (between 6 _ w w′ h))))
@@ -153,11 +151,19 @@ between-rest c w w′ h = between-progress c w _ (between 9 _ w _ (between 8 _ w
 pub between-shape : (h : Shape) (w : ℕ → ℕ) → Between w (withShape h w)
 between-shape h w = between-six 0 (h .n) (h .p) (h .l) (h .b) (h .e) (h .w) w w (λ k. refl)
 
--- the answer as a number, and back
+-- an answer whose numbers have room in one number of 64 bits
+pub record Small (r : Answer) : Type 0 where
+  pub number : r .number < 32
+  pub kind : r .kind < 4
+  pub partition : r .partition < 64
+  pub level : r .level < 16
+  pub slot : r .slot < 2048
+  pub found : r .found < 16
+  pub taken : r .taken < 4294967296
+
+-- ..as that number, and back
 abbrev pub packed : Answer → ℕ
-packed r =
-    (r .number % 32 + 32 * (r .kind % 4) + 128 * (r .partition % 64) + 8192 * (r .level % 16) + 131072 * (r .slot % 2048) + 268435456 * (r .found % 16))
-    + 4294967296 * (r .taken % 4294967296)
+packed r = (r .number + 32 * r .kind + 128 * r .partition + 8192 * r .level + 131072 * r .slot + 268435456 * r .found) + 4294967296 * r .taken
 
 abbrev pub answerOf : ℕ → Client → Answer
 answerOf u c = record {
@@ -170,6 +176,41 @@ answerOf u c = record {
   found = u / 268435456 % 16;
   client = c;
 }
+
+-- what is packed can be read off again
+pub unpacked : (r : Answer) → Small r → (x : Client)
+    → answerOf (packed r) x ≡ record { number = r .number; taken = r .taken; kind = r .kind; partition = r .partition; level = r .level; slot = r .slot; found = r .found; client = x }
+unpacked r f x = λ k. record {
+  number = number-is k;
+  taken = taken-is k;
+  kind = kind-is k;
+  partition = partition-is k;
+  level = level-is k;
+  slot = slot-is k;
+  found = found-is k;
+  client = x;
+}
+  where
+    number-is : packed r % 32 ≡ r .number
+    number-is = omega arith
+
+    taken-is : packed r / 4294967296 ≡ r .taken
+    taken-is = omega arith
+
+    kind-is : packed r / 32 % 4 ≡ r .kind
+    kind-is = omega arith
+
+    partition-is : packed r / 128 % 64 ≡ r .partition
+    partition-is = omega arith
+
+    level-is : packed r / 8192 % 16 ≡ r .level
+    level-is = omega arith
+
+    slot-is : packed r / 131072 % 2048 ≡ r .slot
+    slot-is = omega arith
+
+    found-is : packed r / 268435456 % 16 ≡ r .found
+    found-is = omega arith
 
 -- a word stored among others
 pub word-put : (m : List ℕ) (k v : ℕ) → k * 2 + 1 < length m → v < 65536 → wordAt (setWord m k v) ≡ put k v (wordAt m)

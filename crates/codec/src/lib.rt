@@ -7,9 +7,12 @@ use memory::Shape;
 ghost use mathlib.Core.Path.{_≡_};
 ghost use Prim.Native.Nat.{_*_, _%_, _≤_, _<_};
 ghost use lib.ListN.{length};
+ghost use lib.Dec.{eqb};
+ghost use mathlib.Core.Bool.{false};
+ghost use Rattle.lists.specs.Tests.{if_then_else_};
 ghost use Rattle.lists.specs.Tables.{put as putAt};
 ghost use Rattle.memory.specs.Words.{wordAt};
-ghost use Rattle.codec.specs.Codec.{stateLength, clientOf, withSix, withShape, withAsked, withTurn, withCompletion, withProgress, withRest, packed};
+ghost use Rattle.codec.specs.Codec.{stateLength, clientOf, withSix, withShape, withAsked, withTurn, withCompletion, withProgress, withRest, Small, packed};
 
 // The bytes of a state.
 pub const STATE: usize = 68;
@@ -108,7 +111,6 @@ pub fn encode_turn(s: &mut [u8], c: Client, kind: usize)
     requires { ⌜ length (now s) ≡ stateLength ⌝ }
     ensures { λ _. ⌜ wordAt (now (s .exit)) ≡ withTurn kind c (wordAt (now (s .entry))) ⌝ }
 {
-    set_number(s, 11, c.request.found);
     set_number(s, 16, c.out);
     if kind == READ {
         set_number(s, 10, c.request.level);
@@ -124,7 +126,6 @@ pub fn encode_completion(s: &mut [u8], c: Client, kind: usize)
     requires { ⌜ length (now s) ≡ stateLength ⌝ }
     ensures { λ _. ⌜ wordAt (now (s .exit)) ≡ withCompletion kind c (wordAt (now (s .entry))) ⌝ }
 {
-    set_number(s, 11, c.request.found);
     set_number(s, 16, c.out);
     if kind == READ {
         return;
@@ -169,16 +170,36 @@ pub fn encode(s: &mut [u8], c: Client)
     encode_rest(s, c);
 }
 
+// Whether the request in hand is held. Mostly none is in hand, so that is asked first.
+pub fn is_held(s: &[u8]) -> bool
+    requires { ⌜ length (now s) ≡ stateLength ⌝ }
+    ensures { λ r. ⌜ r ≡ (if eqb (clientOf (wordAt (now (s .entry))) .request .kind) 0 then false else eqb (clientOf (wordAt (now (s .entry))) .request .found) 0) ⌝ }
+{
+    if number(s, 6) == 0 {
+        return false;
+    }
+    number(s, 11) == 0
+}
+
+// Stores where the request's block was found.
+pub fn set_found(s: &mut [u8], found: usize)
+    requires { ⌜ length (now s) ≡ stateLength ⌝ }
+    ensures { λ _. ⌜ wordAt (now (s .exit)) ≡ putAt 22 (found % 65536) (wordAt (now (s .entry))) ⌝ }
+{
+    set_number(s, 11, found);
+}
+
 // From the lowest bit on: the number in 5 bits, the kind in 2, the partition in 6, the level in 4, the slot in 11 and where a block was found in 4;
 // the words taken in the upper 32.
 pub fn pack(r: Answer) -> u64
+    requires { ⌜ Small r ⌝ }
     ensures { λ u. ⌜ u ≡ packed r ⌝ }
 {
-    let low = r.number % 32
-        + 32 * (r.kind % 4)
-        + 128 * (r.partition % 64)
-        + 8192 * (r.level % 16)
-        + 131072 * (r.slot % 2048)
-        + 268435456 * (r.found % 16);
-    (low + 4294967296 * (r.taken % 4294967296)) as u64
+    let low = r.number
+        + 32 * r.kind
+        + 128 * r.partition
+        + 8192 * r.level
+        + 131072 * r.slot
+        + 268435456 * r.found;
+    (low + 4294967296 * r.taken) as u64
 }

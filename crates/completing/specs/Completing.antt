@@ -3,7 +3,7 @@ use mathlib.Core.Path.{_≡_, refl, ap, sym, _∙_, subst}
 use mathlib.Core.Bool.{Bool, true, false, not, _&&_, true≢false}
 use mathlib.Core.Logic.{_⊎_, inl, inr}
 use mathlib.Core.List.{List, [], _∷_}
-use mathlib.Core.Option.{Option, none, some}
+use mathlib.Core.Option.{Option, some}
 use Prim.Native.Nat.{ℕ, zero, suc, _+_, _-_, _^_, _≤_, _<_, min}
 use native.Mathlib.Omega.{arith}
 use lib.ListN.{length}
@@ -17,16 +17,15 @@ use Rattle.lists.specs.All.{All, nil, cons}
 use Rattle.lists.specs.Tables.{put}
 use Rattle.rules.specs.Shape.{Shape, slots, cell}
 use Rattle.rules.specs.State as R
-use Rattle.rules.specs.State.{State, Command, cmd, read, write, foundNumber}
+use Rattle.rules.specs.State.{Command, cmd, read, write, foundNumber}
 use Rattle.rules.specs.Setters.{setOutstanding, setQueue, setCounter, setCursor, setSent}
 use Rattle.rules.specs.Ranges.{isKind}
 use Rattle.rules.specs.Levels.{sources, target, grown, trailingOnes}
-use Rattle.rules.specs.Blocks.{holder, named, lookUp}
-use Rattle.rules.specs.Request.{blocked, releasedIn, release}
+use Rattle.rules.specs.Blocks.{holder, named}
 use Rattle.rules.specs.Completion.{isCommand, completed, gatherBytes, completeRead, jobDone, endJob, finishJob, completeWrite, complete}
 use Rattle.rules.specs.Draws.{draws}
 use Rattle.rules.specs.Questions.{completion, ready, bounds, questions, firstNo, number}
-use Rattle.rules.specs.Run.{act, perform, refuse, sentCommand, handed, handedFound, takenOf, numbersOf}
+use Rattle.rules.specs.Run.{perform, refuse, sentCommand, handed, handedFound, takenOf, numbersOf}
 use Rattle.rules.specs.Laws.Range.{CommandIn}
 use Rattle.rules.specs.Laws.Kept.{complete-in}
 use Rattle.rules.specs.Laws.Shapes.{complete-keeps}
@@ -37,11 +36,11 @@ use Rattle.client.specs.declared.Request.{Request}
 use Rattle.client.specs.View.{stateOf, view, rows}
 use Rattle.client.specs.Rows.{dropAt, length-rows}
 use Rattle.client.specs.Changes.{view-bytes, view-counter}
-use Rattle.client.specs.Moves.{Room, Stands, stands, restated, then as next, withJobs, withCursor, withSent}
+use Rattle.client.specs.Moves.{Room, Stands, stands, then as next, withJobs, withCursor, withSent}
 use Rattle.contract.specs.Answers.{refusedWith}
-use Rattle.contract.specs.Meets.{Meets, callOf, meets-no, meets-yes}
+use Rattle.contract.specs.Meets.{callOf, meets-no}
 use Rattle.ready.specs.Usable.{Usable, usable}
-use Rattle.releasing.specs.Released.{Held, Released, held-of}
+use Rattle.releasing.specs.Performs.{Performs, ready-after}
 use Rattle.jobs.specs.Queue.{jobsIn, queue-is}
 use Rattle.commands.specs.Outstanding.{OutstandingAt, ofKind}
 use Rattle.commands.specs.Commands.{outstanding-is}
@@ -56,21 +55,21 @@ module _ (c : Client) (m : List ℕ) (d : Command) (bs : List ℕ) where
   abbrev asked : ℕ
   asked = number (stateOf c m) (callOf (completion d bs) m [] [])
 
-  refusal : (n : ℕ) → 1 ≤ n → n ≡ asked → Meets c (stateOf c m) (completion d bs) m [] [] (refusedWith n c) m []
+  refusal : (n : ℕ) → 1 ≤ n → n ≡ asked → Performs c (stateOf c m) (completion d bs) m [] [] (refusedWith n c) m []
   unfolding refuse
-  refusal n l e = meets-no c (stateOf c m) (completion d bs) m [] [] n e (λ z. omega arith) refl
+  refusal n l e = record { refused = λ z. meets-no c (stateOf c m) (completion d bs) m [] [] n e z refl; accepted = λ z. absurd (omega arith) }
 
-  pub no-ready : (ready (stateOf c m) (length m) && isKind (d .kind)) ≡ false → Meets c (stateOf c m) (completion d bs) m [] [] (refusedWith 2 c) m []
+  pub no-ready : (ready (stateOf c m) (length m) && isKind (d .kind)) ≡ false → Performs c (stateOf c m) (completion d bs) m [] [] (refusedWith 2 c) m []
   unfolding number questions firstNo
   no-ready e = refusal 2 (omega arith) (rw e)
 
   module _ (r : (ready (stateOf c m) (length m) && isKind (d .kind)) ≡ true) where
-    pub no-command : any (isCommand d) (stateOf c m .outstanding) ≡ false → Meets c (stateOf c m) (completion d bs) m [] [] (refusedWith 11 c) m []
+    pub no-command : any (isCommand d) (stateOf c m .outstanding) ≡ false → Performs c (stateOf c m) (completion d bs) m [] [] (refusedWith 11 c) m []
     unfolding number questions firstNo
     no-command e = refusal 11 (omega arith) (rw (r, e))
 
     module _ (a : any (isCommand d) (stateOf c m .outstanding) ≡ true) where
-      pub no-length : (length bs ≡ wanted c d → ⊥) → Meets c (stateOf c m) (completion d bs) m [] [] (refusedWith 12 c) m []
+      pub no-length : (length bs ≡ wanted c d → ⊥) → Performs c (stateOf c m) (completion d bs) m [] [] (refusedWith 12 c) m []
       unfolding number questions firstNo stateOf view
       no-length n = refusal 12 (omega arith) (rw (r, a, ne-eqb (length bs) (wanted c d) n))
 
@@ -78,20 +77,32 @@ module _ (c : Client) (m : List ℕ) (d : Command) (bs : List ℕ) where
       unfolding number questions firstNo stateOf view
       passed e = rw (r, a, eq-eqb (length bs) (wanted c d) e)
 
-      -- all answers are yes, and the act leaves the rules' state
-      pub yes : (c′ : Client) (m′ : List ℕ) → length bs ≡ wanted c d → (c′ .request .kind ≡ 0 → c′ .request ≡ c .request) → Stands c′ m m′ (release (complete d bs (stateOf c m))) → Meets c (stateOf c m) (completion d bs) m [] [] (refusedWith 0 c′) m′ []
-      unfolding bounds draws takenOf numbersOf act perform sentCommand handed handedFound foundNumber stateOf view
-      yes c′ m′ e k s = meets-yes c (stateOf c m) (completion d bs) m [] [] (refusedWith 0 c′) m′ [] (record {
-        yes = passed e;
-        number = refl;
-        taken = refl;
-        command = refl;
-        found = refl;
-        state = s .state;
-        idle = k;
-        buffer = refl;
-        tail = s .tail;
-      })
+      -- all answers are yes, and the act leaves the rules' state, which answers the first question too
+      pub yes : (c′ : Client) (m′ : List ℕ) → length bs ≡ wanted c d → c′ .request ≡ c .request → length m′ ≡ length m → Stands c′ m m′ (complete d bs (stateOf c m)) → Performs c (stateOf c m) (completion d bs) m [] [] (refusedWith 0 c′) m′ []
+      unfolding bounds draws takenOf numbersOf perform sentCommand handed handedFound foundNumber
+      yes c′ m′ e k l s = record {
+        refused = λ n. absurd (n refl);
+        accepted = λ _. record {
+          yes = passed e;
+          taken = refl;
+          command = refl;
+          found = refl;
+          state = s .state;
+          idle = λ _. k;
+          buffer = refl;
+          tail = unfold stateOf view in s .tail;
+          ready = left-ready;
+        };
+      }
+        where
+          u : Usable c m
+          u = usable c m (and-l (ready (stateOf c m) (length m)) (isKind (d .kind)) r)
+
+          shape : complete d bs (stateOf c m) .shape ≡ shapeOf (c .shape)
+          shape = ap (λ (y : Shape × Option R.Request). y .0) (complete-keeps (stateOf c m) d bs) ∙ (unfold stateOf view in refl)
+
+          left-ready : ready (stateOf c′ m′) (length m′) ≡ true
+          left-ready = ready-after c c′ m m′ (complete d bs (stateOf c m)) (u .room) l (s .state) shape (complete-in (stateOf c m) (u .range) d bs)
 
 -- ---- The command
 
@@ -118,7 +129,6 @@ command-in h d e (cons {x = x} {xs = xs} k a) = go (or-true (isCommand d x) (any
 
 -- what the act goes by: the command is at place j
 pub record Completes (c : Client) (m : List ℕ) (d : Command) (bs : List ℕ) (j : ℕ) : Type 0 where
-  pub usable : Usable c m
   pub room : Room c m
   pub jobs : c .jobs ≤ 64
   pub out : c .out ≤ 32
@@ -126,12 +136,6 @@ pub record Completes (c : Client) (m : List ℕ) (d : Command) (bs : List ℕ) (
   pub gone : without (isCommand d) (stateOf c m .outstanding) ≡ dropAt j (stateOf c m .outstanding)
   pub range : CommandIn (shapeOf (c .shape)) d
   pub long : length bs ≡ wanted c d
-
--- a request may be released then
-pub may-release : (c d : Client) (m m′ : List ℕ) (x : Command) (bs : List ℕ) → Usable c m → length m′ ≡ length m → Stands d m m′ (complete x bs (stateOf c m)) → Held d m′
-may-release c d m m′ x bs u l s =
-    let h : complete x bs (stateOf c m) .shape ≡ stateOf c m .shape = ap (λ (y : Shape × Option R.Request). y .0) (complete-keeps (stateOf c m) x bs) in
-    held-of c d m m′ (complete x bs (stateOf c m)) (u .room) l (s .state) (h ∙ (unfold stateOf view in refl)) (complete-in (stateOf c m) (u .range) x bs)
 
 -- what the search for it asks
 pub begins : (c : Client) (m : List ℕ) (kind : ℕ) → (ready (stateOf c m) (length m) && isKind kind) ≡ true → Room c m × (c .out ≤ 32) × (1 ≤ kind) × (kind ≤ 2)
@@ -146,7 +150,6 @@ unfolding stateOf view
 completes c m d bs j r o l =
     let u = usable c m (and-l (ready (stateOf c m) (length m)) (isKind (d .kind)) r) in
     record {
-      usable = u;
       room = u .room;
       jobs = u .jobs;
       out = omega (arith, u .counts .out, u .window);
@@ -271,30 +274,3 @@ module _ (c d : Client) (m m₁ : List ℕ) (x : Command) (bs : List ℕ) (j : �
         state = a .state ∙ ap (λ z. finishJob (z .queue) z) left ∙ sym (ap (λ t. if t then completeRead x bs (stateOf c m) else completeWrite x (stateOf c m)) (ne-eqb (x .kind) 1 k));
         tail = a .tail;
       }
-
--- ---- A request released before a read is completed
-
-read-commutes : (s : State) (x : Command) (bs : List ℕ) → x .kind ≡ 1 → complete x bs (release s) ≡ release (complete x bs s)
-unfolding complete completeRead completed holder releasedIn blocked lookUp
-read-commutes s x bs k =
-    let e = eq-eqb (x .kind) 1 k in
-    ap (λ t. if t then completeRead x bs (release s) else completeWrite x (release s)) e ∙ go (holder s (x .partition) (x .level) (x .slot)) ∙ sym (ap (λ t. release (if t then completeRead x bs s else completeWrite x s)) e)
-  where
-    go : (o : Option ℕ) → gatherBytes o bs (completed x (release s)) ≡ release (gatherBytes o bs (completed x s))
-    go none = unfold gatherBytes in refl
-    go (some b) = unfold gatherBytes in refl
-
-module _ (c d : Client) (m : List ℕ) (x : Command) (bs : List ℕ) (j : ℕ) (a : Released c m d) where
-  -- the command is where it was
-  pub still-there : without (isCommand x) (stateOf c m .outstanding) ≡ dropAt j (stateOf c m .outstanding) → without (isCommand x) (stateOf d m .outstanding) ≡ dropAt j (stateOf d m .outstanding)
-  still-there g = rw (ap (λ (s : State). s .outstanding) (a .state)) g
-
-  pub released-before : (e : Client) (m′ : List ℕ) → x .kind ≡ 1 → Stands e m m′ (complete x bs (stateOf d m)) → Stands e m m′ (release (complete x bs (stateOf c m)))
-  released-before e m′ k s = restated s (ap (complete x bs) (a .state) ∙ read-commutes (stateOf c m) x bs k)
-
--- while none is in hand, its numbers stay
-pub idle-first : (c d e : Client) (m : List ℕ) → Released c m d → e .request ≡ d .request → e .request .kind ≡ 0 → e .request ≡ c .request
-idle-first c d e m a k z = k ∙ ap (λ (x : Client). x .request) (a .idle (sym (ap (λ (x : Request). x .kind) k) ∙ z))
-
-pub idle-last : (c d e : Client) (m : List ℕ) → Released d m e → d .request ≡ c .request → e .request .kind ≡ 0 → e .request ≡ c .request
-idle-last c d e m a k z = ap (λ (x : Client). x .request) (a .idle z) ∙ k

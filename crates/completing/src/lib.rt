@@ -14,7 +14,6 @@ ghost use Rattle.rules.specs.Shape.{slots};
 ghost use Rattle.rules.specs.State.{cmd, read};
 ghost use Rattle.rules.specs.Levels.{grown as grownOf};
 ghost use Rattle.rules.specs.Blocks.{holder};
-ghost use Rattle.rules.specs.Request.{release};
 ghost use Rattle.rules.specs.Completion.{gatherBytes, jobDone, endJob, finishJob, complete as completeOf};
 ghost use Rattle.rules.specs.Questions.{completion as completionOf};
 ghost use Rattle.memory.specs.Fits.{shapeOf};
@@ -22,6 +21,7 @@ ghost use Rattle.client.specs.View.{stateOf};
 ghost use Rattle.client.specs.Rows.{dropAt};
 ghost use Rattle.client.specs.Moves.{Room, Stands};
 ghost use Rattle.contract.specs.Meets.{Meets};
+ghost use Rattle.releasing.specs.Performs.{Performs};
 ghost use Rattle.completing.specs.Completing.{AllOfLevel, Completes};
 
 // The length that is asked for: that of a block for a read, 0 for a write.
@@ -44,7 +44,7 @@ fn store_read(c: Client, m: &mut [u8], q: usize, l: usize, i: usize, bytes: &[u8
     memory::blocks::store(c.shape, m, b - 1, bytes);
 }
 
-// Whether a number is a power of two, as that of the slots of each level is.
+// No for a number that is not a power of two, as that of the slots of each level is. (Only that is needed of it: a yes promises nothing.)
 fn one_bit(n: usize) -> bool
     ensures { λ r. ⌜ AllOfLevel n r ⌝ }
 {
@@ -105,8 +105,7 @@ fn finish_job(c: Client, m: &mut [u8]) -> Client
     end_job(c, m, q)
 }
 
-// The command at place j is completed, and a request that no job holds any longer is released: before the first store where a read is completed, which
-// changes nothing that a release looks at, so that the compiler need not keep its numbers until the end.
+// The command at place j is completed.
 fn complete(
     c: Client,
     m: &mut [u8],
@@ -118,20 +117,18 @@ fn complete(
     bytes: &[u8],
 ) -> Client
     requires { ⌜ Completes c (now m) (cmd kind q l i) (now bytes) j ⌝ }
-    ensures { λ r. ⌜ (r .request .kind ≡ 0 → r .request ≡ c .request) × Stands r (now (m .entry)) (now (m .exit)) (release (completeOf (cmd kind q l i) (now (bytes .entry)) (stateOf c (now (m .entry))))) ⌝ }
+    ensures { λ r. ⌜ (r .request ≡ c .request) × Stands r (now (m .entry)) (now (m .exit)) (completeOf (cmd kind q l i) (now (bytes .entry)) (stateOf c (now (m .entry)))) ⌝ }
 {
-    if kind == READ {
-        let d = releasing::release(c, m);
-        let e = commands::complete(d, m, j);
-        store_read(e, m, q, l, i, bytes);
-        return e;
-    }
     let d = commands::complete(c, m, j);
-    let e = finish_job(d, m);
-    releasing::release(e, m)
+    if kind == READ {
+        store_read(d, m, q, l, i, bytes);
+        return d;
+    }
+    finish_job(d, m)
 }
 
-pub fn completion(
+// What a completion does by document 01. A request is released after it.
+pub fn perform(
     c: Client,
     m: &mut [u8],
     kind: usize,
@@ -140,7 +137,7 @@ pub fn completion(
     slot: usize,
     bytes: &[u8],
 ) -> Answer
-    ensures { λ r. ⌜ Meets c (stateOf c (now (m .entry))) (completionOf (cmd kind partition level slot) (now (bytes .entry))) (now (m .entry)) [] [] r (now (m .exit)) [] ⌝ }
+    ensures { λ r. ⌜ Performs c (stateOf c (now (m .entry))) (completionOf (cmd kind partition level slot) (now (bytes .entry))) (now (m .entry)) [] [] r (now (m .exit)) [] ⌝ }
 {
     if !ready::shape_fits(c.shape, m.len()) {
         return contract::refused(2, c);
@@ -157,4 +154,19 @@ pub fn completion(
     }
     let d = complete(c, m, j, kind, partition, level, slot, bytes);
     contract::accepted(d, 0)
+}
+
+pub fn completion(
+    c: Client,
+    m: &mut [u8],
+    kind: usize,
+    partition: usize,
+    level: usize,
+    slot: usize,
+    bytes: &[u8],
+) -> Answer
+    ensures { λ r. ⌜ Meets c (stateOf c (now (m .entry))) (completionOf (cmd kind partition level slot) (now (bytes .entry))) (now (m .entry)) [] [] r (now (m .exit)) [] ⌝ }
+{
+    let r = perform(c, m, kind, partition, level, slot, bytes);
+    releasing::settle(r, m)
 }

@@ -2,8 +2,7 @@
 use mathlib.Core.Path.{_≡_, refl, ap, sym, _∙_, subst}
 use mathlib.Core.Bool.{Bool, true, false}
 use mathlib.Core.List.{List, []}
-use Prim.Native.Nat.{ℕ, _+_, _*_, _/_, _%_, _<_}
-use native.Mathlib.Nat.{mod-eq-of-lt}
+use Prim.Native.Nat.{ℕ, _%_}
 use native.Mathlib.Omega.{arith}
 use native.Mathlib.Decide.{ℕ-discrete}
 use lib.ListN.{length, replicate}
@@ -12,9 +11,8 @@ use Rattle.rules.specs.Shape.{Shape, within}
 use Rattle.rules.specs.State.{State, Command, foundNumber, closed}
 use Rattle.rules.specs.Draws.{draws}
 use Rattle.rules.specs.Questions.{Ask, opening, Call, bounds, number}
-use Rattle.rules.specs.Run.{Outcome, act, accepted, refused, sentCommand, handedFound, numbersOf}
+use Rattle.rules.specs.Run.{Outcome, act, accepted, refused, sentCommand, handedFound, takenOf, numbersOf}
 use Rattle.rules.specs.Laws.Shapes.{act-shape}
-use Rattle.rules.specs.Laws.Asked.{asked}
 use Rattle.rules.specs.Laws.Answers.{opens, number-le, step-number, step-accepted, refused-outcome, accepted-passed, accepted-taken}
 use Rattle.rules.specs.Laws.Range.{InRange}
 use Rattle.rules.specs.Laws.Kept.{accepted-in}
@@ -26,10 +24,9 @@ use Rattle.client.specs.View.{stateOf, view}
 use Rattle.tape.specs.Tape.{wordsOf}
 use Rattle.contract.specs.declared.Answer.{Answer}
 use Rattle.contract.specs.Answers.{clearedClient}
-use Rattle.contract.specs.Meets.{Meets, callOf, commandOf, unasked}
-use Rattle.codec.specs.Codec.{stateLength, clientOf, reshaped, lowShape, lowClient, withShape, withRest, progressed, rest-is, stored-is, Between, between-rest, between-shape, packed, answerOf}
-use Rattle.exports.specs.Idle.{Idle, rest-idle, progress-idle}
-use Rattle.exports.specs.Progress.{same-state}
+use Rattle.contract.specs.Meets.{Meets, callOf, commandOf}
+use Rattle.codec.specs.Codec.{stateLength, clientOf, reshaped, lowShape, lowClient, withShape, withRest, rest-is, stored-is, Between, between-rest, between-shape, Small, packed, unpacked, answerOf}
+use Rattle.exports.specs.Idle.{Idle, rest-idle}
 use Rattle.exports.specs.Small.{SmallCommand, accepted-small, accepted-found, low-shape, low-client}
 
 -- the client that 68 bytes say
@@ -55,60 +52,18 @@ pub record Opened (h : Shape) (st m tape : List ℕ) (u : ℕ) (st′ m′ : Lis
   -- a state of another length is no memory for a client: shape within bounds? 1. Long enough? 2
   pub other : (length st ≡ stateLength → ⊥) → (u ≡ (if within h then 2 else 1)) × (m′ ≡ m)
 
--- ---- Packed answers
+-- ---- An accepted call's answer is small
 
-pub record Small (r : Answer) : Type 0 where
-  pub number : r .number < 32
-  pub taken : r .taken < 4294967296
-  pub kind : r .kind < 4
-  pub partition : r .partition < 64
-  pub level : r .level < 16
-  pub slot : r .slot < 2048
-  pub found : r .found < 16
-
-sum : Answer → ℕ
-sum r = (r .number + 32 * r .kind + 128 * r .partition + 8192 * r .level + 131072 * r .slot + 268435456 * r .found) + 4294967296 * r .taken
-
-packed-sum : (r : Answer) → Small r → packed r ≡ sum r
-unfolding sum
-packed-sum r f =
-    rw (mod-eq-of-lt (f .number), mod-eq-of-lt (f .kind), mod-eq-of-lt (f .partition), mod-eq-of-lt (f .level), mod-eq-of-lt (f .slot), mod-eq-of-lt (f .found), mod-eq-of-lt (f .taken))
-
--- what is packed can be read off again
-pub unpacked : (r : Answer) → Small r → (x : Client)
-    → answerOf (packed r) x ≡ record { number = r .number; taken = r .taken; kind = r .kind; partition = r .partition; level = r .level; slot = r .slot; found = r .found; client = x }
-unfolding sum
-unpacked r f x = ap (λ u. answerOf u x) (packed-sum r f) ∙ (λ k. record {
-  number = number-is k;
-  taken = taken-is k;
-  kind = kind-is k;
-  partition = partition-is k;
-  level = level-is k;
-  slot = slot-is k;
-  found = found-is k;
-  client = x;
-})
-  where
-    number-is : sum r % 32 ≡ r .number
-    number-is = omega arith
-
-    taken-is : sum r / 4294967296 ≡ r .taken
-    taken-is = omega arith
-
-    kind-is : sum r / 32 % 4 ≡ r .kind
-    kind-is = omega arith
-
-    partition-is : sum r / 128 % 64 ≡ r .partition
-    partition-is = omega arith
-
-    level-is : sum r / 8192 % 16 ≡ r .level
-    level-is = omega arith
-
-    slot-is : sum r / 131072 % 2048 ≡ r .slot
-    slot-is = omega arith
-
-    found-is : sum r / 268435456 % 16 ≡ r .found
-    found-is = omega arith
+module _ (s : State) (a : Ask) (m tape b : List ℕ) (r : Answer) where
+  pub small-accepted : number s (callOf a m tape b) ≡ 0 → r .number ≡ 0 → r .taken ≡ takenOf (draws (bounds s a) (wordsOf tape)) → commandOf r ≡ sentCommand s a → r .found ≡ foundNumber (handedFound s a) → Small r
+  unfolding accepted
+  small-accepted e z t o y =
+      let p = accepted-passed s (callOf a m tape b) e in
+      let f = accepted-small s a (length m) (wordsOf tape) (length b) p in
+      let w : r .taken ≡ length (bounds s a) = t ∙ sym (ap (λ (x : State × Outcome). x .1 .taken) (step-accepted s (callOf a m tape b) e)) ∙ accepted-taken s (callOf a m tape b) e in
+      let d : SmallCommand (commandOf r) = rw o (f .0) in
+      let g = accepted-found s a (length m) (wordsOf tape) (length b) p in
+      record { number = omega arith; taken = omega (arith, f .1); kind = d .kind; partition = d .partition; level = d .level; slot = d .slot; found = omega arith }
 
 -- ---- From a call's contract to the exported one's
 
@@ -135,15 +90,13 @@ module _ (c : Client) (s : State) (a : Ask) (m tape b : List ℕ) (r : Answer) (
   unfolding accepted
   accepted-fits z =
       let e : number s made ≡ 0 = sym is-number ∙ z in
-      let f = accepted-small s a (length m) (wordsOf tape) (length b) (accepted-passed s made e) in
-      let o : commandOf r ≡ sentCommand s a = k .command ∙ ap (λ (x : State × Outcome). x .1 .command) (step-accepted s made e) in
-      let t : r .taken ≡ length (bounds s a) = k .taken ∙ accepted-taken s made e in
-      let d : SmallCommand (commandOf r) = rw o (f .0) in
-      let y : r .found ≡ foundNumber (handedFound s a) = k .found ∙ ap (λ (x : State × Outcome). foundNumber (x .1 .found)) (step-accepted s made e) in
-      let g = accepted-found s a (length m) (wordsOf tape) (length b) (accepted-passed s made e) in
-      record { number = omega arith; taken = omega (arith, f .1); kind = d .kind; partition = d .partition; level = d .level; slot = d .slot; found = omega arith }
+      let q = step-accepted s made e in
+      small-accepted s a m tape b r e z (k .taken ∙ ap (λ (x : State × Outcome). x .1 .taken) q) (k .command ∙ ap (λ (x : State × Outcome). x .1 .command) q) (k .found ∙ ap (λ (x : State × Outcome). foundNumber (x .1 .found)) q)
 
-  -- and it leaves a state in range
+  pub meets-small : Small r
+  meets-small = elim (ℕ-discrete (r .number) 0) [ yes z ↦ accepted-fits z | no n ↦ refused-small n ]
+
+  -- an accepted call leaves a state in range
   left-in : r .number ≡ 0 → InRange (stateOf (r .client) m′)
   unfolding accepted
   left-in z =
@@ -152,9 +105,9 @@ module _ (c : Client) (s : State) (a : Ask) (m tape b : List ℕ) (r : Answer) (
       rw w (accepted-in s a (length m) (wordsOf tape) (length b) (accepted-passed s made e))
 
   -- the same answer with another client that stands for the same state
-  repacked : Small r → (x : Client) → stateOf x m′ ≡ stateOf (r .client) m′ → (r .number ≡ 0 → Idle a (c .request) x) → ((r .number ≡ 0 → ⊥) → x ≡ c)
+  repacked : (x : Client) → stateOf x m′ ≡ stateOf (r .client) m′ → (r .number ≡ 0 → Idle a (c .request) x) → ((r .number ≡ 0 → ⊥) → x ≡ c)
       → Meets c s a m tape b (answerOf (packed r) x) m′ b′
-  repacked f x e i n = rw (unpacked r f x) (record {
+  repacked x e i n = rw (unpacked r meets-small x) (record {
     number = k .number;
     taken = k .taken;
     command = k .command;
@@ -167,21 +120,14 @@ module _ (c : Client) (s : State) (a : Ask) (m tape b : List ℕ) (r : Answer) (
   })
 
   pub meets-refused : (r .number ≡ 0 → ⊥) → Meets c s a m tape b (answerOf (packed r) c) m′ b′
-  meets-refused n = repacked (refused-small n) c (ap (λ x. stateOf x m′) (sym (k .refused n .1))) (λ z. absurd (n z)) (λ z. refl)
+  meets-refused n = repacked c (ap (λ x. stateOf x m′) (sym (k .refused n .1))) (λ z. absurd (n z)) (λ z. refl)
 
   pub meets-accepted : r .number ≡ 0 → (x : Client) → stateOf x m′ ≡ stateOf (r .client) m′ → Idle a (c .request) x → Meets c s a m tape b (answerOf (packed r) x) m′ b′
-  meets-accepted z x e i = repacked (accepted-fits z) x e (λ _. i) (λ n. absurd (n z))
+  meets-accepted z x e i = repacked x e (λ _. i) (λ n. absurd (n z))
 
   -- numbers modulo 2^16 stand for the same state
   pub left-low : r .number ≡ 0 → stateOf (lowClient (r .client)) m′ ≡ stateOf (r .client) m′
   left-low z = low-client (r .client) m′ (left-in z)
-
-  -- what the rules keep of the request in hand
-  pub left-asked : r .number ≡ 0 → ((js : List ℕ) → asked (act s a js .request) ≡ asked (s .request)) → asked (stateOf (r .client) m′ .request) ≡ asked (s .request)
-  unfolding accepted
-  left-asked z h =
-      let e : number s made ≡ 0 = sym is-number ∙ z in
-      ap (λ (x : State). asked (x .request)) (k .state ∙ ap (λ (x : State × Outcome). x .0) (step-accepted s made e)) ∙ h (numbersOf (draws (bounds s a) (wordsOf tape)))
 
   -- a call that does not open keeps the shape
   pub shape-kept : r .number ≡ 0 → opens a ≡ false → shapeOf (r .client .shape) ≡ s .shape
@@ -194,7 +140,7 @@ module _ (c : Client) (s : State) (a : Ask) (m tape b : List ℕ) (r : Answer) (
   left-within z = unfold stateOf view in left-in z .shape
 
   pub number-packed : packed r % 32 ≡ r .number
-  number-packed = omega (arith, is-number, number-le s made)
+  number-packed = let w = meets-small in omega arith
 
 -- ---- The state as it is handed back
 
@@ -212,7 +158,7 @@ pub record HandedBackOpened (r : Answer) (u : ℕ) (st st′ : List ℕ) : Type 
 abbrev pub numbers : ℕ → ℕ → ℕ → ℕ → ℕ → ℕ → Shape
 numbers n p l b e w = record { N = n; P = p; L = l; B = b; E = e; W = w }
 
-shape-same : (g h : M.Shape) → shapeOf g ≡ shapeOf h → g ≡ h
+pub shape-same : (g h : M.Shape) → shapeOf g ≡ shapeOf h → g ≡ h
 shape-same g h e = λ k. record { n = e k .N; p = e k .P; l = e k .L; b = e k .B; e = e k .E; w = e k .W }
 
 -- a call that meets the rules, handed back
@@ -247,16 +193,6 @@ module _ (a : Ask) (four : opens a ≡ false) (st m tape b : List ℕ) (r : Answ
   exported h = handed (withRest (r .client)) h (between-rest (r .client) (wordAt st) (wordAt st) (λ k. refl)) (λ z.
       ap (λ x. stateOf x m′) (rest-is (r .client) (wordAt st) ∙ ap (λ x. reshaped x (lowClient (r .client))) (shape-low z)) ∙ left-low (clientIn st) s a m tape b r m′ b′ k z)
       (λ z. subst (Idle a (clientIn st .request)) (sym (rest-is (r .client) (wordAt st))) (rest-idle st a (r .client) m′ (left-low (clientIn st) s a m tape b r m′ b′ k z) (k .idle z)))
-
-  -- ..by a call that changes no more of the request than its level, and where its block was found. The bytes then say how far the client is
-  pub exported-progress : (stored : (ℕ → ℕ) → ℕ → ℕ) → Between (wordAt st) (stored (wordAt st)) → (r .number ≡ 0 → clientOf (stored (wordAt st)) ≡ progressed (clientIn st) (lowClient (r .client)))
-      → ((js : List ℕ) → asked (act s a js .request) ≡ asked (s .request)) → unasked a (clientIn st .request) ≡ clientIn st .request → HandedBack stored r u st st′ → Exported a st m tape b u st′ m′ b′
-  exported-progress stored between says e n h = handed stored h between (λ z.
-      let low = left-low (clientIn st) s a m tape b r m′ b′ k z in
-      ap (λ x. stateOf x m′) (says z)
-      ∙ same-state (clientIn st) (lowClient (r .client)) m m′ (shape-low z) (ap (λ (x : State). asked (x .request)) low ∙ left-asked (clientIn st) s a m tape b r m′ b′ k z e)
-      ∙ low)
-      (λ z. subst (Idle a (clientIn st .request)) (sym (says z)) (λ y. progress-idle st (r .client) m m′ (left-asked (clientIn st) s a m tape b r m′ b′ k z e) (λ x. k .idle z x ∙ n) y ∙ sym n))
 
 -- with a state of another length each of the four calls answers 2 at once
 pub exported-length : {a : Ask} {st m tape b : List ℕ} → (length st ≡ stateLength → ⊥) → Exported a st m tape b 2 st m b

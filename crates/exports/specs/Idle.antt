@@ -16,7 +16,7 @@ use Rattle.client.specs.declared.Client.{Client}
 use Rattle.client.specs.declared.Request.{Request}
 use Rattle.client.specs.View.{stateOf}
 use Rattle.client.specs.Readings.{hand-none, hand-some}
-use Rattle.client.specs.Moves.{atLevel, atFound}
+use Rattle.client.specs.Moves.{atLevel}
 use Rattle.contract.specs.Meets.{unasked}
 use Rattle.codec.specs.Codec.{clientOf, lowRequest, lowClient, progressed}
 
@@ -61,9 +61,9 @@ module _ (st : List ℕ) where
       → lowRequest (d .request) .kind ≡ 0 → lowRequest (d .request) ≡ unasked a given
   rest-idle a d m′ e k z = ap lowRequest (k (none-kind d m′ (ap (λ (s : State). s .request) (sym e) ∙ hand-none (lowClient d) m′ z))) ∙ low-unasked a
 
-  -- those that tell how far it is, and where its request's block was found
+  -- those that tell how far it is
   pub progress-idle : (d : Client) (m m′ : List ℕ) → asked (stateOf d m′ .request) ≡ asked (stateOf (clientOf (wordAt st)) m .request) → (d .request .kind ≡ 0 → d .request ≡ given)
       → given .kind ≡ 0 → progressed (clientOf (wordAt st)) (lowClient d) .request ≡ given
   progress-idle d m m′ e k z =
       let n : d .request .kind ≡ 0 = none-kind d m′ (asked-none (stateOf d m′ .request) (e ∙ ap asked (hand-none (clientOf (wordAt st)) m z))) in
-      ap (λ (r : Request). atFound (r .found % 65536) (atLevel (r .level % 65536) given)) (k n) ∙ (λ i. atFound (low-word 22 i) (atLevel (low-word 20 i) given))
+      ap (λ (r : Request). atLevel (r .level % 65536) given) (k n) ∙ (λ i. atLevel (low-word 20 i) given)

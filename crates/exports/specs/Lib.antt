@@ -4,5 +4,6 @@ pub mod Stays
 pub mod Stored
 pub mod Exported
 pub mod Idle
+pub mod Settled
 pub mod Paged
 pub mod Determined

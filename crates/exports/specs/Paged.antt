@@ -1,23 +1,20 @@
 -- What the exported page's contract says.
 use mathlib.Core.Path.{_≡_, refl, ap, sym, _∙_, subst}
-use mathlib.Core.Bool.{Bool, true, false}
-use mathlib.Core.List.{List, [], _∷_}
-use Prim.Native.Nat.{ℕ, _≤_}
+use mathlib.Core.List.{List}
+use Prim.Native.Nat.{ℕ}
 use native.Mathlib.Omega.{arith}
 use native.Mathlib.Decide.{ℕ-discrete}
 use lib.ListN.{length}
-use lib.Dec.{leb}
 use Rattle.rules.specs.State.{State, cmd}
-use Rattle.rules.specs.Questions.{ready, firstNo}
 use Rattle.client.specs.declared.Client.{Client}
 use Rattle.client.specs.View.{stateOf}
 use Rattle.contract.specs.Answers.{clearedClient, refusedWith, acceptedWith}
 use Rattle.contract.specs.declared.Answer.{Answer}
 use Rattle.contract.specs.Meets.{commandOf}
-use Rattle.codec.specs.Codec.{stateLength, packed, answerOf}
-use Rattle.report.specs.Page.{Shows, page, pageNumber, pageQuestions}
+use Rattle.codec.specs.Codec.{stateLength, Small, packed, unpacked, answerOf}
+use Rattle.report.specs.Page.{Shows}
 use Rattle.report.specs.Laws.{shows-small}
-use Rattle.exports.specs.Exported.{clientIn, Small, unpacked}
+use Rattle.exports.specs.Exported.{clientIn}
 
 -- the answer of a page: a number, and its length where a call has the words that it took
 abbrev pub told : ℕ → Answer
@@ -35,25 +32,15 @@ pub record Paged (st m b : List ℕ) (u : ℕ) (b′ : List ℕ) : Type 0 where
 pub paged-length : {st m b : List ℕ} → (length st ≡ stateLength → ⊥) → Paged st m b 2 b
 paged-length n = record { shows = λ l. absurd (n l); command = refl; found = refl; other = λ _. (refl, refl) }
 
--- its number is one that a call may answer
-page-number-le : (s : State) (m n : ℕ) → pageNumber s m n ≤ 15
-unfolding pageNumber pageQuestions firstNo
-page-number-le s m n = go (ready s m) (leb (length (page s)) n)
-  where
-    go : (t u : Bool) → firstNo ((t, 2) ∷ (u, 15) ∷ []) ≤ 15
-    go false u = omega arith
-    go true false = omega arith
-    go true true = omega arith
-
 -- what is written, packed
 module _ (st m b : List ℕ) (number size : ℕ) (b′ : List ℕ) (l : length st ≡ stateLength) (k : Shows (stateOf (clientIn st) m) (length m) b number size b′) (c : Client) where
   abbrev s : State
   s = stateOf (clientIn st) m
 
-  small : Small (acceptedWith c size 0 0 0 0) × Small (refusedWith number c)
+  pub small : Small (acceptedWith c size 0 0 0 0) × Small (refusedWith number c)
   small = let w = shows-small _ _ b number size b′ k in (
     record { number = omega arith; taken = omega arith; kind = omega arith; partition = omega arith; level = omega arith; slot = omega arith; found = omega arith },
-    record { number = omega (arith, k .asked, page-number-le s (length m) (length b)); taken = omega arith; kind = omega arith; partition = omega arith; level = omega arith; slot = omega arith; found = omega arith },
+    record { number = omega arith; taken = omega arith; kind = omega arith; partition = omega arith; level = omega arith; slot = omega arith; found = omega arith },
   )
 
   paged-yes : number ≡ 0 → (u : ℕ) → u ≡ packed (acceptedWith c size 0 0 0 0) → Paged st m b u b′

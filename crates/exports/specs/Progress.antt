@@ -1,5 +1,5 @@
--- A turn and a completion hand back how far the client is, and where its request's block was found; what the request asks for, and the shape, stay in
--- the bytes as they are.
+-- Until a request is released, a turn and a completion hand back how far the client is; the rest of the request, and the shape, stay in the bytes as they
+-- are.
 use mathlib.Core.Path.{_≡_, refl, ap, sym}
 use mathlib.Core.Bool.{Bool, true, false, true≢false}
 use mathlib.Core.List.{List, []}
@@ -13,19 +13,19 @@ use Rattle.rules.specs.Setters.{setRequest}
 use Rattle.rules.specs.Laws.Asked.{asked}
 use Rattle.client.specs.declared.Client.{Client}
 use Rattle.client.specs.declared.Request.{Request}
-use Rattle.client.specs.View.{stateOf, view, foundBy, handBy, requestOf}
-use Rattle.client.specs.Moves.{atLevel, atFound}
+use Rattle.client.specs.View.{stateOf, view, handBy, requestOf}
+use Rattle.client.specs.Moves.{atLevel}
 use Rattle.codec.specs.Codec.{progressed}
 
--- two requests that ask for the same differ in their level and where their block was found alone
+-- two requests that ask for the same differ in their level alone
 module _ (c d : Request) (bs bs′ : List ℕ) where
   abbrev mixed : Request
-  mixed = atFound (d .found) (atLevel (d .level) c)
+  mixed = atLevel (d .level) c
 
   same-hand : asked (some (handBy d bs′)) ≡ asked (some (handBy c bs)) → handBy mixed bs′ ≡ handBy d bs′
   same-hand e =
       let f = sym (ap (λ o. Option·getD o (handBy d bs′)) e) in
-      λ k. record { kind = f k .kind; block = f k .block; bytes = if eqb (f k .kind) write then bs′ else []; next = f k .next; evict = f k .evict; level = d .level; found = foundBy (d .found) }
+      λ k. record { kind = f k .kind; block = f k .block; bytes = if eqb (f k .kind) write then bs′ else []; next = f k .next; evict = f k .evict; level = d .level; found = f k .found }
 
   same-request : asked (requestOf d bs′) ≡ asked (requestOf c bs) → requestOf mixed bs′ ≡ requestOf d bs′
   unfolding requestOf isNone

@@ -87,16 +87,25 @@ accepted-small s collect m ws n p = (record { kind = omega arith; partition = om
 
 -- ---- Where a block was found: nowhere, in the cache, or in one of at most eight levels
 
-carried-small : (h : Shape) → within h ≡ true → (o : Option R.Request) → IfSome (RequestIn h) o → foundNumber (carried o) < 16
+carried-below : (h : Shape) (o : Option R.Request) → IfSome (RequestIn h) o → foundNumber (carried o) < h .L + 2
 unfolding carried foundNumber
-carried-small h w none f = omega arith
-carried-small h w (some r) f = go (r .found) (f .found)
+carried-below h none f = omega arith
+carried-below h (some r) f = go (r .found) (f .found)
   where
-    go : (x : Option Found) → FoundIn (h .L) x → foundNumber (Option·getD x foundNowhere) < 16
+    go : (x : Option Found) → FoundIn (h .L) x → foundNumber (Option·getD x foundNowhere) < h .L + 2
     go none k = omega arith
     go (some foundNowhere) k = omega arith
     go (some foundCache) k = omega arith
-    go (some (foundLevel ℓ)) k = omega (arith, k, levels-le h w)
+    go (some (foundLevel ℓ)) k = omega (arith, k)
+
+-- an accepted call names no level from L on
+pub found-below : (s : State) (a : Ask) (m : ℕ) (ws : List ℕ) (n : ℕ) → Passed (questions s a m ws n) → foundNumber (handedFound s a) < s .shape .L + 2
+unfolding questions handedFound foundNumber
+found-below s (opening h) m ws n p = omega arith
+found-below s (request k b bs) m ws n p = omega arith
+found-below s turn m ws n p = omega arith
+found-below s (completion c bs) m ws n p = omega arith
+found-below s collect m ws n p = carried-below (s .shape) (s .request) (given-in s m (p .0) .request)
 
 pub accepted-found : (s : State) (a : Ask) (m : ℕ) (ws : List ℕ) (n : ℕ) → Passed (questions s a m ws n) → foundNumber (handedFound s a) < 16
 unfolding questions handedFound foundNumber
@@ -104,7 +113,10 @@ accepted-found s (opening h) m ws n p = omega arith
 accepted-found s (request k b bs) m ws n p = omega arith
 accepted-found s turn m ws n p = omega arith
 accepted-found s (completion c bs) m ws n p = omega arith
-accepted-found s collect m ws n p = let f = given-in s m (p .0) in carried-small (s .shape) (f .shape) (s .request) (f .request)
+accepted-found s collect m ws n p =
+    let f = given-in s m (p .0) in
+    let l = levels-le (s .shape) (f .shape) in
+    omega (arith, carried-below (s .shape) (s .request) (f .request))
 
 -- ---- The client's numbers
 

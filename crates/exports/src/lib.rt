@@ -5,22 +5,26 @@ use codec::STATE;
 use contract::Answer;
 use memory::Shape;
 use report::Shown;
+ghost use mathlib.Core.Bool.{true};
 ghost use mathlib.Core.Path.{_≡_};
 ghost use mathlib.Core.List.{[]};
 ghost use lib.ListN.{length, replicate};
 ghost use Rattle.lists.specs.Tests.{if_then_else_};
 ghost use Rattle.rules.specs.Shape.{within};
 ghost use Rattle.rules.specs.State.{cmd};
-ghost use Rattle.rules.specs.Questions.{request, turn, completion as completionOf, collect};
+ghost use Rattle.rules.specs.Questions.{ready, request, turn, completion as completionOf, collect};
 ghost use Rattle.memory.specs.Fits.{shapeOf};
-ghost use Rattle.codec.specs.Codec.{stateLength, withTurn, withCompletion, withRest, packed};
+ghost use Rattle.memory.specs.Words.{wordAt};
+ghost use Rattle.client.specs.View.{stateOf};
+ghost use Rattle.codec.specs.Codec.{stateLength, withTurn, withCompletion, withRest, clientOf, Small, packed};
 ghost use Rattle.contract.specs.Answers.{refusedWith, acceptedWith};
 ghost use Rattle.exports.specs.Exported.{Opened, Exported, HandedBack, HandedBackOpened, numbers};
 ghost use Rattle.exports.specs.Paged.{Paged};
+ghost use Rattle.exports.specs.Settled.{ReleasedIn, HandedBackReleased};
 
 // The next state is handed back where the call was accepted. No call but an open changes the shape.
 fn hand_back(state: &mut [u8], r: Answer) -> u64
-    requires { ⌜ length (now state) ≡ stateLength ⌝ }
+    requires { ⌜ (length (now state) ≡ stateLength) × Small r ⌝ }
     ensures { λ u. ⌜ HandedBack (withRest (r .client)) r u (now (state .entry)) (now (state .exit)) ⌝ }
 {
     if r.number != 0 {
@@ -30,27 +34,49 @@ fn hand_back(state: &mut [u8], r: Answer) -> u64
     codec::pack(r)
 }
 
+// A held request that no job holds any longer is released, in the bytes of the state: then its numbers need not be kept while the call does the rest.
+fn release(state: &mut [u8], memory: &[u8])
+    requires { ⌜ (length (now state) ≡ stateLength) × (ready (stateOf (clientOf (wordAt (now state))) (now memory)) (length (now memory)) ≡ true) ⌝ }
+    ensures { λ _. ⌜ ReleasedIn (wordAt (now (state .entry))) (now (memory .entry)) (wordAt (now (state .exit))) ⌝ }
+{
+    if !codec::is_held(state) {
+        return;
+    }
+    release_held(state, memory);
+}
+
+fn release_held(state: &mut [u8], memory: &[u8])
+    requires { ⌜ (length (now state) ≡ stateLength) × (ready (stateOf (clientOf (wordAt (now state))) (now memory)) (length (now memory)) ≡ true) ⌝ }
+    ensures { λ _. ⌜ ReleasedIn (wordAt (now (state .entry))) (now (memory .entry)) (wordAt (now (state .exit))) ⌝ }
+{
+    let c = codec::decode(state);
+    let d = releasing::release(c, memory);
+    codec::set_found(state, d.request.found);
+}
+
 // A turn changes what the command that it sends says.
-fn hand_back_turn(state: &mut [u8], r: Answer) -> u64
-    requires { ⌜ length (now state) ≡ stateLength ⌝ }
-    ensures { λ u. ⌜ HandedBack (withTurn (r .kind) (r .client)) r u (now (state .entry)) (now (state .exit)) ⌝ }
+fn hand_back_turn(state: &mut [u8], memory: &[u8], r: Answer) -> u64
+    requires { ⌜ (length (now state) ≡ stateLength) × Small r × (r .number ≡ 0 → ready (stateOf (clientOf (withTurn (r .kind) (r .client) (wordAt (now state)))) (now memory)) (length (now memory)) ≡ true) ⌝ }
+    ensures { λ u. ⌜ HandedBackReleased (withTurn (r .kind) (r .client)) r (now (memory .entry)) u (now (state .entry)) (now (state .exit)) ⌝ }
 {
     if r.number != 0 {
         return codec::pack(r);
     }
     codec::encode_turn(state, r.client, r.kind);
+    release(state, memory);
     codec::pack(r)
 }
 
 // A completion changes what the command that is completed says.
-fn hand_back_completion(state: &mut [u8], r: Answer, kind: usize) -> u64
-    requires { ⌜ length (now state) ≡ stateLength ⌝ }
-    ensures { λ u. ⌜ HandedBack (withCompletion kind (r .client)) r u (now (state .entry)) (now (state .exit)) ⌝ }
+fn hand_back_completion(state: &mut [u8], memory: &[u8], r: Answer, kind: usize) -> u64
+    requires { ⌜ (length (now state) ≡ stateLength) × Small r × (r .number ≡ 0 → ready (stateOf (clientOf (withCompletion kind (r .client) (wordAt (now state)))) (now memory)) (length (now memory)) ≡ true) ⌝ }
+    ensures { λ u. ⌜ HandedBackReleased (withCompletion kind (r .client)) r (now (memory .entry)) u (now (state .entry)) (now (state .exit)) ⌝ }
 {
     if r.number != 0 {
         return codec::pack(r);
     }
     codec::encode_completion(state, r.client, kind);
+    release(state, memory);
     codec::pack(r)
 }
 
@@ -64,7 +90,7 @@ fn refuse_state(state: &mut [u8], h: Shape) -> u64
 
 // A refused open hands back zeros.
 fn hand_back_opened(state: &mut [u8], r: Answer) -> u64
-    requires { ⌜ length (now state) ≡ stateLength ⌝ }
+    requires { ⌜ (length (now state) ≡ stateLength) × Small r ⌝ }
     ensures { λ u. ⌜ HandedBackOpened r u (now (state .entry)) (now (state .exit)) ⌝ }
 {
     if r.number != 0 {
@@ -128,8 +154,8 @@ pub extern "C" fn rinwolfedd_turn(
         return 2;
     }
     let c = codec::decode(state);
-    let r = turning::turn(c, memory, tape, buffer);
-    hand_back_turn(state, r)
+    let r = turning::perform(c, memory, tape, buffer);
+    hand_back_turn(state, memory, r)
 }
 
 #[no_mangle]
@@ -148,8 +174,8 @@ pub extern "C" fn rinwolfedd_completion(
         return 2;
     }
     let c = codec::decode(state);
-    let r = completing::completion(c, memory, kind, partition, level, slot, bytes);
-    hand_back_completion(state, r, kind)
+    let r = completing::perform(c, memory, kind, partition, level, slot, bytes);
+    hand_back_completion(state, memory, r, kind)
 }
 
 #[no_mangle]
@@ -166,6 +192,7 @@ pub extern "C" fn rinwolfedd_collect(state: &mut [u8], memory: &mut [u8], buffer
 
 // A page's answer has its length where a call's has the words taken.
 fn tell(r: Shown, c: Client) -> u64
+    requires { ⌜ Small (acceptedWith c (r .length) 0 0 0 0) × Small (refusedWith (r .number) c) ⌝ }
     ensures { λ u. ⌜ (r .number ≡ 0 → u ≡ packed (acceptedWith c (r .length) 0 0 0 0)) × ((r .number ≡ 0 → ⊥) → u ≡ packed (refusedWith (r .number) c)) ⌝ }
 {
     if r.number != 0 {

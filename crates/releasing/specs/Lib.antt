@@ -1,2 +1,3 @@
 -- A request released, as client and memory have it.
 pub mod Released
+pub mod Performs

@@ -1,26 +1,24 @@
 -- What a release asks for and what it leaves.
-use mathlib.Core.Path.{_≡_, refl, ap, sym, _∙_, subst}
+use mathlib.Core.Path.{_≡_, refl, ap, sym, _∙_}
 use mathlib.Core.Bool.{Bool, true, false, not, _&&_}
 use mathlib.Core.List.{List}
 use mathlib.Core.Option.{Option, none, some, Option·map}
 use Prim.Native.Nat.{ℕ, suc, _+_, _-_, _≤_, _<_}
 use native.Mathlib.Omega.{arith}
-use native.Mathlib.Decide.{decLt}
+use native.Mathlib.Decide.{decLt, ℕ-discrete}
 use lib.ListN.{length}
-use lib.Dec.{leb}
 use lib.Pow.{pow-pos, pow-mono}
-use borrow.Author.Tests.{ne-eqb, lt-ltb, le-ltb, le-leb}
+use lib.Dec.{eqb}
+use borrow.Author.Tests.{eqb-false, ne-eqb, lt-ltb, le-ltb}
 use Rattle.lists.specs.Search.{member}
-use Rattle.lists.specs.Tests.{if_then_else_, and-true}
+use Rattle.lists.specs.Tests.{if_then_else_}
 use Rattle.rules.specs.Shape.{slots}
 use Rattle.rules.specs.State as R
 use Rattle.rules.specs.State.{State, foundNumber}
 use Rattle.rules.specs.Setters.{setRequest}
-use Rattle.rules.specs.Memory.{needed}
 use Rattle.rules.specs.Blocks.{foundAt, lookUp}
 use Rattle.rules.specs.Request.{blocked, held, withFound, releasedIn, release}
 use Rattle.rules.specs.Questions.{ready}
-use Rattle.rules.specs.Laws.Range.{InRange, facts-range}
 use Rattle.memory.specs.Tables.{tablesOf}
 use Rattle.memory.specs.Fits.{shapeOf, fit, fit-lt}
 use Rattle.client.specs.declared.Client.{Client}
@@ -28,39 +26,31 @@ use Rattle.client.specs.Changes.{level-is}
 use Rattle.client.specs.Moves.{withRequest, atFound, Room, Stands}
 use Rattle.client.specs.Readings.{handOf, hand-none, hand-some, hand-held, hand-released, place-as, as-number}
 use Rattle.client.specs.View.{stateOf, view, levelOf, placeOf, foundBy, handBy, requestOf}
-use Rattle.ready.specs.Usable.{Usable, usable}
+use Rattle.ready.specs.Usable.{usable}
 
 -- the client's counts fit, and so does the block of a request in hand
-pub record Held (c : Client) (m : List ℕ) : Type 0 where
+pub record Releasable (c : Client) (m : List ℕ) : Type 0 where
   pub room : Room c m
   pub jobs : c .jobs ≤ 64
   pub waiting : c .waiting ≤ c .shape .n
   pub block : (c .request .kind ≡ 0 → ⊥) → c .request .block < c .shape .n
 
-pub held-usable : (c : Client) (m : List ℕ) → Usable c m → Held c m
-held-usable c m u = record { room = u .room; jobs = u .jobs; waiting = omega (arith, u .counts .waiting, u .places); block = λ n. u .asked n .0 .block }
+pub releasable : (c : Client) (m : List ℕ) → ready (stateOf c m) (length m) ≡ true → Releasable c m
+releasable c m e =
+    let u = usable c m e in
+    record { room = u .room; jobs = u .jobs; waiting = omega (arith, u .counts .waiting, u .places); block = λ n. u .asked n .0 .block }
 
--- so it is with client and memory that stand for a state in range, of the shape that c has
-module _ (c d : Client) (m m′ : List ℕ) (s : State) (room : Room c m) (long : length m′ ≡ length m) (e : stateOf d m′ ≡ s) (h : s .shape ≡ shapeOf (c .shape)) (f : InRange s) where
-  enough : leb (needed (stateOf d m′ .shape)) (length m′) ≡ true
-  enough =
-      let k : stateOf d m′ .shape ≡ shapeOf (c .shape) = ap (λ (x : State). x .shape) e ∙ h in
-      ap (λ x. leb (needed x) (length m′)) k ∙ le-leb (needed (shapeOf (c .shape))) (length m′) (unfold needed in (omega (arith, room .long, long)))
-
-  pub held-of : Held d m′
-  held-of =
-      held-usable d m′ (usable d m′ (unfold ready in (and-true enough (facts-range (stateOf d m′) (subst InRange (sym e) f)))))
-
--- The client r after it, with the memory as it was; where none is in hand it is c
+-- The client r after it, with the memory as it was
 pub record Released (c : Client) (m : List ℕ) (r : Client) : Type 0 where
   pub state : stateOf r m ≡ release (stateOf c m)
-  pub shape : r .shape ≡ c .shape
-  pub out : r .out ≡ c .out
-  pub idle : r .request .kind ≡ 0 → r ≡ c
+  -- no other number changes, and that one only with a request in hand
+  pub found : r ≡ withRequest (atFound (r .request .found) (c .request)) c
+  pub idle : r .request .kind ≡ 0 → r .request ≡ c .request
+  pub low : c .request .found < 65536 → r .request .found < 65536
 
 -- after a move to the state s
 pub released-stands : {c r : Client} {m₀ m : List ℕ} {s : State} → Stands c m₀ m s → Released c m r → Stands r m₀ m (release s)
-released-stands a b = record { state = b .state ∙ ap release (a .state); tail = rw (b .shape) (a .tail) }
+released-stands a b = record { state = b .state ∙ ap release (a .state); tail = rw (ap (λ (x : Client). x .shape) (b .found)) (a .tail) }
 
 -- ---- Where a block is found
 
@@ -133,3 +123,12 @@ module _ (c : Client) (m : List ℕ) where
 
       pub released : stateOf (withRequest (atFound x (c .request)) c) m ≡ release s
       released = asked-is ∙ ap (λ o. setRequest o s) (asked-some ∙ ap some (hand-found ∙ sym looks-up)) ∙ sym (ap (λ o. setRequest (Option·map (releasedIn s) o) s) (hand-some c m n))
+
+-- ---- Where none is held nothing changes
+
+pub not-held : (c : Client) (m : List ℕ) → (if eqb (c .request .kind) 0 then false else eqb (c .request .found) 0) ≡ false → Released c m c
+not-held c m e = record { state = sym (go (ℕ-discrete (c .request .kind) 0)); found = refl; idle = λ _. refl; low = λ l. l }
+  where
+    go : Dec (c .request .kind ≡ 0) → release (stateOf c m) ≡ stateOf c m
+    go (yes z) = unasked c m z
+    go (no n) = found-before c m n (eqb-false (c .request .found) 0 (sym (ap (λ t. if t then false else eqb (c .request .found) 0) (ne-eqb (c .request .kind) 0 n)) ∙ e))

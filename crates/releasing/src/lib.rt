@@ -1,18 +1,20 @@
 // A held request that no job holds any longer is released: the place of its block is looked up.
 use client::Client;
 use client::Request;
+use contract::Answer;
 ghost use mathlib.Core.Path.{_≡_};
 ghost use Prim.Native.Nat.{suc, _<_, _≤_};
 ghost use Rattle.rules.specs.State.{foundNumber};
 ghost use Rattle.rules.specs.Blocks.{lookUp};
 ghost use Rattle.client.specs.View.{stateOf};
 ghost use Rattle.client.specs.Moves.{Room};
-ghost use Rattle.releasing.specs.Released.{Held, Released};
+ghost use Rattle.releasing.specs.Performs.{Settled};
+ghost use Rattle.releasing.specs.Released.{Releasable, Released};
 
 // Where the request's block is found, as the number that the request carries: 1 for nowhere, 2 for the cache, and from 3 on the levels.
 fn look_up(c: Client, m: &[u8]) -> usize
     requires { ⌜ Room c (now m) × (c .waiting ≤ c .shape .n) × (c .request .block < c .shape .n) ⌝ }
-    ensures { λ r. ⌜ r ≡ suc (foundNumber (lookUp (stateOf c (now (m .entry))) (c .request .block))) ⌝ }
+    ensures { λ r. ⌜ (r ≡ suc (foundNumber (lookUp (stateOf c (now (m .entry))) (c .request .block)))) × (r < 20) ⌝ }
 {
     let x = memory::tables::place(c.shape, m, c.request.block);
     if 2 <= x {
@@ -27,7 +29,7 @@ fn look_up(c: Client, m: &[u8]) -> usize
 
 // The queue is gone over only while a request is held.
 pub fn release(c: Client, m: &[u8]) -> Client
-    requires { ⌜ Held c (now m) ⌝ }
+    requires { ⌜ Releasable c (now m) ⌝ }
     ensures { λ r. ⌜ Released c (now (m .entry)) r ⌝ }
 {
     let r = c.request;
@@ -50,4 +52,17 @@ pub fn release(c: Client, m: &[u8]) -> Client
         level: r.level,
         found,
     })
+}
+
+// The answer to an accepted call, whose client is released now.
+pub fn settle(mut r: Answer, m: &[u8]) -> Answer
+    requires { ⌜ (r .number ≡ 0 → Releasable (r .client) (now m)) ⌝ }
+    ensures { λ x. ⌜ Settled r (now (m .entry)) x ⌝ }
+{
+    if r.number != 0 {
+        return r;
+    }
+    let c = r.client;
+    r.client = release(c, m);
+    r
 }

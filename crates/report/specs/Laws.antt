@@ -151,11 +151,11 @@ page-numbers s memory buffer = go (ready s memory) (leb (length (page s)) buffer
     go true true = refl
 
 -- number and length are small
-pub shows-small : (s : State) (memory : ℕ) (b : List ℕ) (number size : ℕ) (b′ : List ℕ) → Shows s memory b number size b′ → (number < 256) × (size < 65536)
+pub shows-small : (s : State) (memory : ℕ) (b : List ℕ) (number size : ℕ) (b′ : List ℕ) → Shows s memory b number size b′ → (number < 16) × (size < 65536)
 unfolding pageNumber pageQuestions firstNo
 shows-small s memory b number size b′ k = go (ready s memory) (leb (length (page s)) (length b)) refl refl
   where
-    go : (t u : Bool) → ready s memory ≡ t → leb (length (page s)) (length b) ≡ u → (number < 256) × (size < 65536)
+    go : (t u : Bool) → ready s memory ≡ t → leb (length (page s)) (length b) ≡ u → (number < 16) × (size < 65536)
     go false u e d = let n : number ≡ 2 = k .asked ∙ rw e in (omega arith, omega (arith, k .refused (λ z. omega arith) .0))
     go true false e d = let n : number ≡ 15 = k .asked ∙ rw (e, d) in (omega arith, omega (arith, k .refused (λ z. omega arith) .0))
     go true true e d = let n : number ≡ 0 = k .asked ∙ rw (e, d) in (omega arith, omega (arith, k .accepted n .0, page-le s memory e))

@@ -14,7 +14,7 @@ use Rattle.rules.specs.State.{State, cmd, read, write, foundNumber}
 use Rattle.rules.specs.Setters.{setRequest, setCursor, setSent, setWaiting}
 use Rattle.rules.specs.Draws.{draws, newOrder}
 use Rattle.rules.specs.Levels.{sources}
-use Rattle.rules.specs.Request.{passLevel, release}
+use Rattle.rules.specs.Request.{passLevel}
 use Rattle.rules.specs.Blocks.{holder, slotBytes, named, zeros}
 use Rattle.rules.specs.Rebuild.{gathered, doRebuild}
 use Rattle.rules.specs.Turn.{Step, idle, noDummy, readForRequest, readForJob, rebuild, writeNext, decide, command, stepBounds, markRead, send, doStep}
@@ -29,7 +29,6 @@ use Rattle.rules.specs.Laws.Shapes.{act-shape}
 use Rattle.memory.specs.Fits.{shapeOf, fit, fit-lt}
 use Rattle.memory.specs.Tables.{tablesOf}
 use Rattle.client.specs.declared.Client.{Client}
-use Rattle.client.specs.declared.Request.{Request}
 use Rattle.client.specs.View.{stateOf, view, handBy, requestOf, bytesIn}
 use Rattle.client.specs.Rows.{length-rows}
 use Rattle.client.specs.Readings.{hand-none}
@@ -39,11 +38,10 @@ use Rattle.ready.specs.Usable.{Usable}
 use Rattle.contract.specs.declared.Answer.{Answer}
 use Rattle.contract.specs.Answers.{refusedWith, acceptedWith}
 use Rattle.contract.specs.Buffers.{filled}
-use Rattle.contract.specs.Meets.{callOf, handedTo, commandOf, Meets, meets-no, meets-yes}
+use Rattle.contract.specs.Meets.{callOf, handedTo, commandOf, meets-no}
 use Rattle.rebuild.specs.Target.{rebuilt, rebuild-is}
 use Rattle.client.specs.declared.Found.{Found}
-use Rattle.releasing.specs.Released.{Held, Released, released-stands, held-usable, held-of}
-use Rattle.sending.specs.Commutes.{Commutes}
+use Rattle.releasing.specs.Performs.{Performs, ready-after}
 use Rattle.sending.specs.Chosen.{Chosen, leftBy}
 
 -- a turn that may be made, and the step that it decides
@@ -59,28 +57,15 @@ due c m x r u f e = record { ready = r; usable = u; free = f; step = e; inside =
 
 -- a turn that sends a read, whatever the tape and the buffer; one that sends a write without a draw, whatever the tape
 abbrev pub Reads : Client → List ℕ → Answer → List ℕ → Type 0
-Reads c m r m′ = (tape b : List ℕ) → Meets c (stateOf c m) turn m tape b r m′ b
+Reads c m r m′ = (tape b : List ℕ) → Performs c (stateOf c m) turn m tape b r m′ b
 
 abbrev pub Writes : Client → List ℕ → List ℕ → Answer → List ℕ → List ℕ → Type 0
-Writes c m b r m′ b′ = (tape : List ℕ) → Meets c (stateOf c m) turn m tape b r m′ b′
+Writes c m b r m′ b′ = (tape : List ℕ) → Performs c (stateOf c m) turn m tape b r m′ b′
 
 -- A turn of the client c leaves e, which stands for s; while no request is in hand, its numbers stay
 pub record Left (c e : Client) (m m′ : List ℕ) (s : State) : Type 0 where
   pub stands : Stands e m m′ s
   pub idle : e .request .kind ≡ 0 → e .request ≡ c .request
-
--- a request released last, or first, where that is the same
-pub released-last : {c e f : Client} {m m′ : List ℕ} {s : State} → Left c e m m′ s → Released e m′ f → Left c f m m′ (release s)
-released-last a b = record {
-  stands = released-stands (a .stands) b;
-  idle = λ z. ap (λ (q : Client). q .request) (b .idle z) ∙ a .idle (sym (ap (λ (q : Client). q .request .kind) (b .idle z)) ∙ z);
-}
-
-pub released-first : (c d : Client) {f : Client} {m m′ : List ℕ} (x : Step) (js : List ℕ) → Commutes x → Released c m d → Left d f m m′ (doStep x js (stateOf d m)) → Left c f m m′ (release (doStep x js (stateOf c m)))
-released-first c d {m = m} x js k a b = record {
-  stands = restated (b .stands) (ap (doStep x js) (a .state) ∙ k (stateOf c m) js);
-  idle = λ z. let e = b .idle z in e ∙ ap (λ (q : Client). q .request) (a .idle (sym (ap (λ (q : Request). q .kind) e) ∙ z));
-}
 
 -- ---- The number
 
@@ -114,39 +99,39 @@ module _ (c : Client) (m tape b : List ℕ) (x : Step) (d : Due c m x) where
   turn-number = rw (d .ready, d .step, out-is c m, window-is c m, lt-ltb (c .out) (c .shape .w) (d .free), bytes-is c m, draws-enough (stepBounds x) (wordsOf tape))
 
   -- a turn that is refused
-  pub refuses : (n : ℕ) → firstNo asked ≡ n → (n ≡ 0 → ⊥) → Meets c s turn m tape b (refusedWith n c) m b
+  pub refuses : (n : ℕ) → firstNo asked ≡ n → (n ≡ 0 → ⊥) → Performs c s turn m tape b (refusedWith n c) m b
   unfolding refuse
-  refuses n e z = meets-no c s turn m tape b n (sym e ∙ sym turn-number) z refl
+  refuses n e z = record { refused = λ _. meets-no c s turn m tape b n (sym e ∙ sym turn-number) z refl; accepted = λ y. absurd (z y) }
 
   -- a turn that is accepted
   abbrev drawn : List ℕ
   drawn = numbersOf (draws (stepBounds x) (wordsOf tape))
 
-  pub accepts : (r : Answer) (m′ b′ : List ℕ) → firstNo asked ≡ 0 → length (stepBounds x) ≤ length (wordsOf tape)
-      → r .number ≡ 0 → r .taken ≡ length (stepBounds x) → commandOf r ≡ command x → r .found ≡ 0
-      → Left c (r .client) m m′ (release (doStep x drawn s)) → b′ ≡ handedTo b (written (release (doStep x drawn s)) (command x)) → Meets c s turn m tape b r m′ b′
-  unfolding bounds act perform sentCommand handed handedFound foundNumber stateOf view
-  accepts r m′ b′ e l n t k u f h = meets-yes c s turn m tape b r m′ b′ (record {
-    yes = turn-number ∙ e;
-    number = n;
-    taken = rw (d .step) (t ∙ sym (taken-all (stepBounds x) (wordsOf tape) l));
-    command = rw (d .step) k;
-    found = u;
-    state = rw (d .step) (f .stands .state);
-    idle = f .idle;
-    buffer = rw (d .step) h;
-    tail = f .stands .tail;
-  })
-
-  -- a request may be released before it, and after it
-  pub may-release-first : Held c m
-  may-release-first = held-usable c m (d .usable)
-
-  pub may-release : (e : Client) (m′ js : List ℕ) → length m′ ≡ length m → Left c e m m′ (doStep x js s) → Held e m′
-  may-release e m′ js l f = held-of c e m m′ (doStep x js s) (d .usable .room) l (f .stands .state) shape (doStep-in s (d .usable .range) x js (unfold stateOf view in (d .inside)) (omega (arith, out-is c m, window-is c m, d .free)))
+  -- the state that it leaves answers the first question too
+  left-ready : (e : Client) (m′ js : List ℕ) → length m′ ≡ length m → Left c e m m′ (doStep x js s) → ready (stateOf e m′) (length m′) ≡ true
+  left-ready e m′ js l f = ready-after c e m m′ (doStep x js s) (d .usable .room) l (f .stands .state) shape (doStep-in s (d .usable .range) x js (unfold stateOf view in (d .inside)) (omega (arith, out-is c m, window-is c m, d .free)))
     where
       shape : doStep x js s .shape ≡ shapeOf (c .shape)
       shape = subst (λ y. doStep y js s .shape ≡ shapeOf (c .shape)) (d .step) (unfold act perform stateOf view in (act-shape s turn js (unfold opens in refl)))
+
+  pub accepts : (r : Answer) (m′ b′ : List ℕ) → firstNo asked ≡ 0 → length (stepBounds x) ≤ length (wordsOf tape)
+      → r .number ≡ 0 → r .taken ≡ length (stepBounds x) → commandOf r ≡ command x → r .found ≡ 0 → length m′ ≡ length m
+      → Left c (r .client) m m′ (doStep x drawn s) → b′ ≡ handedTo b (written (doStep x drawn s) (command x)) → Performs c s turn m tape b r m′ b′
+  unfolding bounds perform sentCommand handed handedFound foundNumber stateOf view
+  accepts r m′ b′ e l n t k u g f h = record {
+    refused = λ z. absurd (z n);
+    accepted = λ _. record {
+      yes = turn-number ∙ e;
+      taken = rw (d .step) (t ∙ sym (taken-all (stepBounds x) (wordsOf tape) l));
+      command = rw (d .step) k;
+      found = u;
+      state = rw (d .step) (f .stands .state);
+      idle = f .idle;
+      buffer = rw (d .step) h;
+      tail = f .stands .tail;
+      ready = left-ready (r .client) m′ drawn g f;
+    };
+  }
 
 -- ---- What a turn hands out
 
@@ -182,9 +167,9 @@ handed-write b b′ s q l i n e = e ∙ sym (filled b (slotBytes s (holder s q l
 left : {c e : Client} {m m′ : List ℕ} {s : State} → (e .request .kind ≡ 0 → e .request ≡ c .request) → Stands e m m′ s → Left c e m m′ s
 left i k = record { stands = k; idle = i }
 
--- a read for a request: there is one in hand, also after a release
-pub asked-for : (c d : Client) (m : List ℕ) (q l i : ℕ) → Due c m (readForRequest q l i) → Released c m d → d .request .kind ≡ 0 → ⊥
-asked-for c d m q l i k a z = reads-asked (stateOf c m) q l i (k .step) (hand-none c m (sym (ap (λ (x : Client). x .request .kind) (a .idle z)) ∙ z))
+-- a read for a request: there is one in hand
+pub asked-for : (c : Client) (m : List ℕ) (q l i : ℕ) → Due c m (readForRequest q l i) → c .request .kind ≡ 0 → ⊥
+asked-for c m q l i k z = reads-asked (stateOf c m) q l i (k .step) (hand-none c m z)
 
 -- the request goes on from the level above l
 abbrev pub passed : ℕ → Client → Client
@@ -252,12 +237,12 @@ module _ (c : Client) (m tape b : List ℕ) (x : Step) (d : Due c m x) where
   lacks-number e = rw e (unfold sends command stepBounds possible in (rw (le-leb 0 (length (wordsOf tape)) (omega arith))))
 
   -- a read
-  pub read-meets : (e : Client) (m′ : List ℕ) (q l i : ℕ) → command x ≡ cmd 1 q l i → sends x ≡ true → possible (stateOf c m) x ≡ true → length (stepBounds x) ≡ 0
-      → Left c e m m′ (release (doStep x (drawn c m tape b x d) (stateOf c m))) → Meets c (stateOf c m) turn m tape b (acceptedWith e 0 1 q l i) m′ b
+  pub read-performs : (e : Client) (m′ : List ℕ) (q l i : ℕ) → command x ≡ cmd 1 q l i → sends x ≡ true → possible (stateOf c m) x ≡ true → length (stepBounds x) ≡ 0
+      → length m′ ≡ length m → Left c e m m′ (doStep x (drawn c m tape b x d) (stateOf c m)) → Performs c (stateOf c m) turn m tape b (acceptedWith e 0 1 q l i) m′ b
   unfolding firstNo
-  read-meets e m′ q l i k g p n f = accepts c m tape b x d (acceptedWith e 0 1 q l i) m′ b
+  read-performs e m′ q l i k g p n y f = accepts c m tape b x d (acceptedWith e 0 1 q l i) m′ b
       (rw (g, k, p, n, le-leb 0 (length (wordsOf tape)) (omega arith)))
-      (omega arith) refl (sym n) (sym k) refl f (rw k (handed-read b (release (doStep x (drawn c m tape b x d) (stateOf c m))) q l i))
+      (omega arith) refl (sym n) (sym k) refl y f (rw k (handed-read b (doStep x (drawn c m tape b x d) (stateOf c m)) q l i))
 
   -- a write
   module _ (q l i : ℕ) (k : command x ≡ cmd 2 q l i) (g : sends x ≡ true) where
@@ -273,13 +258,13 @@ module _ (c : Client) (m tape b : List ℕ) (x : Step) (d : Due c m x) where
     unfolding firstNo
     no-room e n p = rw (g, k, eq-eqb (length b) (c .shape .b) e, le-leb (length (stepBounds x)) (length (wordsOf tape)) n, p)
 
-    pub write-meets : (e : Client) (m′ b′ : List ℕ) (n : ℕ) → possible (stateOf c m) x ≡ true → length b ≡ c .shape .b → n ≡ length (stepBounds x) → n ≤ length (wordsOf tape)
-        → Left c e m m′ (release (doStep x (drawn c m tape b x d) (stateOf c m))) → 1 ≤ length b′ → b′ ≡ slotBytes (stateOf e m′) (holder (stateOf e m′) q l i)
-        → Meets c (stateOf c m) turn m tape b (acceptedWith e n 2 q l i) m′ b′
+    pub write-performs : (e : Client) (m′ b′ : List ℕ) (n : ℕ) → possible (stateOf c m) x ≡ true → length b ≡ c .shape .b → n ≡ length (stepBounds x) → n ≤ length (wordsOf tape)
+        → length m′ ≡ length m → Left c e m m′ (doStep x (drawn c m tape b x d) (stateOf c m)) → 1 ≤ length b′ → b′ ≡ slotBytes (stateOf e m′) (holder (stateOf e m′) q l i)
+        → Performs c (stateOf c m) turn m tape b (acceptedWith e n 2 q l i) m′ b′
     unfolding firstNo
-    write-meets e m′ b′ n p h t w f o z = accepts c m tape b x d (acceptedWith e n 2 q l i) m′ b′
+    write-performs e m′ b′ n p h t w y f o z = accepts c m tape b x d (acceptedWith e n 2 q l i) m′ b′
         (rw (g, k, eq-eqb (length b) (c .shape .b) h, le-leb (length (stepBounds x)) (length (wordsOf tape)) (omega arith), p))
-        (omega arith) refl t (sym k) refl f (rw k (handed-write b b′ (release (doStep x (drawn c m tape b x d) (stateOf c m))) q l i o (z ∙ ap (λ s. slotBytes s (holder s q l i)) (f .stands .state))))
+        (omega arith) refl t (sym k) refl y f (rw k (handed-write b b′ (doStep x (drawn c m tape b x d) (stateOf c m)) q l i o (z ∙ ap (λ s. slotBytes s (holder s q l i)) (f .stands .state))))
 
 -- ---- The rebuild
 pub rebuilt-stands : (c d : Client) (m m₁ m₂ : List ℕ) (q t n : ℕ) (bs o : List ℕ) (x : Found) → d .shape ≡ c .shape
@@ -304,13 +289,13 @@ rebuilt-stands c d m m₁ m₂ q t n bs o x h a b k e f =
 
 -- ---- Turns that are refused before a step is decided
 module _ (c : Client) (m tape b : List ℕ) where
-  pub not-ready : ready (stateOf c m) (length m) ≡ false → Meets c (stateOf c m) turn m tape b (refusedWith 2 c) m b
+  pub not-ready : ready (stateOf c m) (length m) ≡ false → Performs c (stateOf c m) turn m tape b (refusedWith 2 c) m b
   unfolding refuse
-  not-ready e = meets-no c (stateOf c m) turn m tape b 2 (sym (unfold number questions firstNo in (rw e))) (λ z. omega arith) refl
+  not-ready e = record { refused = λ _. meets-no c (stateOf c m) turn m tape b 2 (sym (unfold number questions firstNo in (rw e))) (λ z. omega arith) refl; accepted = λ z. absurd (omega arith) }
 
-  pub window-full : ready (stateOf c m) (length m) ≡ true → c .shape .w ≤ c .out → Meets c (stateOf c m) turn m tape b (refusedWith 9 c) m b
+  pub window-full : ready (stateOf c m) (length m) ≡ true → c .shape .w ≤ c .out → Performs c (stateOf c m) turn m tape b (refusedWith 9 c) m b
   unfolding refuse
-  window-full e l = meets-no c (stateOf c m) turn m tape b 9 (sym (unfold number questions firstNo in (rw (e, full)))) (λ z. omega arith) refl
+  window-full e l = record { refused = λ _. meets-no c (stateOf c m) turn m tape b 9 (sym (unfold number questions firstNo in (rw (e, full)))) (λ z. omega arith) refl; accepted = λ z. absurd (omega arith) }
     where
       full : ltb (length (stateOf c m .outstanding)) (stateOf c m .shape .W) ≡ false
       full = le-ltb (length (stateOf c m .outstanding)) (stateOf c m .shape .W) (omega (arith, out-is c m, window-is c m))

@@ -1,4 +1,4 @@
-// The steps of a turn: each sends one command, if enough is lent for it.
+// The steps of a turn: each sends one command, if enough is lent for it. The turn releases a request after it.
 use client::Client;
 use client::Found;
 use client::READ;
@@ -22,7 +22,7 @@ ghost use Rattle.tape.specs.Tape.{wordsOf};
 ghost use Rattle.cache.specs.Longest.{LongestAt};
 ghost use Rattle.gather.specs.Gathered.{Gathers};
 ghost use Rattle.ready.specs.Usable.{Usable};
-ghost use Rattle.contract.specs.Meets.{Meets};
+ghost use Rattle.releasing.specs.Performs.{Performs};
 ghost use Rattle.sending.specs.Chosen.{PlaceBelow, Chosen, extraAt, leftBy};
 ghost use Rattle.sending.specs.Sent.{Due, Reads, Writes, passed};
 
@@ -42,17 +42,15 @@ fn pass_level(c: Client, l: usize) -> Client
     })
 }
 
-// Sends the request's read. A release comes before the first store where it sees the same there: so the compiler need not keep its numbers
-// until the end.
+// Sends the request's read.
 pub fn read_for_request(c: Client, m: &mut [u8], q: usize, l: usize, i: usize) -> Answer
     requires { ⌜ Due c (now m) (readForRequestOf q l i) ⌝ }
     ensures { λ r. ⌜ Reads c (now (m .entry)) r (now (m .exit)) ⌝ }
 {
-    let d = releasing::release(c, m);
-    levels::mark_read(d, m, q, l, i);
-    let e = pass_level(d, l);
-    let f = commands::send(e, m, READ, q, l, i);
-    contract::sent(f, 0, READ, q, l, i)
+    levels::mark_read(c, m, q, l, i);
+    let d = pass_level(c, l);
+    let e = commands::send(d, m, READ, q, l, i);
+    contract::sent(e, 0, READ, q, l, i)
 }
 
 // Sends the job's next read.
@@ -60,11 +58,10 @@ pub fn read_for_job(c: Client, m: &mut [u8], q: usize, l: usize, i: usize) -> An
     requires { ⌜ Due c (now m) (readForJobOf q l i) ⌝ }
     ensures { λ r. ⌜ Reads c (now (m .entry)) r (now (m .exit)) ⌝ }
 {
-    let d = releasing::release(c, m);
-    levels::mark_read(d, m, q, l, i);
-    let e = d.with_cursor(bits::pow2(l + 1) - 2 + i + 1);
-    let f = commands::send(e, m, READ, q, l, i);
-    contract::sent(f, 0, READ, q, l, i)
+    levels::mark_read(c, m, q, l, i);
+    let d = c.with_cursor(bits::pow2(l + 1) - 2 + i + 1);
+    let e = commands::send(d, m, READ, q, l, i);
+    contract::sent(e, 0, READ, q, l, i)
 }
 
 // The bytes of the block in a slot, or zeros for a dummy, go into the buffer.
@@ -96,11 +93,10 @@ pub fn write_next(
     if buffer.len() != c.shape.b {
         return contract::refused(15, c);
     }
-    let d = releasing::release(c, m);
-    let e = d.with_sent(i + 1);
-    let f = commands::send(e, m, WRITE, q, t, i);
-    put_bytes(f, m, q, t, i, buffer);
-    contract::sent(f, 0, WRITE, q, t, i)
+    let d = c.with_sent(i + 1);
+    let e = commands::send(d, m, WRITE, q, t, i);
+    put_bytes(e, m, q, t, i, buffer);
+    contract::sent(e, 0, WRITE, q, t, i)
 }
 
 // The block at place j of the cache, which has waited longest for q, is chosen if q stores fewer than 2^(L-1) blocks.
@@ -191,14 +187,13 @@ fn send_rebuild(
     k: usize,
 ) -> Answer
     requires { ⌜ Due c (now m) (rebuildOf q t) × Chosen (stateOf c (now m)) q x × (take k (now list) ≡ gathered (stateOf c (now m)) q) × (k ≤ 2 ^ t) × (k ≤ length (now list)) × (slots t - 1 ≤ length (wordsOf (now tape))) × (length (now buffer) ≡ c .shape .b) ⌝ }
-    ensures { λ r. ⌜ Meets c (stateOf c (now (m .entry))) turnOf (now (m .entry)) (now (tape .entry)) (now (buffer .entry)) r (now (m .exit)) (now (buffer .exit)) ⌝ }
+    ensures { λ r. ⌜ Performs c (stateOf c (now (m .entry))) turnOf (now (m .entry)) (now (tape .entry)) (now (buffer .entry)) r (now (m .exit)) (now (buffer .exit)) ⌝ }
 {
     let words = bits::pow2(t + 1) - 1;
     let d = write_level(c, m, q, t, x, list, k, tape);
     let e = commands::send(d, m, WRITE, q, t, 0);
-    let f = releasing::release(e, m);
-    put_bytes(f, m, q, t, 0, buffer);
-    contract::sent(f, words, WRITE, q, t, 0)
+    put_bytes(e, m, q, t, 0, buffer);
+    contract::sent(e, words, WRITE, q, t, 0)
 }
 
 // The rebuild, if enough is lent and the target has room for what it gathers.
@@ -211,7 +206,7 @@ pub fn rebuild(
     t: usize,
 ) -> Answer
     requires { ⌜ Due c (now m) (rebuildOf q t) ⌝ }
-    ensures { λ r. ⌜ Meets c (stateOf c (now (m .entry))) turnOf (now (m .entry)) (now (tape .entry)) (now (buffer .entry)) r (now (m .exit)) (now (buffer .exit)) ⌝ }
+    ensures { λ r. ⌜ Performs c (stateOf c (now (m .entry))) turnOf (now (m .entry)) (now (tape .entry)) (now (buffer .entry)) r (now (m .exit)) (now (buffer .exit)) ⌝ }
 {
     if buffer.len() != c.shape.b {
         return contract::refused(15, c);

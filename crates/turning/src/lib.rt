@@ -5,9 +5,11 @@ use deciding::Step;
 ghost use Rattle.rules.specs.Questions.{turn as turnOf};
 ghost use Rattle.client.specs.View.{stateOf};
 ghost use Rattle.contract.specs.Meets.{Meets};
+ghost use Rattle.releasing.specs.Performs.{Performs};
 
-pub fn turn(c: Client, m: &mut [u8], tape: &[u8], buffer: &mut [u8]) -> Answer
-    ensures { λ r. ⌜ Meets c (stateOf c (now (m .entry))) turnOf (now (m .entry)) (now (tape .entry)) (now (buffer .entry)) r (now (m .exit)) (now (buffer .exit)) ⌝ }
+// What a turn does by document 01. A request is released after it.
+pub fn perform(c: Client, m: &mut [u8], tape: &[u8], buffer: &mut [u8]) -> Answer
+    ensures { λ r. ⌜ Performs c (stateOf c (now (m .entry))) turnOf (now (m .entry)) (now (tape .entry)) (now (buffer .entry)) r (now (m .exit)) (now (buffer .exit)) ⌝ }
 {
     if !ready::shape_fits(c.shape, m.len()) {
         return contract::refused(2, c);
@@ -27,4 +29,11 @@ pub fn turn(c: Client, m: &mut [u8], tape: &[u8], buffer: &mut [u8]) -> Answer
         Step::Rebuild(q, t) => sending::rebuild(c, m, tape, buffer, q, t),
         Step::WriteNext(q, t, i) => sending::write_next(c, m, buffer, q, t, i),
     }
+}
+
+pub fn turn(c: Client, m: &mut [u8], tape: &[u8], buffer: &mut [u8]) -> Answer
+    ensures { λ r. ⌜ Meets c (stateOf c (now (m .entry))) turnOf (now (m .entry)) (now (tape .entry)) (now (buffer .entry)) r (now (m .exit)) (now (buffer .exit)) ⌝ }
+{
+    let r = perform(c, m, tape, buffer);
+    releasing::settle(r, m)
 }

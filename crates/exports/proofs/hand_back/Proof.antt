@@ -6,7 +6,7 @@ use Rattle.codec.proofs.encode_rest.Reads as encode-rest-reads
 use Rattle.codec.proofs.pack.Reads as pack-reads
 
 pack-requires : tie.Need-pack-requires
-pack-requires c κs = omega arith
+pack-requires c κs = c .before .before .before .pre .1
 
 returns : tie.Need-returns
 returns c = record { answer = c .pack .ensures; accepted = λ z. absurd (c .before .if1 .taken z); refused = λ n. refl }
@@ -15,7 +15,7 @@ encode-rest-requires : tie.Need-encode-rest-requires
 encode-rest-requires c κs = omega arith
 
 pack-requires-2 : tie.Need-pack-requires-2
-pack-requires-2 c κs = omega arith
+pack-requires-2 c κs = c .before .before .before .before .before .before .before .pre .1
 
 same-length : tie.Need-same-length
 same-length c = omega arith

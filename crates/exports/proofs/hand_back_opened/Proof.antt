@@ -6,7 +6,7 @@ zeros-requires : tie.Need-zeros-requires
 zeros-requires c κs = omega arith
 
 pack-requires : tie.Need-pack-requires
-pack-requires c κs = omega arith
+pack-requires c κs = c .before .before .before .before .before .before .before .pre .1
 
 same-length : tie.Need-same-length
 same-length c = omega arith
@@ -21,7 +21,7 @@ encode-requires : tie.Need-encode-requires
 encode-requires c κs = omega arith
 
 pack-requires-2 : tie.Need-pack-requires-2
-pack-requires-2 c κs = omega arith
+pack-requires-2 c κs = c .before .before .before .before .before .before .before .pre .1
 
 same-length-2 : tie.Need-same-length-2
 same-length-2 c = omega arith

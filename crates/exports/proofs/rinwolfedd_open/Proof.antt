@@ -1,6 +1,6 @@
 use mathlib.Core.Path.{refl}
 use Rattle.rules.specs.Shape.{within}
-use Rattle.exports.specs.Exported.{one-or-two, exported-open, numbers}
+use Rattle.exports.specs.Exported.{one-or-two, exported-open, numbers, meets-small}
 use native.Mathlib.Omega.{arith}
 use Rattle.exports.proofs.rinwolfedd_open.Statement.{statement}
 use Rattle.exports.proofs.rinwolfedd_open.Tie as tie
@@ -21,7 +21,7 @@ open-requires : tie.Need-open-requires
 open-requires c κs = omega arith
 
 hand-back-opened-requires : tie.Need-hand-back-opened-requires
-hand-back-opened-requires c κs = omega arith
+hand-back-opened-requires c κs = (omega arith, meets-small _ _ _ _ _ _ _ _ _ (c .before .before .before .«open» .ensures))
 
 same-length : tie.Need-same-length
 same-length c = omega arith

@@ -1,5 +1,5 @@
 use borrow.Author.Needs.{needs}
-use Rattle.exports.specs.Paged.{paged-length, paged}
+use Rattle.exports.specs.Paged.{paged-length, small, paged}
 use Rattle.exports.proofs.rinwolfedd_page.Statement.{statement}
 use Rattle.exports.proofs.rinwolfedd_page.Tie as tie
 
@@ -13,7 +13,11 @@ write-requires : tie.Need-write-requires
 write-requires c κs = search needs
 
 tell-requires : tie.Need-tell-requires
-tell-requires c κs = search needs
+tell-requires c κs =
+    let d = c .before .before .before .before in
+    let a = c .before .before .before .before .before .before .before .before .before .args in
+    let w = c .before .before .write in
+    small (a .state .now) (a .memory .now) (a .buffer .now) (w .result .number) (w .result .length) _ (d .before .if1 .left) (rw (d .decode .ensures) at (w .ensures)) (d .decode .result)
 
 same-length : tie.Need-same-length
 same-length c = search needs

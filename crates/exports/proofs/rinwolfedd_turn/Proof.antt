@@ -1,5 +1,5 @@
 use native.Mathlib.Omega.{arith}
-use Rattle.exports.specs.Stored.{exported-turn}
+use Rattle.exports.specs.Stored.{turn-small, turn-ready, exported-turn}
 use Rattle.exports.specs.Exported.{exported-length}
 use Rattle.exports.proofs.rinwolfedd_turn.Statement.{statement}
 use Rattle.exports.proofs.rinwolfedd_turn.Tie as tie
@@ -10,11 +10,15 @@ returns c = exported-length (c .if1 .taken)
 decode-requires : tie.Need-decode-requires
 decode-requires c κs = omega arith
 
-turn-requires : tie.Need-turn-requires
-turn-requires c κs = omega arith
+perform-requires : tie.Need-perform-requires
+perform-requires c κs = omega arith
 
 hand-back-turn-requires : tie.Need-hand-back-turn-requires
-hand-back-turn-requires c κs = omega arith
+hand-back-turn-requires c κs =
+    let p = c .before .before .before .before .before .before .perform in
+    let d = c .before .before .before .before .before .before .before .before .before .decode in
+    let a = c .before .before .before .before .before .before .before .before .before .before .before .before .before .before .before .before .args in
+    (c .before .before .before .before .before .before .before .before .before .before .before .if1 .left, turn-small (a .state .now) (a .memory .now) (a .tape .now) (a .buffer .now) (d .result) (p .result) _ _ (d .ensures) (p .ensures), turn-ready (a .state .now) (a .memory .now) (a .tape .now) (a .buffer .now) (d .result) (p .result) _ _ (d .ensures) (p .ensures))
 
 same-length : tie.Need-same-length
 same-length c = omega arith
@@ -28,10 +32,10 @@ same-length-3 c = omega arith
 returns-2 : tie.Need-returns-2
 returns-2 c =
     let h = c .before .before .hand-back-turn in
-    let r = c .before .before .before .before .before .before .before .before .turn in
-    let d = c .before .before .before .before .before .before .before .before .before .before .before .decode in
-    let a = c .before .before .before .before .before .before .before .before .before .before .before .before .before .before .before .before .before .before .args in
-    exported-turn (a .state .now) (a .memory .now) (a .tape .now) (a .buffer .now) (d .result) (r .result) (h .result) _ _ _ (c .before .before .before .before .before .before .before .before .before .before .before .before .before .if1 .left) (d .ensures) (r .ensures) (h .ensures)
+    let r = c .before .before .before .before .before .before .before .before .before .perform in
+    let d = c .before .before .before .before .before .before .before .before .before .before .before .before .decode in
+    let a = c .before .before .before .before .before .before .before .before .before .before .before .before .before .before .before .before .before .before .before .args in
+    exported-turn (a .state .now) (a .memory .now) (a .tape .now) (a .buffer .now) (d .result) (r .result) _ _ (d .ensures) (r .ensures) (h .result) _ (c .before .before .before .before .before .before .before .before .before .before .before .before .before .before .if1 .left) (h .ensures)
 
 pub rinwolfedd-turn-spec : {M : Type 1} → statement M
 rinwolfedd-turn-spec =
@@ -39,7 +43,7 @@ rinwolfedd-turn-spec =
     (tie.spec
     returns
     decode-requires
-    turn-requires
+    perform-requires
     hand-back-turn-requires
     same-length
     same-length-2

@@ -39,7 +39,7 @@ returns c =
     let p = c .before .before .place in
     let a = c .before .before .before .before .args in
     let ℓ = c .level-of .result in
-    found-level (a .c) (a .m .now) (a .c .request .block) (p .result) (p .ensures) ℓ (c .before .if1 .taken) (omega (arith, c .level-of .ensures .0, c .before .if1 .taken)) (omega (arith, c .level-of .ensures .1, c .before .if1 .taken, pow-mono {i = ℓ + 2} {j = suc ℓ + 1} (omega arith)))
+    (found-level (a .c) (a .m .now) (a .c .request .block) (p .result) (p .ensures) ℓ (c .before .if1 .taken) (omega (arith, c .level-of .ensures .0, c .before .if1 .taken)) (omega (arith, c .level-of .ensures .1, c .before .if1 .taken, pow-mono {i = ℓ + 2} {j = suc ℓ + 1} (omega arith))), omega (arith, shallow c))
 
 is-waiting-requires : tie.Need-is-waiting-requires
 is-waiting-requires c κs = let p = c .before .before .before .pre in (p .0, p .1)
@@ -48,13 +48,13 @@ returns-2 : tie.Need-returns-2
 returns-2 c =
     let p = c .before .before .before .place in
     let a = c .before .before .before .before .before .args in
-    found-cache (a .c) (a .m .now) (a .c .request .block) (p .result) (p .ensures) (omega (arith, c .before .before .if1 .left)) (sym (c .before .is-waiting .ensures) ∙ c .if2 .taken)
+    (found-cache (a .c) (a .m .now) (a .c .request .block) (p .result) (p .ensures) (omega (arith, c .before .before .if1 .left)) (sym (c .before .is-waiting .ensures) ∙ c .if2 .taken), omega arith)
 
 returns-3 : tie.Need-returns-3
 returns-3 c =
     let p = c .before .before .before .place in
     let a = c .before .before .before .before .before .args in
-    found-nowhere (a .c) (a .m .now) (a .c .request .block) (p .result) (p .ensures) (omega (arith, c .before .before .if1 .left)) (sym (c .before .is-waiting .ensures) ∙ c .if2 .left)
+    (found-nowhere (a .c) (a .m .now) (a .c .request .block) (p .result) (p .ensures) (omega (arith, c .before .before .if1 .left)) (sym (c .before .is-waiting .ensures) ∙ c .if2 .left), omega arith)
 
 pub look-up-spec : {M : Type 1} → statement M
 look-up-spec =

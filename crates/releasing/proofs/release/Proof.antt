@@ -10,12 +10,12 @@ use Rattle.releasing.proofs.release.Tie as tie
 returns : tie.Need-returns
 returns c =
     let a = c .before .before .before .before .args in
-    record { state = sym (unasked (a .c) (a .m .now) (c .if1 .taken)); shape = refl; out = refl; idle = λ z. refl }
+    record { state = sym (unasked (a .c) (a .m .now) (c .if1 .taken)); found = refl; idle = λ z. refl; low = λ l. l }
 
 returns-2 : tie.Need-returns-2
 returns-2 c =
     let a = c .before .before .before .before .before .before .args in
-    record { state = sym (found-before (a .c) (a .m .now) (c .before .before .if1 .left) (c .if2 .taken)); shape = refl; out = refl; idle = λ z. refl }
+    record { state = sym (found-before (a .c) (a .m .now) (c .before .before .if1 .left) (c .if2 .taken)); found = refl; idle = λ z. refl; low = λ l. l }
 
 partition-requires : tie.Need-partition-requires
 partition-requires c κs = let p = c .before .before .before .before .before .before .pre in (p .room, p .block (c .before .before .if1 .left))
@@ -35,7 +35,7 @@ returns-3 : tie.Need-returns-3
 returns-3 c =
     let d = c .before .before .before in
     let a = d .before .before .before .before .before .before .args in
-    record { state = sym (still-held (a .c) (a .m .now) (d .before .before .if1 .left) (queued (c .before) ∙ c .if3 .taken)); shape = refl; out = refl; idle = λ z. refl }
+    record { state = sym (still-held (a .c) (a .m .now) (d .before .before .if1 .left) (queued (c .before) ∙ c .if3 .taken)); found = refl; idle = λ z. refl; low = λ l. l }
 
 look-up-requires : tie.Need-look-up-requires
 look-up-requires c κs =
@@ -53,10 +53,10 @@ returns-4 c =
     let a = d .before .before .before .before .before .before .args in
     let n = d .before .before .if1 .left in
     rw (c .with-request .ensures) (record {
-      state = released (a .c) (a .m .now) n (c .before .look-up .result) (omega (arith, d .if2 .left)) (queued (e .before) ∙ e .if3 .left) (c .before .look-up .ensures);
-      shape = refl;
-      out = refl;
+      state = released (a .c) (a .m .now) n (c .before .look-up .result) (omega (arith, d .if2 .left)) (queued (e .before) ∙ e .if3 .left) (c .before .look-up .ensures .0);
+      found = refl;
       idle = λ z. absurd (n z);
+      low = λ l. omega (arith, c .before .look-up .ensures .1);
     })
 
 pub release-spec : {M : Type 1} → statement M

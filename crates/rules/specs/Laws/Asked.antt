@@ -1,5 +1,5 @@
--- A read for a request is decided with one in hand only. A turn and a completion change no more of it than the level from which its reads go on, and
--- where its block was found.
+-- A read for a request is decided with one in hand only. Until it is released, a turn and a completion change no more of it than the level from which its
+-- reads go on.
 use mathlib.Core.Path.{_≡_, refl, ap, sym, _∙_}
 use mathlib.Core.Bool.{Bool, true, false, true≢false}
 use mathlib.Core.List.{List, [], _∷_}
@@ -8,14 +8,12 @@ use Prim.Native.Nat.{ℕ}
 use lib.Dec.{eqb, ltb}
 use Rattle.lists.specs.Search.{any}
 use Rattle.lists.specs.Tests.{if_then_else_}
-use Rattle.rules.specs.Completion.{complete}
-use Rattle.rules.specs.Laws.Released.{released-same}
 use Rattle.rules.specs.Laws.Shapes.{complete-keeps}
 use Rattle.rules.specs.Questions.{turn, completion}
 use Rattle.rules.specs.Levels.{target}
 use Rattle.rules.specs.Rebuild.{unread, doRebuild}
-use Rattle.rules.specs.Request.{passLevel, release}
-use Rattle.rules.specs.Run.{act, perform}
+use Rattle.rules.specs.Request.{passLevel}
+use Rattle.rules.specs.Run.{perform}
 use Rattle.rules.specs.Shape.{Shape, slots}
 use Rattle.rules.specs.State.{State, Command, Request}
 use Rattle.rules.specs.Turn.{Step, idle, noDummy, readForRequest, readForJob, rebuild, writeNext, gatherStep, rebuildStep, writeStep, jobStep, requestStep, decide, doStep, markRead, send}
@@ -49,10 +47,10 @@ pub reads-asked : (s : State) (q ℓ i : ℕ) → decide s ≡ readForRequest q 
 unfolding decide requestStep forRequest
 reads-asked s q ℓ i e n = true≢false (sym (ap forRequest e) ∙ ap (λ o. forRequest (Option·getD (requestStep s o) (jobStep s (s .queue)))) n ∙ job-not s (s .queue))
 
--- a request but for that level, and where its block was found
+-- a request but for that level
 abbrev pub asked : Option Request → Option Request
 asked none = none
-asked (some r) = some (record { kind = r .kind; block = r .block; bytes = r .bytes; next = r .next; evict = r .evict; level = 0; found = none })
+asked (some r) = some (record { kind = r .kind; block = r .block; bytes = r .bytes; next = r .next; evict = r .evict; level = 0; found = r .found })
 
 pass-asked : (ℓ : ℕ) (o : Option Request) → asked (passLevel ℓ o) ≡ asked o
 unfolding passLevel
@@ -68,13 +66,10 @@ step-asked s (readForJob q ℓ i) js = refl
 step-asked s (rebuild q t) js = refl
 step-asked s (writeNext q t i) js = refl
 
-release-asked : (s : State) → asked (release s .request) ≡ asked (s .request)
-release-asked s = released-same asked (λ r x. refl) s (s .request)
+pub turn-asked : (s : State) (js : List ℕ) → asked (perform s turn js .request) ≡ asked (s .request)
+unfolding perform
+turn-asked s js = step-asked s (decide s) js
 
-pub turn-asked : (s : State) (js : List ℕ) → asked (act s turn js .request) ≡ asked (s .request)
-unfolding act perform
-turn-asked s js = release-asked (doStep (decide s) js s) ∙ step-asked s (decide s) js
-
-pub completion-asked : (s : State) (c : Command) (bs js : List ℕ) → asked (act s (completion c bs) js .request) ≡ asked (s .request)
-unfolding act perform
-completion-asked s c bs js = release-asked (complete c bs s) ∙ ap (λ (x : Shape × Option Request). asked (x .1)) (complete-keeps s c bs)
+pub completion-asked : (s : State) (c : Command) (bs js : List ℕ) → asked (perform s (completion c bs) js .request) ≡ asked (s .request)
+unfolding perform
+completion-asked s c bs js = ap (λ (x : Shape × Option Request). asked (x .1)) (complete-keeps s c bs)

@@ -1,16 +1,14 @@
 use Rattle.client.specs.declared.Client.{Client}
-use Prim.Native.Nat.{ℕ, _+_, _≤_}
-use lib.ListN.{length}
+use Prim.Native.Nat.{_+_, _≤_}
 use lib.Pow.{pow-mono}
 use Rattle.rules.specs.Shape.{slots}
 use mathlib.Core.Path.{_≡_, refl, ap, _∙_}
-use mathlib.Core.List.{List, []}
-use Rattle.rules.specs.Turn.{writeNext, command, stepBounds, doStep}
+use mathlib.Core.List.{[]}
+use Rattle.rules.specs.Turn.{writeNext, command, stepBounds}
 use Rattle.rules.specs.Questions.{sends, possible}
-use Rattle.client.specs.View.{stateOf}
-use Rattle.sending.specs.Sent.{Left, may-release-first, released-first, refuses, other-buffer, write-meets, write-sent}
-use Rattle.sending.specs.Commutes.{write-commutes}
+use Rattle.sending.specs.Sent.{refuses, other-buffer, write-performs, write-sent}
 use native.Mathlib.Omega.{arith}
+use lib.ListN.{length}
 use Rattle.sending.proofs.write_next.Statement.{statement}
 use Rattle.sending.proofs.write_next.Tie as tie
 use Rattle.sending.proofs.write_next.Reads as reads
@@ -31,15 +29,9 @@ returns c =
     let r = a .args in
     rw (c .refused .ensures) (λ tape. refuses (r .c) (r .m .now) tape (r .buffer .now) (writeNext (r .q) (r .t) (r .i)) (a .pre) 15 (other-buffer (r .c) (r .m .now) tape (r .buffer .now) (writeNext (r .q) (r .t) (r .i)) (a .pre) (r .q) (r .t) (r .i) refl refl (c .before .if1 .taken)) (λ e. omega arith))
 
-release-requires : tie.Need-release-requires
-release-requires c κs =
-    let a = c .before .before .before .before .before in
-    let r = a .args in
-    may-release-first (r .c) (r .m .now) [] [] (writeNext (r .q) (r .t) (r .i)) (a .pre)
-
 add-with-sent : tie.Need-add-with-sent
 add-with-sent c =
-    let a = c .before .before .before .before .before .before in
+    let a = c .before .before .before .before in
     let t = a .args .t in
     let p : slots t ≤ slots 8 = pow-mono {i = t + 1} {j = 9} (omega (arith, a .pre .inside .1, a .pre .usable .room .levels)) in
     omega (arith, a .pre .inside .2)
@@ -48,54 +40,41 @@ with-sent-requires : tie.Need-with-sent-requires
 with-sent-requires c κs = omega arith
 
 send-requires : tie.Need-send-requires
-send-requires c κs =
-    let f = c .before .before .release .ensures in
-    let p = c .before .before .before .before .before .before .before .before .pre in
-    rw (c .before .with-sent .ensures, f .shape, f .out) (omega (arith, p .usable .room), omega (arith, p .free, p .usable .window), omega arith, omega arith, p .inside .0, p .inside .1, p .inside .2)
+send-requires c κs = rw (c .before .with-sent .ensures) (omega arith)
 
 put-bytes-requires : tie.Need-put-bytes-requires
 put-bytes-requires c κs =
     let s = c .before .before .before .before .send in
     let d = c .before .before .before .before .before .before .with-sent in
-    let e = c .before .before .before .before .before .before .before .release in
-    let f = c .before .before .before .before .before .before .before .before .before in
+    let f = c .before .before .before .before .before .before .before in
     let p = f .before .before .before .before .pre in
-    let h : s .result .shape ≡ f .before .before .before .before .args .c .shape = ap (λ (x : Client). x .shape) (s .ensures .0) ∙ ap (λ (x : Client). x .shape) (d .ensures) ∙ e .ensures .shape in
+    let h : s .result .shape ≡ f .before .before .before .before .args .c .shape = ap (λ (x : Client). x .shape) (s .ensures .0) ∙ ap (λ (x : Client). x .shape) (d .ensures) in
     rw h (omega (arith, p .usable .room), p .inside .0, p .inside .1, p .inside .2, omega (arith, f .if1 .left))
-
--- what is left, from the client that is released
-left : (c : tie.After-send) → let d = c .before .before .before .release .result in let r = c .before .before .before .before .before .before .before .before .before .args in (js : List ℕ) → Left d (c .send .result) (r .m .now) (c .send .last .1 .0) (doStep (writeNext (r .q) (r .t) (r .i)) js (stateOf d (r .m .now)))
-left c js =
-    let p = c .before .before .with-sent in
-    let d = c .before .before .before .release .result in
-    let r = c .before .before .before .before .before .before .before .before .before .args in
-    write-sent d (p .result) (c .send .result) (r .m .now) (c .send .last .1 .0) [] (r .q) (r .t) (r .i) (p .ensures) (c .send .ensures .0) (c .send .ensures .1) js
 
 sent-requires : tie.Need-sent-requires
 sent-requires c κs = omega arith
 
-same-length : tie.Need-same-length
-same-length c = omega arith
+sent-length : (c : tie.After-send) → length (c .send .last .1 .0) ≡ length (c .before .before .before .before .before .before .before .args .m .now)
+sent-length c = omega arith
 
-full : (c : tie.After-put-bytes) → length (c .put-bytes .last .1 .1 .1 .1 .1 .0) ≡ length (c .before .before .before .before .before .before .before .before .before .before .before .before .before .before .args .buffer .now)
-full c = omega arith
+same-length : tie.Need-same-length
+same-length c = sent-length (c .before .before .before .before .before .before .before .before)
 
 same-length-2 : tie.Need-same-length-2
-same-length-2 c = full (c .before .before .before)
+same-length-2 c = omega arith
 
 returns-2 : tie.Need-returns-2
 unfolding command sends possible stepBounds
 returns-2 c =
     let o = c .before .before .before .put-bytes in
-    let s = c .before .before .before .before .before .before .before .before in
-    let d = s .before .before .before .release in
-    let a = s .before .before .before .before .before .before .before .before .before in
+    let s = c .before .before .before .before .before .before .before .before .send in
+    let p = c .before .before .before .before .before .before .before .before .before .before .with-sent in
+    let f = c .before .before .before .before .before .before .before .before .before .before .before in
+    let a = f .before .before .before .before in
     let r = a .args in
-    let x = writeNext (r .q) (r .t) (r .i) in
     let some : 1 ≤ r .c .shape .b = a .pre .usable .room .someBytes in
-    let long = s .before .before .before .before .before .if1 .left in
-    rw (c .sent .ensures) (λ tape. write-meets (r .c) (r .m .now) tape (r .buffer .now) x (a .pre) (r .q) (r .t) (r .i) refl refl _ _ _ 0 refl long refl (omega arith)
-    (released-first (r .c) (d .result) x _ (write-commutes (r .q) (r .t) (r .i)) (d .ensures) (left s _)) (omega (arith, some, long, full (c .before .before .before))) (o .ensures))
+    rw (c .sent .ensures) (λ tape. write-performs (r .c) (r .m .now) tape (r .buffer .now) (writeNext (r .q) (r .t) (r .i)) (a .pre) (r .q) (r .t) (r .i) refl refl _ _ _ 0 refl (f .if1 .left) refl (omega arith) (sent-length (c .before .before .before .before .before .before .before .before))
+    (write-sent (r .c) (p .result) (s .result) (r .m .now) (s .last .1 .0) [] (r .q) (r .t) (r .i) (p .ensures) (s .ensures .0) (s .ensures .1) _) (omega arith) (o .ensures))
 
 pub write-next-spec : {M : Type 1} → statement M
 write-next-spec =
@@ -103,7 +82,6 @@ write-next-spec =
     (tie.spec
     refused-requires
     returns
-    release-requires
     add-with-sent
     with-sent-requires
     send-requires
