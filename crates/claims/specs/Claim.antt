@@ -1,10 +1,11 @@
 -- Demands 2 and 3 for exported calls, as a host program makes them: an open, then any calls. Each is handed the 68 bytes of state and the memory
 -- that the last one left, or a part of that memory from its start. All that is known of a call is its contract.
--- To believe the claims, read this file, `Exported` and `Opened` of crate `exports`, and the claims of crates `array` and `hiding`. They are
--- proved in Theorem.antt, the last of them in Words.antt.
+-- To believe the claims, read this file, `Exported` and `Opened` of crate `exports`, `foundAs` of crate `client`, the claims of crates `array` and
+-- `hiding`, and of crate `rules` the runs of Run.antt and Before.antt and `firstFound` of Laws/Found.antt. They are proved in Theorem.antt, one of them in
+-- Found.antt, the last in Words.antt.
 use mathlib.Core.Path.{_≡_}
 use mathlib.Core.Logic.{_⊎_}
-use mathlib.Core.Bool.{_&&_}
+use mathlib.Core.Bool.{false, _&&_}
 use mathlib.Core.List.{List, [], _∷_, _++_, map}
 use Prim.Native.Nat.{ℕ, _^_, _≤_, _<_}
 use lib.ListN.{length}
@@ -15,7 +16,9 @@ use Rattle.rules.specs.Before.{untold, before}
 use Rattle.rules.specs.Shape.{Shape}
 use Rattle.rules.specs.State.{closed, write}
 use Rattle.rules.specs.Questions.{Ask, opening, request, turn, completion, collect, Call}
-use Rattle.rules.specs.Run.{Outcome, run}
+use Rattle.rules.specs.Laws.Answers.{opens}
+use Rattle.rules.specs.Laws.Found.{firstFound}
+use Rattle.rules.specs.Run.{Outcome, run, after}
 use Rattle.memory.specs.Fits.{shapeOf}
 use Rattle.client.specs.View.{foundAs}
 use Rattle.tape.specs.Tape.{wordsOf}
@@ -113,6 +116,16 @@ RulesClaim = (xs : List Made) → FromOpen xs → map outcomeOf xs ≡ run close
 -- Document 02, P2: "Nothing the host is sent may change by it": but for where blocks were found, a run's outcomes are those of document 01's rules
 abbrev pub BeforeClaim : Type 0
 BeforeClaim = (xs : List Made) → FromOpen xs → map untold (map outcomeOf xs) ≡ before closed (map callMade xs)
+
+-- Document 02, P2: "as found when the request ceased to be held (at acceptance if it never was)". In a run x is an accepted request for block b and y the
+-- accepted collect of it: no call between them opens a store, or is an accepted collect. What y tells is where b was in the first state, from the one that
+-- x left on, in which no job for its partition was queued or running
+abbrev pub FoundClaim : Type 0
+FoundClaim = (xs ys : List Made) (x y : Made) (k b : ℕ) (bs : List ℕ) → FromOpen (xs ++ (x ∷ (ys ++ (y ∷ []))))
+    → x .ask ≡ request k b bs → outcomeOf x .number ≡ 0
+    → All (λ z. (opens (z .ask) ≡ false) × (z .ask ≡ collect → outcomeOf z .number ≡ 0 → ⊥)) ys
+    → y .ask ≡ collect → outcomeOf y .number ≡ 0
+    → outcomeOf y .found ≡ firstFound (after closed (map callMade (xs ++ (x ∷ [])))) b (map callMade ys)
 
 -- Demand 2: with an honest host, what is collected is a plain array's
 abbrev pub ArrayClaim : Type 0
