@@ -79,14 +79,6 @@ impl Mistake {
         Mistake::ReleasedAtOnce,
     ];
 
-    /// Those in where a block is found, and when (document 02, P2).
-    pub const FOUND: [Mistake; 4] = [
-        Mistake::FoundAtAcceptance,
-        Mistake::FoundAfterCollect,
-        Mistake::RefusalTells,
-        Mistake::ReleasedAtOnce,
-    ];
-
     /// Those of which only what a collect tells is wrong. A session doesn't
     /// print it, and the host is not told.
     pub const UNPRINTED: [Mistake; 3] = [
@@ -94,4 +86,10 @@ impl Mistake {
         Mistake::FoundAfterCollect,
         Mistake::RefusalTells,
     ];
+
+    /// Those in where a block is found, and when (document 02, P2).
+    pub const FOUND: [Mistake; 4] = {
+        let [acceptance, collect, refusal] = Mistake::UNPRINTED;
+        [acceptance, collect, refusal, Mistake::ReleasedAtOnce]
+    };
 }

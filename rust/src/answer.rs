@@ -51,7 +51,7 @@ impl Answer {
     /// # Panics
     ///
     /// If the bits name no place that a store can have, which the proved
-    /// library never answers: another library is linked.
+    /// library never answers (theorem `found-below`): another library is linked.
     #[inline]
     #[must_use]
     pub fn found(self) -> Found {

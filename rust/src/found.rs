@@ -13,7 +13,9 @@ const LEVELS: u8 = 8;
 ///
 /// **It is for the owner of the store, not for its host.** It tells what the
 /// commands hide: whether the block was ever asked for, and whether that was not
-/// long ago. Nothing is sent for it.
+/// long ago. Nothing is sent for it. But whoever chooses by it what to look up
+/// next, or whether, shows it: look-ups are hidden where they are chosen by what
+/// the host is told too, and not by this.
 ///
 /// It prints so that it may follow the word "found":
 ///

@@ -31,8 +31,8 @@ use std::fmt;
 ///
 /// **It is for the owner of the store, not for its host.** It tells what the
 /// commands hide: how many different blocks were asked for, and how often one
-/// that was asked for not long ago. `Debug`, which goes to logs, prints no
-/// figure.
+/// that was asked for not long ago; further look-ups that are chosen by it show
+/// it, as [`Found`] says. `Debug`, which goes to logs, prints no figure.
 #[derive(Clone, PartialEq, Eq)]
 pub struct Tally {
     nowhere: u64,
@@ -86,6 +86,31 @@ impl Tally {
         &self.levels
     }
 
+    /// The look-ups since an earlier tally of the same reader, as of a season.
+    ///
+    /// ```
+    /// # use rinwolfedd::{Error, MemoryHost, Reader, Shape};
+    /// # let shape = Shape::hiding(64, 8)?;
+    /// # let mut reader = Reader::open(shape, MemoryHost::new(shape, 1)?)?;
+    /// reader.write_all([[7; 8]; 40])?;
+    /// let before = reader.tally().clone();
+    /// reader.read(3)?;
+    /// let season = reader.tally().since(&before);
+    /// assert_eq!((season.total(), season.nowhere()), (1, 0));
+    /// # Ok::<(), Error>(())
+    /// ```
+    #[must_use]
+    pub fn since(&self, earlier: &Tally) -> Tally {
+        let levels = self.levels.iter().enumerate();
+        Tally {
+            nowhere: self.nowhere.saturating_sub(earlier.nowhere),
+            cache: self.cache.saturating_sub(earlier.cache),
+            levels: levels
+                .map(|(level, count)| count.saturating_sub(earlier.level(level)))
+                .collect(),
+        }
+    }
+
     /// All look-ups.
     #[must_use]
     pub fn total(&self) -> u64 {
@@ -137,6 +162,15 @@ mod tests {
         assert_eq!((tally.nowhere(), tally.cache(), tally.total()), (1, 2, 6));
         assert_eq!(tally.levels(), [1, 0, 2]);
         assert_eq!([0, 1, 2, 3].map(|level| tally.level(level)), [1, 0, 2, 0]);
+    }
+
+    #[test]
+    fn what_was_counted_since_is_the_difference() {
+        let all = [Found::Cache, Found::Nowhere, Found::Level(2), Found::Cache];
+        let (before, after) = (counted(&all[..2]), counted(&all));
+        assert_eq!(after.since(&before), counted(&all[2..]));
+        assert_eq!(after.since(&counted(&[])), after);
+        assert_eq!(before.since(&after), counted(&[]), "never below none");
     }
 
     #[test]
