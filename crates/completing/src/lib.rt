@@ -139,10 +139,13 @@ pub fn perform(
 ) -> Answer
     ensures { λ r. ⌜ Performs c (stateOf c (now (m .entry))) (completionOf (cmd kind partition level slot) (now (bytes .entry))) (now (m .entry)) [] [] r (now (m .exit)) [] ⌝ }
 {
+    if !client::is_kind(kind) {
+        return contract::refused(2, c);
+    }
     if !ready::shape_fits(c.shape, m.len()) {
         return contract::refused(2, c);
     }
-    if !(ready::numbers_fit(c, m) & client::is_kind(kind)) {
+    if !ready::numbers_fit(c, m) {
         return contract::refused(2, c);
     }
     let found = commands::find(c, m, kind, partition, level, slot);
