@@ -47,11 +47,6 @@ use Rattle.commands.specs.Commands.{outstanding-is}
 
 -- ---- Its questions
 
--- the second half of the first may be asked first
-pub kind-first : (a : Bool) {b : Bool} → b ≡ false → (a && b) ≡ false
-kind-first true e = e
-kind-first false e = refl
-
 -- the bytes that are asked for
 abbrev pub wanted : Client → Command → ℕ
 wanted c d = if eqb (d .kind) read then c .shape .b else 0

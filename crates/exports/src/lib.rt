@@ -42,14 +42,6 @@ fn release(state: &mut [u8], memory: &[u8])
     if !codec::is_held(state) {
         return;
     }
-    release_held(state, memory);
-}
-
-// Only then are all numbers decoded again.
-fn release_held(state: &mut [u8], memory: &[u8])
-    requires { ⌜ (length (now state) ≡ stateLength) × (ready (stateOf (clientOf (wordAt (now state))) (now memory)) (length (now memory)) ≡ true) ⌝ }
-    ensures { λ _. ⌜ ReleasedIn (wordAt (now (state .entry))) (now (memory .entry)) (wordAt (now (state .exit))) ⌝ }
-{
     let c = codec::decode(state);
     let d = releasing::release(c, memory);
     codec::set_found(state, d.request.found);

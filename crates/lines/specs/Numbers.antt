@@ -1,6 +1,6 @@
 -- Numbers and contents, digit by digit and field by field.
 use mathlib.Core.Path.{_≡_, refl, ap, sym, _∙_}
-use mathlib.Core.Bool.{Bool, true, false, not, _&&_}
+use mathlib.Core.Bool.{true, false, not}
 use mathlib.Core.List.{List, [], _∷_, _++_, append-nil, append-assoc}
 use mathlib.Core.Option.{Option, none, some}
 use Prim.Native.Nat.{ℕ, _+_, _-_, _*_, _≤_, _<_}
@@ -10,7 +10,7 @@ use lib.ListN.{length, getD, drop, length-append, drop-of-length-le}
 use lib.Seq.{drop-cons}
 use lib.Dec.{eqb, leb}
 use borrow.Author.Tests.{le-leb, lt-leb}
-use Rattle.lists.specs.Tests.{between}
+use Rattle.lists.specs.Tests.{between, and-false}
 use Rattle.lines.specs.Lines.{atMost, digit, digits, begins, number, also, upTo, hexDigit, pair}
 
 -- ---- Bounds
@@ -59,11 +59,7 @@ module _ (a z x : ℕ) where
   -- x lies above z
   pub between-high : z < x → between a z x ≡ false
   unfolding between
-  between-high h = rw (lt-leb x z h) (never (leb a x))
-    where
-      never : (t : Bool) → (t && false) ≡ false
-      never true = refl
-      never false = refl
+  between-high h = and-false (leb a x) (lt-leb x z h)
 
 -- ---- Digits
 

@@ -31,6 +31,10 @@ and-r false b h = absurd (true≢false (sym h))
 pub and-true : {a b : Bool} → a ≡ true → b ≡ true → (a && b) ≡ true
 and-true p q = rw (p, q)
 
+pub and-false : (a : Bool) {b : Bool} → b ≡ false → (a && b) ≡ false
+and-false true e = e
+and-false false e = refl
+
 pub or-true : (a b : Bool) → (a || b) ≡ true → (a ≡ true) ⊎ (b ≡ true)
 or-true true b h = inl refl
 or-true false b h = inr h

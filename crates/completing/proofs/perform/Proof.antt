@@ -4,14 +4,14 @@ use Prim.Native.Nat.{ℕ}
 use native.Mathlib.Omega.{arith}
 use lib.ListN.{length}
 use borrow.Author.Tests.{not-true, not-false}
-use Rattle.lists.specs.Tests.{and-true}
+use Rattle.lists.specs.Tests.{and-true, and-false}
 use Rattle.rules.specs.State.{Command, cmd}
 use Rattle.rules.specs.Ranges.{isKind}
 use Rattle.rules.specs.Questions.{ready}
 use Rattle.client.specs.View.{stateOf}
 use Rattle.ready.specs.Usable.{unready-part}
 use Rattle.commands.specs.Outstanding.{OutstandingAt}
-use Rattle.completing.specs.Completing.{wanted, kind-first, no-ready, no-command, no-length, yes, begins, completes}
+use Rattle.completing.specs.Completing.{wanted, no-ready, no-command, no-length, yes, begins, completes}
 use Rattle.completing.proofs.perform.Statement.{statement}
 use Rattle.completing.proofs.perform.Tie as tie
 
@@ -31,7 +31,7 @@ refused-requires c κs = omega arith
 returns : tie.Need-returns
 returns c =
     let s = c .before .before .before .before .before in
-    let no : begin s ≡ false = kind-first (ready (stateOf (s .args .c) (s .args .m .now)) (length (s .args .m .now))) (sym (c .before .before .is-kind .ensures) ∙ not-true _ (c .before .if1 .taken)) in
+    let no : begin s ≡ false = and-false (ready (stateOf (s .args .c) (s .args .m .now)) (length (s .args .m .now))) (sym (c .before .before .is-kind .ensures) ∙ not-true _ (c .before .if1 .taken)) in
     rw (c .refused .ensures) (no-ready (s .args .c) (s .args .m .now) (named s) (s .args .bytes .now) no)
 
 -- the kind is one of the two

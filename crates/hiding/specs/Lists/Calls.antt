@@ -1,6 +1,6 @@
 -- One call of a list: what the claim says of it is what the run does and what the machine shows.
 use mathlib.Core.Path.{_≡_, refl, ap, sym, _∙_, subst}
-use mathlib.Core.Bool.{Bool, true, false, not, _&&_, true≢false}
+use mathlib.Core.Bool.{Bool, true, false, not, true≢false}
 use mathlib.Core.Logic.{_↔_, Iff·rfl}
 use mathlib.Core.List.{List, [], _∷_, map}
 use mathlib.Core.Option.{Option}
@@ -17,10 +17,8 @@ use Rattle.lists.specs.Tests.{if_then_else_, every-yes, between, and-r, and-l}
 use Rattle.rules.specs.Laws.Levels.{partitions-pos}
 use Rattle.rules.specs.Shape.{Shape, within, slots}
 use Rattle.rules.specs.Draws.{Drawn, draws, orderBounds, Drew}
-use Rattle.rules.specs.Memory.{needed}
 use Rattle.rules.specs.Laws.Decided.{StepIn, decide-in}
-use Rattle.rules.specs.Unfold.{model}
-use Rattle.rules.specs.Laws.Answers.{Passed, opens, accepted-passed, accepted-taken, step-accepted, step-refused, refuse-keeps}
+use Rattle.rules.specs.Laws.Answers.{Passed, opens, accepted-passed, accepted-taken, step-accepted, step-refused, refuse-keeps, closed-unready}
 use Rattle.rules.specs.State.{State, Command, closed}
 use Rattle.rules.specs.Open.{fresh}
 use Rattle.rules.specs.Run.{Outcome, act, refuse, perform, handedFound, sentCommand, numbersOf, accepted, refused, step, takenOf, handed}
@@ -206,20 +204,12 @@ same-draws s k m n ws vs x e = go (eqb (number s (called k m ws n)) 0) refl
 
 -- ---- what the claim says of it, and what the machine says
 
-ready-closed : (m : ℕ) → ready closed m ≡ false
-unfolding model
-ready-closed m = go (leb (needed (closed .shape)) m)
-  where
-    go : (t : Bool) → (t && false) ≡ false
-    go true = refl
-    go false = refl
-
 number-closed : (l : Later) (m w n : ℕ) → numberR closed l m w n ≡ 2
 unfolding number questions firstNo
-number-closed (Public.later-request k b bs) m w n = rw (ready-closed m)
-number-closed Public.later-turn m w n = rw (ready-closed m)
-number-closed (Public.later-completion c bs) m w n = rw (ready-closed m)
-number-closed Public.later-collect m w n = rw (ready-closed m)
+number-closed (Public.later-request k b bs) m w n = rw (closed-unready m)
+number-closed Public.later-turn m w n = rw (closed-unready m)
+number-closed (Public.later-completion c bs) m w n = rw (closed-unready m)
+number-closed Public.later-collect m w n = rw (closed-unready m)
 
 module _ (h : Shape) (reach : Reachable h) where
   -- the machine's state for a state of the rules

@@ -1,6 +1,6 @@
 -- What holds of every call's answer, on every state: its number, what a refusal leaves, the words taken.
 use mathlib.Core.Path.{_≡_, refl, ap, sym, _∙_}
-use mathlib.Core.Bool.{Bool, true, false, not, _&&_, true≢false}
+use mathlib.Core.Bool.{Bool, true, false, not, true≢false}
 use mathlib.Core.List.{List, [], _∷_}
 use Prim.Native.Nat.{ℕ, suc, _≤_}
 use native.Mathlib.Omega.{arith}
@@ -9,7 +9,7 @@ use lib.ListN.{length}
 use lib.Dec.{eqb, leb}
 use borrow.Author.Tests.{ne-eqb, eqb-true, eq-eqb}
 use Rattle.lists.specs.Search.{isNone}
-use Rattle.lists.specs.Tests.{every, between}
+use Rattle.lists.specs.Tests.{every, between, and-false}
 use Rattle.rules.specs.Shape.{Shape, within}
 use Rattle.rules.specs.State.{State, closed}
 use Rattle.rules.specs.Ranges.{inRange, ranges}
@@ -78,11 +78,7 @@ refused-outcome s c h = ap (λ (r : State × Outcome). r .1) (step-refused s c h
 -- "A closed state, to which the other four reply 2"
 pub closed-unready : (m : ℕ) → ready closed m ≡ false
 unfolding ready inRange ranges within closed between every
-closed-unready m = and-false (leb (needed (closed .shape)) m)
-  where
-    and-false : (t : Bool) → (t && false) ≡ false
-    and-false true = refl
-    and-false false = refl
+closed-unready m = and-false (leb (needed (closed .shape)) m) refl
 
 pub closed-two : (c : Call) → opens (c .ask) ≡ false → number closed c ≡ 2
 unfolding number
