@@ -71,7 +71,7 @@ impl Check {
         let call = Call {
             ask,
             memory: self.shape.needed(),
-            words: self.rng.words(words),
+            words: self.rng.tape(words),
             buffer: self.shape.bytes,
         };
         let outcome = self.store.call(&call);
@@ -131,7 +131,8 @@ impl Check {
     }
 
     fn turn(&mut self) -> Result<u8, String> {
-        let outcome = self.make(Ask::Turn, (1 << self.shape.levels) - 1)?;
+        // More than twice the draws of the largest order: 3 never comes.
+        let outcome = self.make(Ask::Turn, 2 << self.shape.levels)?;
         if outcome.number == 0 {
             self.host.send(outcome.command, outcome.bytes);
         }

@@ -1,9 +1,13 @@
 //! The five calls, their questions and their outcomes.
 
+use crate::draws::WIDTH;
 use crate::found::Found;
 use crate::mistakes::Mistake;
 use crate::shape::Shape;
-use crate::state::{Command, Place, READ, Request, State, Step, WRITE};
+use crate::state::{Command, Place, READ, Request, State, WRITE};
+use std::iter::repeat_n;
+
+pub use crate::draws::Draws;
 
 #[derive(Clone, Debug, PartialEq, Eq)]
 pub enum Ask {
@@ -64,66 +68,44 @@ pub fn ask(yes: bool, no: u8) -> Result<(), u8> {
     if yes { Ok(()) } else { Err(no) }
 }
 
-/// The words lent with a call. The bound of each draw is noted, so that all
-/// tapes of a list can be enumerated.
-pub struct Draws<'a> {
-    words: &'a [u16],
-    bounds: &'a mut Vec<usize>,
-}
-
-impl<'a> Draws<'a> {
-    pub fn new(words: &'a [u16], bounds: &'a mut Vec<usize>) -> Draws<'a> {
-        Draws { words, bounds }
-    }
-
-    pub fn left(&self) -> usize {
-        self.words.len() - self.bounds.len()
-    }
-
-    pub fn taken(&self) -> usize {
-        self.bounds.len()
-    }
-
-    pub fn below(&mut self, m: usize) -> usize {
-        let word = self.words[self.bounds.len()];
-        self.bounds.push(m);
-        usize::from(word) % m
-    }
-}
-
 /// A store as the calls see it: closed, or with a state.
-#[derive(Clone, Debug)]
+#[derive(Clone, Debug, PartialEq, Eq, Hash)]
 pub struct Store {
     pub mistake: Mistake,
     pub state: Option<State>,
+    /// The bits of a word.
+    pub width: u32,
     /// The bounds of the last call's draws, in turn.
     pub bounds: Vec<usize>,
 }
 
 impl Store {
     pub fn new(mistake: Mistake) -> Store {
+        Store::of_width(WIDTH, mistake)
+    }
+
+    pub fn of_width(width: u32, mistake: Mistake) -> Store {
         Store {
             mistake,
             state: None,
+            width,
             bounds: Vec::new(),
         }
     }
 
     pub fn call(&mut self, call: &Call) -> Outcome {
         self.bounds.clear();
-        let mut draws = Draws::new(&call.words, &mut self.bounds);
-        if let Ask::Open(shape) = call.ask {
-            let opened = open(shape, self.mistake, call.memory, &mut draws);
-            let outcome = match &opened {
-                Ok(_) => Outcome::taking(draws.taken()),
-                Err(number) => Outcome::refused(*number),
-            };
-            // A refused open leaves the store closed.
-            self.state = opened.ok();
-            return outcome;
-        }
-        let answer = match &mut self.state {
-            Some(state) if call.memory >= state.shape.needed() => state.call(call, &mut draws),
+        let bounds = &mut self.bounds;
+        let mut draws = Draws::of_width(self.width, self.mistake, &call.words, bounds);
+        let answer = match (&call.ask, &mut self.state) {
+            (Ask::Open(shape), state) => {
+                let opened = open(*shape, self.mistake, call.memory, &mut draws);
+                let number = opened.as_ref().err().copied();
+                // A refused open leaves the store closed.
+                *state = opened.ok();
+                number.map_or(Ok(Outcome::taking(draws.taken())), Err)
+            }
+            (_, Some(state)) if call.memory >= state.shape.needed() => state.call(call, &mut draws),
             _ => Err(2),
         };
         answer.unwrap_or_else(|number| self.refuse(&call.ask, number))
@@ -141,8 +123,11 @@ impl Store {
     pub fn may_draw(&self, call: &Call) -> bool {
         match (&call.ask, &self.state) {
             (Ask::Open(_), _) => true,
-            (Ask::Request { .. }, Some(_)) => true,
-            (Ask::Turn, Some(state)) => state.step() == Some(Step::FirstWrite),
+            (Ask::Request { .. }, Some(state)) => state.request.is_none(),
+            (Ask::Turn, Some(state)) => {
+                let draws = state.turn_bounds().len();
+                draws > 0 && draws <= call.words.len()
+            }
             _ => false,
         }
     }
@@ -151,7 +136,7 @@ impl Store {
 fn open(shape: Shape, mistake: Mistake, memory: usize, draws: &mut Draws) -> Result<State, u8> {
     ask(shape.in_bounds(), 1)?;
     ask(memory >= shape.needed(), 2)?;
-    ask(draws.left() >= shape.blocks, 3)?;
+    ask(draws.settle(repeat_n(shape.partitions, shape.blocks)), 3)?;
     let partition = (0..shape.blocks)
         .map(|_| draws.below(shape.partitions))
         .collect();
@@ -195,13 +180,14 @@ impl State {
         ask(self.queue.len() <= 62, 7)?;
         let moves = self.is_waiting(block) && self.mistake != Mistake::EightForWaiting;
         ask(self.waiting() < self.shape.places || moves, 8)?;
-        ask(draws.left() >= 2, 3)?;
+        let evictions = self.evictions();
+        ask(draws.settle([self.shape.partitions, evictions.len()]), 3)?;
         self.request = Some(Request {
             kind,
             block,
             contents: contents.to_vec(),
             next: draws.below(self.shape.partitions),
-            evict: self.draw_eviction(draws),
+            evict: evictions[draws.below(evictions.len())],
             level: 0,
             found: None,
             at_acceptance: self.look_up(block),
@@ -209,18 +195,19 @@ impl State {
         Ok(())
     }
 
-    fn draw_eviction(&self, draws: &mut Draws) -> usize {
+    /// The partitions among which the eviction partition is drawn.
+    fn evictions(&self) -> Vec<usize> {
         let all = 0..self.shape.partitions;
         if self.mistake == Mistake::EvictionAmongWaiting {
             let waits = |q: &usize| {
                 (0..self.shape.blocks).any(|b| self.is_waiting(b) && self.partition[b] == *q)
             };
-            let some: Vec<usize> = all.filter(waits).collect();
+            let some: Vec<usize> = all.clone().filter(waits).collect();
             if !some.is_empty() {
-                return some[draws.below(some.len())];
+                return some;
             }
         }
-        draws.below(self.shape.partitions)
+        all.collect()
     }
 
     fn complete(&mut self, command: Command, bytes: &[u8]) -> Result<(), u8> {

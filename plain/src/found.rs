@@ -7,7 +7,7 @@ use crate::state::{Place, Request, State};
 
 /// What the look-up of a place says. The default is what all calls tell but an
 /// accepted collect.
-#[derive(Clone, Copy, Debug, Default, PartialEq, Eq)]
+#[derive(Clone, Copy, Debug, Default, PartialEq, Eq, Hash)]
 pub enum Found {
     #[default]
     Nowhere,

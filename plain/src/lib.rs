@@ -1,18 +1,20 @@
 //! A plain implementation of document 01's block store and of document 02's
-//! page on its state (P1) and where a block was found (P2). It is written from
-//! these documents alone and made to be read, so that other implementations
-//! and definitions can be compared with it. Beside it is a fast implementation
-//! of the same rules, for benchmarks.
+//! page on its state (P1), where a block was found (P2) and even draws (P3). It
+//! is written from these documents alone and made to be read, so that other
+//! implementations and definitions can be compared with it. Beside it is a fast
+//! implementation of the same rules, for benchmarks.
 
 pub mod antt;
 pub mod array;
 pub mod calls;
+pub mod draws;
 pub mod fast;
 pub mod found;
 pub mod host;
 pub mod lists;
 pub mod lookups;
 pub mod mistakes;
+mod mixer;
 pub mod page;
 pub mod random_session;
 pub mod rng;
@@ -20,4 +22,7 @@ pub mod script;
 pub mod session;
 pub mod shape;
 pub mod state;
+pub mod transcripts;
 pub mod turn;
+pub mod walk;
+pub mod words;

@@ -4,6 +4,10 @@
 //! with most tapes, it is chosen along a sample of runs of both lists, and a
 //! completion is put for every command that is outstanding in one of them.
 
+mod made;
+
+pub use made::{drawn_again, layered, lent_again, two_stored};
+
 use crate::calls::{Ask, Call, Store};
 use crate::mistakes::Mistake;
 use crate::rng::Rng;
@@ -15,6 +19,8 @@ use std::collections::BTreeSet;
 /// lent belongs to a list.
 pub struct Pair {
     pub shape: Shape,
+    /// The bits of a word.
+    pub width: u32,
     pub sides: [Vec<Call>; 2],
 }
 
@@ -88,74 +94,61 @@ struct Sample {
 }
 
 const SAMPLES: usize = 24;
-/// Calls after which a list ends.
-const LONGEST: usize = 200;
+/// Calls after which a list ends, and sequences of drawn numbers.
+const LONGEST: usize = 120;
+const MOST_NUMBERS: f64 = 8_000.0;
 
 struct Builder {
     shape: Shape,
+    width: u32,
     rng: Rng,
     samples: [Vec<Sample>; 2],
     sides: [Vec<Call>; 2],
     /// The words lent to turns until the next request.
     turn_words: usize,
-    /// Calls accepted in sampled runs since the last turn, itself included.
-    moved: usize,
 }
 
-fn builder(shape: Shape, seed: u64) -> Builder {
+fn builder(shape: Shape, width: u32, seed: u64) -> Builder {
     let fresh = || Sample {
-        store: Store::new(Mistake::None),
+        store: Store::of_width(width, Mistake::None),
         tapes: 1.0,
     };
     let runs = || (0..SAMPLES).map(|_| fresh()).collect();
     Builder {
         shape,
+        width,
         rng: Rng::new(seed),
         samples: [runs(), runs()],
         sides: [Vec::new(), Vec::new()],
         turn_words: 0,
-        moved: 0,
     }
 }
 
-/// A random pair whose lists have about so many tapes at most.
-pub fn pair(shape: Shape, seed: u64, budget: f64) -> Pair {
-    let mut builder = builder(shape, seed);
+/// A random pair.
+pub fn pair(shape: Shape, width: u32, seed: u64) -> Pair {
+    let mut builder = builder(shape, width, seed);
     builder.open();
-    while builder.estimate() < budget && builder.sides[0].len() < LONGEST {
+    while builder.estimate() < MOST_NUMBERS && builder.sides[0].len() < LONGEST {
         builder.step();
         if builder.samples[0].iter().all(|s| s.store.state.is_none()) {
             builder.closed();
             break;
         }
     }
-    let sides = builder.sides;
-    Pair { shape, sides }
-}
-
-/// A pair for two levels, made so that at its last request often both levels
-/// are filled: jobs are lent the words to write level 1 after the first
-/// request only, and those to write level 0 after the second, too.
-pub fn layered(shape: Shape, seed: u64) -> Pair {
-    let mut builder = builder(shape, seed);
-    builder.same(Ask::Open(shape), shape.blocks, 0);
-    for order_words in [3, 1] {
-        builder.request();
-        builder.turn_words = order_words;
-        builder.read_and_collect();
-        builder.moved = 1;
-        while builder.moved > 0 {
-            builder.turns();
-        }
-    }
-    builder.request();
-    builder.read_and_collect();
-    let sides = builder.sides;
-    Pair { shape, sides }
+    builder.pair()
 }
 
 impl Builder {
-    /// The number of tapes is the expected product of a random run's bounds.
+    fn pair(self) -> Pair {
+        Pair {
+            shape: self.shape,
+            width: self.width,
+            sides: self.sides,
+        }
+    }
+
+    /// The number of sequences of drawn numbers is the expected product of a
+    /// random run's bounds.
     fn estimate(&self) -> f64 {
         let mean = |side: &Vec<Sample>| side.iter().map(|s| s.tapes).sum::<f64>() / SAMPLES as f64;
         mean(&self.samples[0]).max(mean(&self.samples[1]))
@@ -178,9 +171,9 @@ impl Builder {
             };
             self.sides[side].push(call.clone());
             for sample in &mut self.samples[side] {
-                call.words = self.rng.words(words);
-                let outcome = sample.store.call(&call);
-                self.moved += usize::from(outcome.number == 0);
+                let word = |_| self.rng.below(1 << self.width) as u16;
+                call.words = (0..words).map(word).collect();
+                sample.store.call(&call);
                 sample.tapes *= sample.store.bounds.iter().product::<usize>() as f64;
             }
         }
@@ -224,21 +217,13 @@ impl Builder {
         }
     }
 
-    /// Collects after each read, too early with many tapes.
-    fn read_and_collect(&mut self) {
-        for _ in 0..self.shape.levels {
-            self.turns();
-            self.same(Ask::Collect, 0, self.shape.bytes);
-        }
-    }
-
     /// A well-formed request, chosen for each list by itself.
     fn request(&mut self) {
         // Few words hold the rebuilds of large levels back, which keeps deep
         // lists within the budget.
         self.turn_words = match self.rng.below(8) {
             0 => 0,
-            1..4 => 1,
+            1 => 1,
             _ => (1 << self.shape.levels) - 1,
         };
         let asks = [self.well_formed(), self.well_formed()];
@@ -267,16 +252,9 @@ impl Builder {
     fn turns(&mut self) {
         for _ in 0..1 + self.rng.below(self.shape.window) {
             let words = self.turn_words + self.rng.below(2);
-            self.moved = 0;
             self.same(Ask::Turn, words, self.shape.bytes);
         }
-        let states = self
-            .samples
-            .iter()
-            .flatten()
-            .filter_map(|s| s.store.state.as_ref());
-        let all: BTreeSet<Command> = states.flat_map(|state| state.outstanding.clone()).collect();
-        for command in all {
+        for command in self.outstanding() {
             let length = self.shape.bytes * (2 - command.kind);
             if self.rng.chance(3) {
                 self.completion(command, length + 1);
@@ -285,6 +263,13 @@ impl Builder {
                 self.completion(command, length);
             }
         }
+    }
+
+    /// The commands outstanding in a sampled run.
+    fn outstanding(&self) -> BTreeSet<Command> {
+        let all = self.samples.iter().flatten();
+        let states = all.filter_map(|s| s.store.state.as_ref());
+        states.flat_map(|s| s.outstanding.iter().copied()).collect()
     }
 
     /// The bytes may differ: they are no part of a list.

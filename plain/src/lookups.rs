@@ -148,9 +148,13 @@ pub struct Tape {
     at: usize,
 }
 
-/// The words made at a time and the most that one call is lent.
+/// The words made at a time, and those that each call is lent: the 255 draws
+/// of the largest order, and more to be passed over than ever are. So many
+/// zeros stand behind the words that are made, so that as many of these are
+/// drawn from as if none were passed over.
 const TAPE: usize = 1 << 12;
-const LENT: usize = 255;
+const DRAWS: usize = 255;
+const SPARE: usize = 65;
 /// The places that an answer tells: nowhere, the cache and eight levels.
 const PLACES: usize = 10;
 
@@ -158,7 +162,7 @@ impl Tape {
     pub fn new(seed: u64) -> Tape {
         let mut tape = Tape {
             state: seed | 1,
-            words: vec![0; TAPE],
+            words: vec![0; TAPE + SPARE],
             at: 0,
         };
         tape.refill();
@@ -167,7 +171,7 @@ impl Tape {
 
     /// A multiplicative generator; its upper half has the good bits.
     fn refill(&mut self) {
-        for pair in self.words.chunks_exact_mut(2) {
+        for pair in self.words[..TAPE].chunks_exact_mut(2) {
             self.state = self.state.wrapping_mul(0xDA94_2042_E4DD_58B5);
             pair[0] = (self.state >> 48) as u16;
             pair[1] = (self.state >> 32) as u16;
@@ -178,10 +182,10 @@ impl Tape {
     /// What the next call is lent.
     #[inline]
     pub fn lend(&mut self) -> &[u16] {
-        if self.at + LENT > TAPE {
+        if self.at + DRAWS > TAPE {
             self.refill();
         }
-        &self.words[self.at..self.at + LENT]
+        &self.words[self.at..self.at + DRAWS + SPARE]
     }
 
     #[inline]

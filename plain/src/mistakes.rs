@@ -1,7 +1,7 @@
 //! Wrong rules that can be switched on in the model. A test that compares
 //! outcomes or transcripts has to tell each of them from the right rules.
 
-#[derive(Clone, Copy, Debug, PartialEq, Eq)]
+#[derive(Clone, Copy, Debug, PartialEq, Eq, Hash)]
 pub enum Mistake {
     /// The right rules.
     None,
@@ -51,10 +51,16 @@ pub enum Mistake {
     RefusalTells,
     /// A request is looked up at acceptance in any case, and so is not held.
     ReleasedAtOnce,
+    /// The limit of a draw is one too high: a word equal to it is taken.
+    LimitTaken,
+    /// A word that a draw passes over does not count as taken.
+    PassedNotCounted,
+    /// A draw takes the remainder of any word.
+    NothingPassed,
 }
 
 impl Mistake {
-    pub const ALL: [Mistake; 22] = [
+    pub const ALL: [Mistake; 25] = [
         Mistake::LowestDummySlot,
         Mistake::WaitingSendsNothing,
         Mistake::FinishedEarly,
@@ -77,6 +83,9 @@ impl Mistake {
         Mistake::FoundAfterCollect,
         Mistake::RefusalTells,
         Mistake::ReleasedAtOnce,
+        Mistake::LimitTaken,
+        Mistake::PassedNotCounted,
+        Mistake::NothingPassed,
     ];
 
     /// Those of which only what a collect tells is wrong. A session doesn't
@@ -92,4 +101,12 @@ impl Mistake {
         let [acceptance, collect, refusal] = Mistake::UNPRINTED;
         [acceptance, collect, refusal, Mistake::ReleasedAtOnce]
     };
+
+    /// Those in which words a draw takes, and how it counts them (document
+    /// 02, P3).
+    pub const DRAWS: [Mistake; 3] = [
+        Mistake::LimitTaken,
+        Mistake::PassedNotCounted,
+        Mistake::NothingPassed,
+    ];
 }

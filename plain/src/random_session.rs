@@ -87,7 +87,7 @@ impl Maker {
             _ => MOST_WORDS,
         };
         let mut line = "T".to_string();
-        for word in self.rng.words(count) {
+        for word in self.rng.tape(count) {
             line += &format!(" {word}");
         }
         self.push(&line);

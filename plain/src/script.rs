@@ -6,7 +6,7 @@ use crate::host::Host;
 use crate::mistakes::Mistake;
 use crate::rng::Rng;
 use crate::shape::Shape;
-use crate::state::{Command, READ, State, Step, WRITE};
+use crate::state::{Command, READ, State, WRITE};
 
 pub struct Script {
     shape: Shape,
@@ -52,6 +52,11 @@ impl Script {
     }
 
     fn make(&mut self, ask: Ask, words: usize, buffer: usize) {
+        let words = self.rng.tape(words);
+        self.lend(ask, words, buffer);
+    }
+
+    fn lend(&mut self, ask: Ask, words: Vec<u16>, buffer: usize) {
         let slack = if self.rng.chance(25) {
             self.rng.below(9)
         } else {
@@ -60,7 +65,7 @@ impl Script {
         let call = Call {
             ask,
             memory: self.shape.needed() + slack,
-            words: self.rng.words(words),
+            words,
             buffer,
         };
         self.record(call);
@@ -109,7 +114,7 @@ impl Script {
         let call = Call {
             ask,
             memory: self.shape.needed() - 1,
-            words: self.rng.words(words),
+            words: self.rng.tape(words),
             buffer: self.shape.bytes,
         };
         self.record(call);
@@ -173,18 +178,19 @@ impl Script {
         }
     }
 
-    /// The words of the order that the next turn draws, or 0.
-    fn order_words(state: &State) -> usize {
-        match state.step() {
-            Some(Step::FirstWrite) => (2 << state.target(state.queue[0])) - 1,
-            _ => 0,
-        }
-    }
-
+    /// A turn whose draws are settled by the last word lent or one before it,
+    /// or are one word short.
     fn turn(&mut self) {
-        let words = self.store.state.as_ref().map_or(0, Script::order_words);
-        let more = self.rng.below(2);
-        self.make(Ask::Turn, words + more, self.shape.bytes);
+        let state = self.store.state.as_ref();
+        let mut words = self
+            .rng
+            .settling(state.map_or(Vec::new(), State::turn_bounds));
+        match self.rng.below(10) {
+            0..2 => drop(words.pop()),
+            2..5 => words.extend(self.rng.tape(1)),
+            _ => {}
+        }
+        self.lend(Ask::Turn, words, self.shape.bytes);
     }
 
     /// Completes a random pending command, now and then with false bytes.

@@ -1,6 +1,6 @@
 //! The shape of a store: its bounds and the memory it needs.
 
-#[derive(Clone, Copy, Debug, PartialEq, Eq)]
+#[derive(Clone, Copy, Debug, PartialEq, Eq, Hash)]
 pub struct Shape {
     /// N, the number of blocks.
     pub blocks: usize,

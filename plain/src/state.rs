@@ -19,7 +19,7 @@ pub struct Command {
     pub slot: usize,
 }
 
-#[derive(Clone, Copy, Debug, PartialEq, Eq)]
+#[derive(Clone, Copy, Debug, PartialEq, Eq, Hash)]
 pub enum Place {
     Nowhere,
     /// In the eviction cache; a lower age number has waited longer.
@@ -31,7 +31,7 @@ pub enum Place {
     },
 }
 
-#[derive(Clone, Debug)]
+#[derive(Clone, Debug, PartialEq, Eq, Hash)]
 pub struct Level {
     /// The order: the slot of each item.
     pub slot_of: Vec<usize>,
@@ -59,6 +59,15 @@ impl Level {
         self.slot_of.len()
     }
 
+    /// What an empty level's order and marks are means nothing.
+    pub fn forget_order(&mut self) {
+        for (item, slot) in self.slot_of.iter_mut().enumerate() {
+            *slot = item;
+        }
+        self.read.fill(false);
+        self.drawn = false;
+    }
+
     /// The slot of the lowest-numbered unread dummy item. A slot whose block
     /// was collected has been read, so it is never taken for a dummy.
     pub fn dummy(&self, mistake: Mistake) -> Option<usize> {
@@ -70,7 +79,7 @@ impl Level {
     }
 }
 
-#[derive(Clone, Debug)]
+#[derive(Clone, Debug, PartialEq, Eq, Hash)]
 pub struct Request {
     pub kind: usize,
     pub block: usize,
@@ -95,7 +104,7 @@ impl Request {
     }
 }
 
-#[derive(Clone, Debug)]
+#[derive(Clone, Debug, PartialEq, Eq, Hash)]
 pub struct State {
     pub shape: Shape,
     pub mistake: Mistake,

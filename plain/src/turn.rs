@@ -5,21 +5,40 @@ use crate::calls::{Draws, ask};
 use crate::mistakes::Mistake;
 use crate::state::{Command, Place, READ, State, Step, WRITE};
 
-/// An order of n slots: the slot of each item.
+/// The bounds of the draws of an order of n slots, in turn.
+pub fn order_bounds(n: usize, mistake: Mistake) -> impl Iterator<Item = usize> {
+    let more = match mistake {
+        Mistake::DrawBelowI => 0,
+        _ => 1,
+    };
+    (1..n).rev().map(move |i| i + more)
+}
+
+/// An order of n slots: the slot of each item. The words lent have to settle
+/// its draws.
 pub fn order(n: usize, mistake: Mistake, draws: &mut Draws) -> Vec<usize> {
     let mut slot_of: Vec<usize> = (0..n).collect();
-    for i in (1..n).rev() {
-        let below = match mistake {
-            Mistake::DrawBelowI => i,
-            _ => i + 1,
-        };
-        let j = draws.below(below);
+    for (i, bound) in (1..n).rev().zip(order_bounds(n, mistake)) {
+        let j = draws.below(bound);
         slot_of.swap(i, j);
     }
     slot_of
 }
 
 impl State {
+    /// The bounds of the draws that the next turn makes, in turn.
+    pub fn turn_bounds(&self) -> Vec<usize> {
+        if self.step() != Some(Step::FirstWrite) {
+            return Vec::new();
+        }
+        let q = self.queue[0];
+        let old = &self.levels[q][self.target(q)];
+        if self.mistake == Mistake::OrderNotTaken && old.drawn {
+            return Vec::new();
+        }
+        order_bounds(old.slots(), self.mistake).collect()
+    }
+
     /// The command sent, and the bytes of a write.
     pub fn turn(&mut self, buffer: usize, draws: &mut Draws) -> Result<(Command, Vec<u8>), u8> {
         ask(self.outstanding.len() < self.shape.window, 9)?;
@@ -30,6 +49,7 @@ impl State {
             Step::RequestRead(level) => self.send_request_read(level),
             Step::JobRead(level, slot) => Ok(self.send_read(self.queue[0], level, slot)),
             Step::FirstWrite => {
+                ask(draws.settle(self.turn_bounds()), 3)?;
                 self.rebuild(draws)?;
                 Ok(self.send_write(0))
             }
@@ -84,12 +104,6 @@ impl State {
     fn rebuild(&mut self, draws: &mut Draws) -> Result<(), u8> {
         let q = self.queue[0];
         let (target, sources) = (self.target(q), self.sources(q));
-        let old = &self.levels[q][target];
-        let words = match self.mistake {
-            Mistake::OrderNotTaken if old.drawn => 0,
-            _ => old.slots() - 1,
-        };
-        ask(draws.left() >= words, 3)?;
         let mut gathered: Vec<usize> = self.stored(q, sources).chain(self.chosen(q)).collect();
         gathered.sort();
         gathered.dedup();

@@ -26,6 +26,10 @@ struct Pair {
     most_jobs: usize,
     full: usize,
     wraps: usize,
+    /// The orders that passed words over, and the turns answered 3 though
+    /// they were lent as many words as they make draws.
+    passed: usize,
+    unsettled: usize,
     /// Where the block in hand was at acceptance, how often a block was found
     /// nowhere, in the cache and in each level, and how often elsewhere than
     /// at acceptance.
@@ -46,7 +50,7 @@ fn narrow(command: Command) -> fast::Command {
 impl Pair {
     fn open(shape: Shape, seed: u64) -> Pair {
         let mut rng = Rng::new(seed);
-        let words = rng.words(shape.blocks + seed as usize % 2);
+        let words = rng.tape(shape.blocks + seed as usize % 2);
         let mut model = Model::new(Mistake::None);
         let call = Call {
             ask: Ask::Open(shape),
@@ -67,6 +71,8 @@ impl Pair {
             most_jobs: 0,
             full: 0,
             wraps: 0,
+            passed: 0,
+            unsettled: 0,
             accepted: Found::Nowhere,
             found: [0; 10],
             moved: 0,
@@ -77,9 +83,13 @@ impl Pair {
         self.model.state.as_ref().expect("the store is open")
     }
 
-    /// Makes the call to both. The buffer's bytes before it are random.
     fn make(&mut self, ask: Ask, words: usize, buffer: usize) -> Outcome {
-        let words = self.rng.words(words);
+        let words = self.rng.tape(words);
+        self.lend(ask, words, buffer)
+    }
+
+    /// Makes the call to both. The buffer's bytes before it are random.
+    fn lend(&mut self, ask: Ask, words: Vec<u16>, buffer: usize) -> Outcome {
         let mut bytes = self.rng.bytes(buffer);
         let mut after = bytes.clone();
         let answer = self.call_fast(&ask, &words, &mut bytes);
@@ -192,14 +202,24 @@ impl Pair {
             self.full += usize::from(stored == self.shape.capacity());
             self.wraps += usize::from(wraps);
         }
-        self.send((1 << self.shape.levels) - 1, self.shape.bytes);
+        let bounds = self.state().turn_bounds();
+        let mut words = self.rng.settling(bounds);
+        match self.rng.below(10) {
+            0 => drop(words.pop()),
+            1..4 => words.extend(self.rng.tape(2)),
+            _ => {}
+        }
+        self.send(words, self.shape.bytes);
     }
 
-    fn send(&mut self, words: usize, buffer: usize) {
-        let outcome = self.make(Ask::Turn, words, buffer);
+    fn send(&mut self, words: Vec<u16>, buffer: usize) {
+        let (draws, lent) = (self.state().turn_bounds().len(), words.len());
+        let outcome = self.lend(Ask::Turn, words, buffer);
         if outcome.number == 0 {
             self.host.send(outcome.command, outcome.bytes);
         }
+        self.passed += usize::from(outcome.taken > draws);
+        self.unsettled += usize::from(outcome.number == 3 && lent >= draws);
     }
 
     /// Completes a command, now and then with false bytes.
@@ -243,6 +263,7 @@ impl Pair {
             return;
         }
         let words = self.rng.below(1 << self.shape.levels);
+        let words = self.rng.tape(words);
         let buffer = self.shape.bytes + 1 - self.rng.below(3);
         self.send(words, buffer);
     }
@@ -302,6 +323,7 @@ const PLANS: [(Shape, usize); 14] = [
 fn random_calls_answer_as_the_model_does() {
     let mut numbers = [0; 16];
     let (mut most_jobs, mut full, mut wraps, mut calls) = (0, 0, 0, 0);
+    let (mut passed, mut unsettled) = (0, 0);
     let (mut found, mut moved) = ([0; 10], 0);
     for (seed, (shape, steps)) in PLANS.iter().enumerate() {
         let mut pair = Pair::open(*shape, seed as u64);
@@ -312,6 +334,8 @@ fn random_calls_answer_as_the_model_does() {
         most_jobs = most_jobs.max(pair.most_jobs);
         full += pair.full;
         wraps += pair.wraps;
+        passed += pair.passed;
+        unsettled += pair.unsettled;
         moved += pair.moved;
         for (all, number) in numbers.iter_mut().zip(pair.numbers) {
             *all += number;
@@ -322,11 +346,13 @@ fn random_calls_answer_as_the_model_does() {
     }
     println!("{calls} calls, {numbers:?}, {full} full, {wraps} wraps");
     println!("found {found:?}, {moved} moved");
+    println!("words passed over in {passed} orders, {unsettled} not settled");
     assert!(calls > 200_000);
     for number in (0..16).filter(|n| *n != 1) {
         assert!(numbers[number] > 100, "{number} is answered too rarely");
     }
     assert!(most_jobs == 64 && full > 100 && wraps > 100);
+    assert!(passed > 1000 && unsettled > 100);
     assert!(found.iter().all(|times| *times > 50) && moved > 100);
 }
 

@@ -19,7 +19,7 @@ use Rattle.rules.specs.Collect
 use Rattle.rules.specs.Completion
 use Rattle.rules.specs.Completion.{isCommand, complete}
 use Rattle.rules.specs.Draws.{draws}
-use Rattle.rules.specs.Laws.Answers.{Passed, opens, accepted-passed, step-accepted, step-refused, step-number, refuse-keeps}
+use Rattle.rules.specs.Laws.Answers.{Passed, opens, accepted-passed, step-accepted, step-refused, step-number, refuse-keeps, open-first}
 use Rattle.rules.specs.Laws.Lengths.{Whole, slot-length, contents-length}
 use Rattle.rules.specs.Laws.Range.{RequestIn}
 use Rattle.rules.specs.Laws.Released.{handed-release}
@@ -37,7 +37,7 @@ use Rattle.rules.specs.State.{State, Command, cmd, read, write, Request, closed
 use Rattle.rules.specs.Turn
 use Rattle.rules.specs.Turn.{Step, idle, noDummy, readForRequest, readForJob, rebuild, writeNext, decide, command, doStep}
 use Rattle.reachable.specs.Outstanding.{decOne, command-is, same-command}
-use Rattle.reachable.specs.Reached.{Was, shut, was-reached, step-was, open-first}
+use Rattle.reachable.specs.Reached.{Was, shut, was-reached, step-was}
 use Rattle.reachable.specs.Sends.{Last, step-last, open-last, kind-here, kind-else, kind-zero, read-is}
 use Rattle.reachable.specs.Terms.{One, lastKind}
 use Rattle.array.specs.Claim.{Slots, store, sends}

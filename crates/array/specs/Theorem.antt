@@ -15,7 +15,7 @@ use Rattle.rules.specs.Collect
 use Rattle.rules.specs.Completion
 use Rattle.rules.specs.Completion.{complete}
 use Rattle.rules.specs.Draws.{Drawn, draws, newOrder, Drew}
-use Rattle.rules.specs.Laws.Answers.{Passed, accepted-passed, step-accepted, step-refused, step-number}
+use Rattle.rules.specs.Laws.Answers.{Passed, accepted-passed, step-accepted, step-refused, step-number, open-first}
 use Rattle.rules.specs.Laws.Decided.{StepIn, decide-in, stepBounds-pos}
 use Rattle.rules.specs.Laws.Kept.{completed-in, given-in, drew-of}
 use Rattle.rules.specs.Laws.Released.{released-same, written-release}
@@ -37,7 +37,7 @@ use Rattle.reachable.specs.Decided.{Decided, decided}
 use Rattle.reachable.specs.Invariant.{Reached}
 use Rattle.reachable.specs.Kept.Completion.{completed-kept}
 use Rattle.reachable.specs.Kept.Rebuild.Drawing.{drawing}
-use Rattle.reachable.specs.Reached.{Was, shut, live, closed-out, performed-kept, accepted-kept, open-first}
+use Rattle.reachable.specs.Reached.{Was, shut, live, closed-out, performed-kept, accepted-kept}
 use Rattle.array.specs.Claim.{Asked, store, Slots, Host, Expected, Brings, Has, change, Hands, sends, next, expects, Moves, Honest, Plain, Claim}
 use Rattle.array.specs.Collects.{collected-has, collect-contents, fresh-contents}
 use Rattle.array.specs.Completions.{completeRead-contents, completeWrite-contents}

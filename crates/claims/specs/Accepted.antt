@@ -12,6 +12,7 @@ use Rattle.rules.specs.Unfold.{model, shape, call, out}
 use Rattle.memory.specs.Words.{wordAt}
 use Rattle.tape.specs.Tape.{wordsOf}
 use Rattle.codec.specs.Codec.{stateLength}
+use Rattle.exports.specs.Exported.{lookedAt}
 use Rattle.claims.specs.Claim.{Made, Called, made, FromOpen, callMade, outcomeOf}
 use Rattle.claims.specs.Theorem.{exported-run}
 
@@ -43,12 +44,12 @@ unfolding model
 told-is = refl
 
 -- two words of four zeros
-pub zeros-words : wordsOf (replicate 4 0) ≡ 0 ∷ 0 ∷ []
+pub zeros-words : wordsOf (lookedAt (replicate 4 0)) ≡ 0 ∷ 0 ∷ []
 unfolding wordsOf wordAt below count
 zeros-words = refl
 
 -- Calls with these arguments, each handed what the last one left
-module _ (st m tape b : List ℕ) (words : wordsOf tape ≡ 0 ∷ 0 ∷ []) (bytes : length st ≡ stateLength) (size : length m ≡ 416) (one : length b ≡ 1) where
+module _ (st m tape b : List ℕ) (words : wordsOf (lookedAt tape) ≡ 0 ∷ 0 ∷ []) (bytes : length st ≡ stateLength) (size : length m ≡ 416) (one : length b ≡ 1) where
   pub accepted : (u₁ u₂ u₃ u₄ u₅ : ℕ) (st₁ m₁ st₂ m₂ st₃ m₃ b₃ st₄ m₄ b₄ st₅ m₅ : List ℕ) →
       Called (made (opening (shape 1 1 1 1 1 1)) st m tape [] u₁ st₁ m₁ []) → length st₁ ≡ stateLength →
       Called (made (request write 0 (7 ∷ [])) st₁ m₁ tape [] u₂ st₂ m₂ []) → length st₂ ≡ stateLength →

@@ -7,7 +7,7 @@ use mathlib.Core.Path.{_≡_}
 use mathlib.Core.Logic.{_⊎_}
 use mathlib.Core.Bool.{false, _&&_}
 use mathlib.Core.List.{List, [], _∷_, _++_, map}
-use Prim.Native.Nat.{ℕ, _^_, _≤_, _<_}
+use Prim.Native.Nat.{ℕ, suc, _≤_, _<_}
 use lib.ListN.{length}
 use lib.Dec.{eqb}
 use Rattle.lists.specs.All.{All}
@@ -24,11 +24,11 @@ use Rattle.client.specs.View.{foundAs}
 use Rattle.tape.specs.Tape.{wordsOf}
 use Rattle.contract.specs.Meets.{callOf, commandOf}
 use Rattle.codec.specs.Codec.{answerOf, stateLength}
-use Rattle.exports.specs.Exported.{clientIn, Exported, Opened}
+use Rattle.exports.specs.Exported.{clientIn, mostWords, lookedAt, Exported, Opened}
 use Rattle.array.specs.Claim.{Slots, Host, Expected, Honest, Plain}
 use Rattle.array.specs.Served.{served}
-use Rattle.hiding.specs.Chosen.{Told, Choice, Plays, Draws}
-use Rattle.hiding.specs.Claim.{Lent, first, WellFormed, Same, Compared, Tape, drawsIn, Gives, Matching, told, NoOpen, openOver, Twins, AgreeUntil8}
+use Rattle.hiding.specs.Chosen.{Told, Choice, opened, Chosen, Uses}
+use Rattle.hiding.specs.Claim.{outline, Lent, first, WellFormed, Same, Compared, Lends, tapeOf, Tape, serve, most, Matching, told, NoOpen, openOver, Twins, AgreeUntil8}
 
 -- ---- A run of exported calls
 
@@ -88,9 +88,9 @@ pub record FromOpen (xs : List Made) : Type 0 where
 
 -- ---- What was asked, and what was told, as the rules have it
 
--- the call: what is asked, the length of memory and buffer, the words of the tape
+-- the call: what is asked, the length of memory and buffer, the words of the tape that it looks at (all of them, if they are fewer than 2^32)
 abbrev pub callMade : Made → Call
-callMade x = callOf (x .ask) (x .memory) (x .tape) (x .buffer)
+callMade x = callOf (x .ask) (x .memory) (lookedAt (x .tape)) (x .buffer)
 
 -- the bytes handed out are in the buffer after an accepted collect, and after an accepted turn that sends a write; n is the number, k the
 -- command's kind
@@ -132,14 +132,38 @@ abbrev pub ArrayClaim : Type 0
 ArrayClaim = (xs : List Made) → FromOpen xs → (host : Host) (m : Expected)
     → Honest host (map callMade xs) (map outcomeOf xs) → Plain m (map callMade xs) (map outcomeOf xs)
 
--- Demand 3: the tapes of two compared lists are matched; and where the words lent in two runs of them give partners, number, count of words and
--- command are equal at each place, whatever bytes completions bring and requests have for contents (a list has but their lengths)
+-- Document 02, P3: "A tape then has the words taken and all words lent to a turn answered 3, and no more": the tape of a run, by its own outcomes
+abbrev pub usedUp : List Made → List ℕ
+usedUp xs = tapeOf (map callMade xs) (map outcomeOf xs)
+
+-- a run of an open and k calls more, each chosen by what was told before it, as by a host that completes the commands it was sent
+abbrev pub Chooses : Shape → ℕ → ℕ → ℕ → Choice → ℕ → List Made → Type 0
+Chooses h m w n σ k xs = (length xs ≡ suc k) × Chosen (opened (first h m w n) σ) [] (map callMade xs) (map outcomeOf xs)
+
+-- Demand 3: the tapes of words of two compared lists are matched, partners are of one length, and two runs that used up partners are told the same at
+-- each place, number, count of words and command, whatever bytes completions bring and requests have for contents (a list has but their lengths)
 abbrev pub HidingClaim : Type 0
 HidingClaim = (h : Shape) → h .E ≡ h .N → (m w n : ℕ) (as′ bs′ : List Lent) → Compared h as′ bs′ →
     (p : Matching (Tape closed (first h m w n ∷ as′)) (Tape closed (first h m w n ∷ bs′)))
-    × ((t : List ℕ) → Tape closed (first h m w n ∷ as′) t → (xs ys : List Made) → FromOpen xs → FromOpen ys →
-    Gives closed (first h m w n ∷ as′) t (map callMade xs) → Gives closed (first h m w n ∷ bs′) (p .f t) (map callMade ys) →
-    map told (map outcomeOf xs) ≡ map told (map outcomeOf ys))
+    × ((t : List ℕ) → Tape closed (first h m w n ∷ as′) t → length (p .f t) ≡ length t)
+    × ((xs ys : List Made) → FromOpen xs → FromOpen ys → Lends (first h m w n ∷ as′) (map callMade xs) → Lends (first h m w n ∷ bs′) (map callMade ys) →
+    p .f (usedUp xs) ≡ usedUp ys → map told (map outcomeOf xs) ≡ map told (map outcomeOf ys))
+
+-- What those tapes are to exported calls
+pub record TapesClaim : Type 0 where
+  -- every run's words are a tape of its list, or of the choice that it follows
+  pub ofRun : (as′ : List Lent) (xs : List Made) → FromOpen xs → Lends as′ (map callMade xs) → Tape closed as′ (usedUp xs)
+  pub ofChoice : (h : Shape) (m w n : ℕ) (σ : Choice) (k : ℕ) (xs : List Made) → FromOpen xs → Chooses h m w n σ k xs → Uses h m w n σ k closed (usedUp xs)
+  -- and every tape is some run's: there are bytes to lend at each place, as many words as the list says, and each run of the list that is lent them
+  -- uses up this tape
+  pub given : (as′ : List Lent) (t : List ℕ) → Tape closed as′ t → All (λ (a : Lent). a .words ≤ mostWords) as′ →
+      (tapes : List (List ℕ)) × (All (λ tape. All (λ x. x < 256) tape) tapes
+      × (map (λ tape. length (wordsOf (lookedAt tape))) tapes ≡ map (λ (a : Lent). a .words) as′)
+      × ((xs : List Made) → FromOpen xs → Lends as′ (map callMade xs) → map (λ (x : Made). x .tape) xs ≡ tapes → usedUp xs ≡ t))
+  -- "callers who lend no word again that was taken or that was lent to a turn answered 3": one that lends each call what comes next of one flat
+  -- tape of words uses up a beginning of it, and this is a tape of the list
+  pub served : (as′ : List Lent) (ks : List Ask) (ws : List ℕ) (xs : List Made) → FromOpen xs → map outline ks ≡ map (λ (a : Lent). a .ask) as′ →
+      All (λ w. w < 65536) ws → most as′ ≤ length ws → map callMade xs ≡ serve closed as′ ks ws → Tape closed as′ (usedUp xs) × ((rest : List ℕ) × (ws ≡ usedUp xs ++ rest))
 
 -- Every run can be served: `served` puts into its completions of reads what the host has, which takes a write's bytes from the turn that sends it
 -- (x has what it had in each slot before). Exported calls that are lent these bytes have an honest host
@@ -151,18 +175,18 @@ ServedClaim = (x : Slots) (h : Shape) (c : Call) (cs : List Call) → c .ask ≡
 abbrev pub HonestClaim : Type 0
 HonestClaim = (h : Shape) → h .E ≡ h .N → (m w n : ℕ) (as′ bs′ : List Lent) → Compared h as′ bs′ →
     (p : Matching (Tape closed (first h m w n ∷ as′)) (Tape closed (first h m w n ∷ bs′)))
-    × ((t : List ℕ) → Tape closed (first h m w n ∷ as′) t → (xs ys : List Made) → FromOpen xs → FromOpen ys →
-    Gives closed (first h m w n ∷ as′) t (map callMade xs) → Gives closed (first h m w n ∷ bs′) (p .f t) (map callMade ys) →
+    × ((xs ys : List Made) → FromOpen xs → FromOpen ys → Lends (first h m w n ∷ as′) (map callMade xs) → Lends (first h m w n ∷ bs′) (map callMade ys) →
+    p .f (usedUp xs) ≡ usedUp ys →
     (host host′ : Host) → Honest host (map callMade xs) (map outcomeOf xs) → Honest host′ (map callMade ys) (map outcomeOf ys) → (e e′ : Expected) →
     (map told (map outcomeOf xs) ≡ map told (map outcomeOf ys))
     × Plain e (map callMade xs) (map outcomeOf xs) × Plain e′ (map callMade ys) (map outcomeOf ys))
 
--- The same where each call is chosen by what was told before it, as by a host that completes the commands it was sent
+-- The same for runs whose calls are chosen by what was told
 abbrev pub ChosenExported : Type 0
 ChosenExported = (h : Shape) → h .E ≡ h .N → (m w n : ℕ) (σ τ : Choice) → ((os : List Told) → Same h (σ os) (τ os)) → (k : ℕ) →
-    (p : Matching (Draws h m w n σ k closed) (Draws h m w n τ k closed))
-    × ((xs ys : List Made) → FromOpen xs → FromOpen ys → Plays h m w n σ k closed (map callMade xs) → Plays h m w n τ k closed (map callMade ys) →
-    p .f (drawsIn closed (map callMade xs)) ≡ drawsIn closed (map callMade ys) → (map told (map outcomeOf xs) ≡ map told (map outcomeOf ys))
+    (p : Matching (Uses h m w n σ k closed) (Uses h m w n τ k closed))
+    × ((xs ys : List Made) → FromOpen xs → FromOpen ys → Chooses h m w n σ k xs → Chooses h m w n τ k ys →
+    p .f (usedUp xs) ≡ usedUp ys → (map told (map outcomeOf xs) ≡ map told (map outcomeOf ys))
     × ((host host′ : Host) → Honest host (map callMade xs) (map outcomeOf xs) → Honest host′ (map callMade ys) (map outcomeOf ys) → (e e′ : Expected) →
     Plain e (map callMade xs) (map outcomeOf xs) × Plain e′ (map callMade ys) (map outcomeOf ys)))
 
@@ -182,10 +206,10 @@ CacheBytesClaim = (h : Shape) (e : ℕ) → 1 ≤ e → e < h .N → (m n : ℕ)
 -- "Among such requests only 8 may depend on names": two well-formed requests that are handed the same state and memory, and as many words
 abbrev pub NamesClaim : Type 0
 NamesClaim = (x y : Made) (k b k′ b′ : ℕ) (bs bs′ : List ℕ) → x .ask ≡ request k b bs → y .ask ≡ request k′ b′ bs′ → Called x → Called y
-    → length (x .state) ≡ stateLength → x .state ≡ y .state → x .memory ≡ y .memory → length (wordsOf (x .tape)) ≡ length (wordsOf (y .tape))
+    → length (x .state) ≡ stateLength → x .state ≡ y .state → x .memory ≡ y .memory → length (callMade x .words) ≡ length (callMade y .words)
     → WellFormed (shapeOf (clientIn (x .state) .shape)) k b (length bs) → WellFormed (shapeOf (clientIn (x .state) .shape)) k′ b′ (length bs′)
     → (outcomeOf x .number ≡ outcomeOf y .number) ⊎ ((outcomeOf x .number ≡ 8) ⊎ (outcomeOf y .number ≡ 8))
 
--- The words of a run may be any: words of 16 bits are those of some bytes. (`Tapes` of crate `hiding` gives each tape such words)
+-- The words of a run may be any: up to 2^32 − 1 words of 16 bits are those of some bytes
 abbrev pub WordsClaim : Type 0
-WordsClaim = (ws : List ℕ) → All (λ w. w < 2 ^ 16) ws → (tape : List ℕ) × (All (λ x. x < 256) tape × (wordsOf tape ≡ ws))
+WordsClaim = (ws : List ℕ) → All (λ w. w < 65536) ws → length ws ≤ mostWords → (tape : List ℕ) × (All (λ x. x < 256) tape × (wordsOf (lookedAt tape) ≡ ws))

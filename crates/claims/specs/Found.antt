@@ -4,14 +4,13 @@ use mathlib.Core.Bool.{false}
 use mathlib.Core.List.{List, [], _∷_, _++_, map}
 use Prim.Native.Nat.{ℕ}
 use Rattle.lists.specs.All.{All, nil, cons}
-use Rattle.rules.specs.Laws.Answers.{opens, step-number}
+use Rattle.rules.specs.Laws.Answers.{open-first, opens, step-number}
 use Rattle.rules.specs.Laws.Found.{firstFound, Between, found-when-released}
 use Rattle.rules.specs.Questions.{request, collect, number}
 use Rattle.rules.specs.Run.{Outcome, step, after}
 use Rattle.rules.specs.State.{State, closed}
 use Rattle.client.specs.View.{stateOf}
 use Rattle.exports.specs.Exported.{clientIn}
-use Rattle.reachable.specs.Reached.{open-first}
 use Rattle.claims.specs.Claim.{Made, Runs, Opens, callMade, outcomeOf, FoundClaim}
 use Rattle.claims.specs.Steps.{made-step}
 

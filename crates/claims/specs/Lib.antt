@@ -2,6 +2,7 @@
 -- Theorem proves it
 pub mod Claim
 pub mod Theorem
+pub mod Tapes
 pub mod Found
 -- A small run, computed; and one in which every call is accepted
 pub mod Example

@@ -1,6 +1,6 @@
 -- One exported call is the rules' step, from the state that the whole memory stands for to the one that it stands for after the call.
 use mathlib.Core.Path.{_≡_, refl, ap, sym, _∙_}
-use mathlib.Core.Bool.{true, false, true≢false}
+use mathlib.Core.Bool.{false, true≢false}
 use mathlib.Core.List.{List, [], _++_}
 use Prim.Native.Nat.{ℕ, _+_, _%_, _≤_, _<_}
 use native.Mathlib.Omega.{arith}
@@ -25,7 +25,7 @@ use Rattle.contract.specs.Meets.{Meets, callOf, commandOf, closed-is}
 use Rattle.rules.specs.Laws.Lengths.{Whole}
 use Rattle.contract.specs.Buffers.{state-whole, ready-of, ready-long}
 use Rattle.codec.specs.Codec.{answerOf, stateLength}
-use Rattle.exports.specs.Exported.{clientIn, Exported, Opened, zeros-say}
+use Rattle.exports.specs.Exported.{lookedAt, clientIn, Exported, Opened, zeros-say}
 use Rattle.claims.specs.Claim.{Made, Contract, Handed, callMade, handsOut, outcomeOf}
 use Rattle.claims.specs.Memory.{state-lent}
 use Rattle.claims.specs.Buffers.{hands-out}
@@ -69,7 +69,7 @@ meets-outcome c s a m tape b r m′ b′ w k = λ i. record { number = k .number
 
 module _ (a : Ask) (four : opens a ≡ false) (st m tape b : List ℕ) (u : ℕ) (st′ m′ b′ rest : List ℕ) (l : length st ≡ stateLength) (same : length m′ ≡ length m) (k : Exported a st m tape b u st′ m′ b′) where
   abbrev asked : Call
-  asked = callOf a m tape b
+  asked = callOf a m (lookedAt tape) b
 
   -- the state that the bytes lent stand for, and that of the whole memory
   abbrev lent : State
@@ -82,7 +82,7 @@ module _ (a : Ask) (four : opens a ≡ false) (st m tape b : List ℕ) (u : ℕ)
   answers = k .meets l .number ∙ step-number lent asked
 
   lent-outcome : readOff a (answerOf u (clientIn st′)) b′ ≡ step lent asked .1
-  lent-outcome = meets-outcome (clientIn st) lent a m tape b (answerOf u (clientIn st′)) m′ b′ full (k .meets l)
+  lent-outcome = meets-outcome (clientIn st) lent a m (lookedAt tape) b (answerOf u (clientIn st′)) m′ b′ full (k .meets l)
     where
       full : number lent asked ≡ 0 → Whole lent
       full z = state-whole (clientIn st) m (ready-long lent (length m) (ready-of lent a (length m) _ (length b) four (accepted-passed lent asked z)))
@@ -148,14 +148,14 @@ open-alone s h m tape b = refl
 
 module _ (h : Shape) (st m tape : List ℕ) (u : ℕ) (st′ m′ rest : List ℕ) (l : length st ≡ stateLength) (same : length m′ ≡ length m) (k : Opened h st m tape u st′ m′) where
   abbrev opened : Call
-  opened = callOf (opening h) m tape []
+  opened = callOf (opening h) m (lookedAt tape) []
 
   says : u % 32 ≡ number closed opened
   says = k .meets l .number ∙ step-number closed opened
 
   open-outcome : (b′ : List ℕ) → readOff (opening h) (answerOf u (clientIn st′)) b′ ≡ step closed opened .1
   unfolding handsOut
-  open-outcome b′ = meets-outcome clearedClient closed (opening h) m tape [] (answerOf u (clientIn st′)) m′ [] (λ z b. unfold closed in refl) (k .meets l)
+  open-outcome b′ = meets-outcome clearedClient closed (opening h) m (lookedAt tape) [] (answerOf u (clientIn st′)) m′ [] (λ z b. unfold closed in refl) (k .meets l)
 
   open-long : u % 32 ≡ 0 → needed h ≤ length m
   unfolding questions
@@ -175,8 +175,8 @@ module _ (h : Shape) (st m tape : List ℕ) (u : ℕ) (st′ m′ rest : List �
 
 -- from the state s to what the bytes after the call stand for
 abbrev Steps : State → List ℕ → Ask → Made → Type 0
-Steps s rest a x = (readOff a (answerOf (x .answer) (clientIn (x .state′))) (x .buffer′) ≡ step s (callOf a (x .memory) (x .tape) (x .buffer)) .1)
-    × (stateOf (clientIn (x .state′)) (x .memory′ ++ rest) ≡ step s (callOf a (x .memory) (x .tape) (x .buffer)) .0)
+Steps s rest a x = (readOff a (answerOf (x .answer) (clientIn (x .state′))) (x .buffer′) ≡ step s (callOf a (x .memory) (lookedAt (x .tape)) (x .buffer)) .1)
+    × (stateOf (clientIn (x .state′)) (x .memory′ ++ rest) ≡ step s (callOf a (x .memory) (lookedAt (x .tape)) (x .buffer)) .0)
 
 module _ (x : Made) (rest : List ℕ) (l : length (x .state) ≡ stateLength) (same : length (x .memory′) ≡ length (x .memory)) where
   abbrev before : State
@@ -184,7 +184,7 @@ module _ (x : Made) (rest : List ℕ) (l : length (x .state) ≡ stateLength) (s
 
   open-steps : (h : Shape) → Opened h (x .state) (x .memory) (x .tape) (x .answer) (x .state′) (x .memory′) → Steps before rest (opening h) x
   open-steps h c =
-      let e = open-alone before h (x .memory) (x .tape) (x .buffer) in (
+      let e = open-alone before h (x .memory) (lookedAt (x .tape)) (x .buffer) in (
         open-outcome h (x .state) (x .memory) (x .tape) (x .answer) (x .state′) (x .memory′) rest l same c (x .buffer′) ∙ sym (ap (λ (y : State × Outcome). y .1) e),
         open-state h (x .state) (x .memory) (x .tape) (x .answer) (x .state′) (x .memory′) rest l same c (ℕ-discrete (x .answer % 32) 0) ∙ sym (ap (λ (y : State × Outcome). y .0) e),
       )

@@ -2,27 +2,29 @@
 use mathlib.Core.Path.{_≡_, refl, ap, sym, subst, _∙_}
 use mathlib.Core.List.{List, [], _∷_, _++_, map}
 use Prim.Native.Nat.{ℕ}
-use lib.ListN.{length}
+use lib.ListN.{length, length-map}
+use Rattle.lists.specs.All.{nil, cons}
 use Rattle.rules.specs.Before.{untold}
-use Rattle.rules.specs.Laws.Answers.{step-number}
 use Rattle.rules.specs.Questions.{request, number}
 use Rattle.rules.specs.Run.{Outcome, run}
+use Rattle.rules.specs.Shape.{Shape}
 use Rattle.rules.specs.State.{State, closed}
+use Rattle.tape.specs.Tape.{words-short}
 use Rattle.client.specs.View.{stateOf, view}
 use Rattle.contract.specs.Meets.{callOf}
 use Rattle.codec.specs.Codec.{stateLength}
-use Rattle.exports.specs.Exported.{clientIn}
-use Rattle.reachable.specs.Reached.{open-first}
+use Rattle.exports.specs.Exported.{clientIn, lookedAt}
+use Rattle.rules.specs.Laws.Answers.{open-first, step-number}
 use Rattle.reachable.specs.Theorems.{as-before}
 use Rattle.array.specs.Claim.{Honest, Plain}
 use Rattle.array.specs.Hosts.{at-once}
 use Rattle.array.specs.Served.{served, served-at-once}
 use Rattle.array.specs.Theorem.{plain-array}
-use Rattle.hiding.specs.Claim.{told}
-use Rattle.hiding.specs.Chosen.{chosen-hidden}
+use Rattle.hiding.specs.Claim.{Lent, first, Lends, Short, tapeOf, Gives, told}
+use Rattle.hiding.specs.Chosen.{Choice, opened, Chosen, Plays, chosen-hidden}
 use Rattle.hiding.specs.Names.{only-eight}
 use Rattle.hiding.specs.Theorem.{hidden}
-use Rattle.claims.specs.Claim.{Made, Contract, Called, Runs, Opens, callMade, outcomeOf, RulesClaim, BeforeClaim, ArrayClaim, ServedClaim, HidingClaim, HonestClaim, ChosenExported, CacheClaim, CacheBytesClaim, NamesClaim}
+use Rattle.claims.specs.Claim.{Made, Contract, Called, Runs, Opens, FromOpen, callMade, outcomeOf, usedUp, Chooses, RulesClaim, BeforeClaim, ArrayClaim, ServedClaim, HidingClaim, HonestClaim, ChosenExported, CacheClaim, CacheBytesClaim, NamesClaim}
 use Rattle.claims.specs.Steps.{made-step}
 
 -- from any bytes of state and memory: each call finds the state that the last one left
@@ -55,11 +57,29 @@ exported-array (x ∷ xs) r host m w =
     let e = exported-run (x ∷ xs) r in
     subst (Plain m cs) (sym e) (plain-array closed host m (r .opens .0) (callMade x) (map callMade xs) (r .opens .1) (subst (Honest host cs) e w))
 
--- Demand 3
+-- ---- Demand 3
+
+-- the words of exported calls are of 16 bits
+short-made : (xs : List Made) → Short (map callMade xs)
+short-made [] = nil
+short-made (x ∷ xs) = cons (words-short (lookedAt (x .tape))) (short-made xs)
+
+-- the run of the rules that an exported run is, with what it used up
+pub gives-run : (as′ : List Lent) (xs : List Made) → FromOpen xs → Lends as′ (map callMade xs) → Gives closed as′ (usedUp xs) (map callMade xs)
+gives-run as′ xs r l = record { calls = l; short = short-made xs; tape = ap (tapeOf (map callMade xs)) (sym (exported-run xs r)) }
+
 pub exported-hiding : HidingClaim
 exported-hiding h e m w n as′ bs′ k =
-    let y = hidden .lists h e m w n as′ bs′ k closed closed in
-    (y .0, (λ t a xs ys q r u v. ap (map told) (exported-run xs q) ∙ y .1 t a (map callMade xs) (map callMade ys) u v ∙ sym (ap (map told) (exported-run ys r))))
+    let y = hidden .lists h e m w n as′ bs′ k closed closed in (
+      y .0,
+      (λ t a.
+          let b = y .0 .f-ok t a in
+          sym (hidden .tapes .long h m w n as′ bs′ k closed closed t (y .0 .f t) (a .0) (b .0) (a .1) (b .1) (y .1 t (a .0) (b .0) (a .1) (b .1)))),
+      (λ xs ys q r u v p.
+          ap (map told) (exported-run xs q)
+          ∙ y .1 (usedUp xs) (map callMade xs) (map callMade ys) (gives-run _ xs q u) (rw p (gives-run _ ys r v))
+          ∙ sym (ap (map told) (exported-run ys r))),
+    )
 
 -- Served by an honest host
 pub exported-served : ServedClaim
@@ -72,17 +92,26 @@ pub exported-honest : HonestClaim
 exported-honest h e m w n as′ bs′ k =
     let y = exported-hiding h e m w n as′ bs′ k in (
       y .0,
-      (λ t a xs ys q r u v host host′ c d x x′. (y .1 t a xs ys q r u v, exported-array xs q host x c, exported-array ys r host′ x′ d)),
+      (λ xs ys q r u v p host host′ c d x x′. (y .2 xs ys q r u v p, exported-array xs q host x c, exported-array ys r host′ x′ d)),
     )
+
+-- Calls that are chosen by what was told
+pub plays-run : (h : Shape) (m w n : ℕ) (σ : Choice) (k : ℕ) (xs : List Made) → FromOpen xs → Chooses h m w n σ k xs → Plays h m w n σ k closed (map callMade xs)
+plays-run h m w n σ k xs r c = record {
+  calls = length-map xs callMade ∙ c .0;
+  short = short-made xs;
+  chosen = subst (Chosen (opened (first h m w n) σ) [] (map callMade xs)) (exported-run xs r) (c .1);
+}
 
 pub exported-chosen : ChosenExported
 exported-chosen h e m w n σ τ alike k =
     let y = chosen-hidden h e m w n σ τ alike k closed closed in (
       y .0,
-      (λ xs ys q r a b u. (
-        ap (map told) (exported-run xs q) ∙ y .1 (map callMade xs) (map callMade ys) a b u ∙ sym (ap (map told) (exported-run ys r)),
-        (λ host host′ c d x x′. (exported-array xs q host x c, exported-array ys r host′ x′ d)),
-      )),
+      (λ xs ys q r a b u.
+          let p = ap (λ os. y .0 .f (tapeOf (map callMade xs) os)) (sym (exported-run xs q)) ∙ u ∙ ap (tapeOf (map callMade ys)) (exported-run ys r) in (
+            ap (map told) (exported-run xs q) ∙ y .1 (map callMade xs) (map callMade ys) (plays-run h m w n σ k xs q a) (plays-run h m w n τ k ys r b) p ∙ sym (ap (map told) (exported-run ys r)),
+            (λ host host′ c d x x′. (exported-array xs q host x c, exported-array ys r host′ x′ d)),
+          )),
     )
 
 -- The smaller cache
@@ -96,16 +125,16 @@ exported-cache-bytes h e lo hi m n ws cs k xs ys q r u v =
 
 -- Requests and names
 asked-number : (x : Made) (k b : ℕ) (bs : List ℕ) → x .ask ≡ request k b bs → Called x → length (x .state) ≡ stateLength
-    → outcomeOf x .number ≡ number (stateOf (clientIn (x .state)) (x .memory)) (callOf (request k b bs) (x .memory) (x .tape) (x .buffer))
+    → outcomeOf x .number ≡ number (stateOf (clientIn (x .state)) (x .memory)) (callOf (request k b bs) (x .memory) (lookedAt (x .tape)) (x .buffer))
 asked-number x k b bs e c l =
     let y : Contract (request k b bs) x = subst (λ a. Contract a x) e (c .0) in
-    y .meets l .number ∙ step-number (stateOf (clientIn (x .state)) (x .memory)) (callOf (request k b bs) (x .memory) (x .tape) (x .buffer))
+    y .meets l .number ∙ step-number (stateOf (clientIn (x .state)) (x .memory)) (callOf (request k b bs) (x .memory) (lookedAt (x .tape)) (x .buffer))
 
 pub exported-names : NamesClaim
 unfolding stateOf view
 exported-names x y k b k′ b′ bs bs′ e e′ c c′ l s m w f f′ =
-    let d = callOf (request k b bs) (x .memory) (x .tape) (x .buffer) in
-    let d′ = callOf (request k′ b′ bs′) (y .memory) (y .tape) (y .buffer) in
+    let d = callOf (request k b bs) (x .memory) (lookedAt (x .tape)) (x .buffer) in
+    let d′ = callOf (request k′ b′ bs′) (y .memory) (lookedAt (y .tape)) (y .buffer) in
     let z : number (stateOf (clientIn (y .state)) (y .memory)) d′ ≡ number (stateOf (clientIn (x .state)) (x .memory)) d′ = λ i. number (stateOf (clientIn (sym s i)) (sym m i)) d′ in
     rw (asked-number x k b bs e c l, asked-number y k′ b′ bs′ e′ c′ (ap length (sym s) ∙ l) ∙ z)
-    (only-eight (stateOf (clientIn (x .state)) (x .memory)) d d′ k b k′ b′ bs bs′ refl refl f f′ (ap length m) w)
+    (only-eight (stateOf (clientIn (x .state)) (x .memory)) d d′ k b k′ b′ bs bs′ refl refl f f′ (ap length m) w (words-short (lookedAt (x .tape))) (words-short (lookedAt (y .tape))))

@@ -1,13 +1,14 @@
 -- Any words of 16 bits can be lent as bytes.
-use mathlib.Core.Path.{_≡_, refl, _∙_}
+use mathlib.Core.Path.{_≡_, refl, ap, _∙_}
 use mathlib.Core.List.{List, [], _∷_}
 use Prim.Native.Nat.{ℕ, zero, suc, _+_, _*_, _/_, _%_, _<_}
 use native.Mathlib.Omega.{arith}
 use lib.ListN.{length, getD}
-use lib.Seq.{ext-getD}
+use lib.Seq.{ext-getD, take-all}
 use Rattle.lists.specs.All.{All, nil, cons}
 use Rattle.memory.specs.Words.{wordAt}
 use Rattle.tape.specs.Tape.{wordsOf, length-words, word-is}
+use Rattle.exports.specs.Exported.{mostWords, lookedAt}
 use Rattle.claims.specs.Claim.{WordsClaim}
 
 -- two bytes each, low byte first
@@ -46,7 +47,10 @@ word-bytes (w ∷ ws) zero (cons h t) l = word-first (w % 256) (w / 256) (bytesF
 word-bytes (w ∷ ws) (suc i) (cons h t) l = word-later (w % 256) (w / 256) (bytesFor ws) i ∙ word-bytes ws i t (omega arith)
 
 pub any-words : WordsClaim
-any-words ws h = (bytesFor ws, (are-bytes ws h, ext-getD 0 (wordsOf (bytesFor ws)) ws same (λ i l. word-is (bytesFor ws) i (omega (arith, length-words (bytesFor ws))) ∙ word-bytes ws i h (omega (arith, same)))))
+any-words ws h l = (bytesFor ws, (are-bytes ws h, ap wordsOf whole ∙ ext-getD 0 (wordsOf (bytesFor ws)) ws same (λ i k. word-is (bytesFor ws) i (omega (arith, length-words (bytesFor ws))) ∙ word-bytes ws i h (omega (arith, same)))))
   where
     same : length (wordsOf (bytesFor ws)) ≡ length ws
     same = omega (arith, length-words (bytesFor ws), length-bytes ws)
+
+    whole : lookedAt (bytesFor ws) ≡ bytesFor ws
+    whole = take-all (mostWords * 2) (bytesFor ws) (omega (arith, length-bytes ws))

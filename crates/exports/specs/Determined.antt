@@ -22,7 +22,7 @@ use Rattle.contract.specs.Answers.{clearedClient}
 use Rattle.contract.specs.Meets.{Meets, commandOf}
 use Rattle.report.specs.Page.{page}
 use Rattle.codec.specs.Codec.{stateLength, Between, answerOf}
-use Rattle.exports.specs.Exported.{clientIn, Exported, Opened}
+use Rattle.exports.specs.Exported.{lookedAt, clientIn, Exported, Opened}
 use Rattle.exports.specs.Idle.{Idle, none-kind}
 use Rattle.exports.specs.Paged.{Paged, told}
 
@@ -122,8 +122,8 @@ pub determined : (a : Ask) (st m tape b : List ℕ) (u v : ℕ) (st′ st″ m�
 determined a st m tape b u v st′ st″ m′ m″ b′ b″ l x y =
     let c = clientIn st in
     let s = stateOf c m in (
-      same-answer c s a m tape b u v (clientIn st′) (clientIn st″) m′ m″ b′ b″ (x .meets l) (y .meets l),
-      (same-left c s a m tape b u v (clientIn st′) (clientIn st″) m′ m″ b′ b″ (x .meets l) (y .meets l), (λ k. y .between k ∙ sym (x .between k))),
+      same-answer c s a m (lookedAt tape) b u v (clientIn st′) (clientIn st″) m′ m″ b′ b″ (x .meets l) (y .meets l),
+      (same-left c s a m (lookedAt tape) b u v (clientIn st′) (clientIn st″) m′ m″ b′ b″ (x .meets l) (y .meets l), (λ k. y .between k ∙ sym (x .between k))),
     )
 
 -- An open
@@ -132,11 +132,11 @@ pub determined-open : (h : Shape) (st m tape : List ℕ) (u v : ℕ) (st′ st�
 determined-open h st m tape u v st′ st″ m′ m″ l x y = (answer, go (ℕ-discrete (u % 32) 0))
   where
     answer : u ≡ v
-    answer = same-answer clearedClient closed (opening h) m tape [] u v (clientIn st′) (clientIn st″) m′ m″ [] [] (x .meets l) (y .meets l)
+    answer = same-answer clearedClient closed (opening h) m (lookedAt tape) [] u v (clientIn st′) (clientIn st″) m′ m″ [] [] (x .meets l) (y .meets l)
 
     go : Dec (u % 32 ≡ 0) → SameState st′ st″
     go (yes z) = (
-      same-left clearedClient closed (opening h) m tape [] u v (clientIn st′) (clientIn st″) m′ m″ [] [] (x .meets l) (y .meets l),
+      same-left clearedClient closed (opening h) m (lookedAt tape) [] u v (clientIn st′) (clientIn st″) m′ m″ [] [] (x .meets l) (y .meets l),
       (λ k. y .between (rw answer at z) k ∙ sym (x .between z k)),
     )
     go (no n) = let e = x .refused n ∙ sym (y .refused (λ z. n (rw answer z))) in (ap clientIn e, (λ k. ap (λ s. wordAt s (k * 2 + 1)) (sym e)))

@@ -2,10 +2,11 @@
 use mathlib.Core.Path.{_≡_, refl, ap, sym, _∙_, subst}
 use mathlib.Core.Bool.{Bool, true, false}
 use mathlib.Core.List.{List, []}
-use Prim.Native.Nat.{ℕ, _%_}
+use Prim.Native.Nat.{ℕ, _*_, _%_, _≤_}
 use native.Mathlib.Omega.{arith}
 use native.Mathlib.Decide.{ℕ-discrete}
-use lib.ListN.{length, replicate}
+use lib.ListN.{length, take, replicate, length-take}
+use lib.Seq.{take-length, take-all}
 use Rattle.lists.specs.Tests.{if_then_else_}
 use Rattle.rules.specs.Shape.{Shape, within}
 use Rattle.rules.specs.State.{State, Command, foundNumber, closed}
@@ -13,7 +14,8 @@ use Rattle.rules.specs.Draws.{draws}
 use Rattle.rules.specs.Questions.{Ask, opening, Call, bounds, number}
 use Rattle.rules.specs.Run.{Outcome, act, accepted, refused, sentCommand, handedFound, takenOf, numbersOf}
 use Rattle.rules.specs.Laws.Shapes.{act-shape}
-use Rattle.rules.specs.Laws.Answers.{opens, number-le, step-number, step-accepted, refused-outcome, accepted-passed, accepted-taken}
+use Rattle.rules.specs.Laws.Answers.{opens, number-le, step-number, step-accepted, refused-outcome, accepted-passed}
+use Rattle.rules.specs.Laws.Drawn.{taken-lent}
 use Rattle.rules.specs.Laws.Range.{InRange}
 use Rattle.rules.specs.Laws.Kept.{accepted-in}
 use Rattle.memory.specs.Words.{wordAt}
@@ -21,7 +23,7 @@ use Rattle.memory.specs.Fits.{shapeOf}
 use Rattle.memory.specs.declared.Shape as M
 use Rattle.client.specs.declared.Client.{Client}
 use Rattle.client.specs.View.{stateOf, view}
-use Rattle.tape.specs.Tape.{wordsOf}
+use Rattle.tape.specs.Tape.{wordsOf, length-words}
 use Rattle.contract.specs.declared.Answer.{Answer}
 use Rattle.contract.specs.Answers.{clearedClient}
 use Rattle.contract.specs.Meets.{Meets, callOf, commandOf}
@@ -33,9 +35,16 @@ use Rattle.exports.specs.Small.{SmallCommand, accepted-small, accepted-f
 abbrev pub clientIn : List ℕ → Client
 clientIn st = clientOf (wordAt st)
 
+-- An exported call looks at no more than the first 2^32 − 1 words lent, of two bytes each: its answer could not count more (docs/DECISIONS.md)
+abbrev pub mostWords : ℕ
+mostWords = 4294967295
+
+abbrev pub lookedAt : List ℕ → List ℕ
+lookedAt tape = take (mostWords * 2) tape
+
 -- A request, turn, completion or collect: st is the state handed in, st′ the state handed back
 pub record Exported (a : Ask) (st m tape b : List ℕ) (u : ℕ) (st′ m′ b′ : List ℕ) : Type 0 where
-  pub meets : length st ≡ stateLength → Meets (clientIn st) (stateOf (clientIn st) m) a m tape b (answerOf u (clientIn st′)) m′ b′
+  pub meets : length st ≡ stateLength → Meets (clientIn st) (stateOf (clientIn st) m) a m (lookedAt tape) b (answerOf u (clientIn st′)) m′ b′
   pub refused : (u % 32 ≡ 0 → ⊥) → st′ ≡ st
   -- the bytes between the numbers of the state stay
   pub between : Between (wordAt st) (wordAt st′)
@@ -44,7 +53,7 @@ pub record Exported (a : Ask) (st m tape b : List ℕ) (u : ℕ) (st′ m′ b�
 
 -- An open
 pub record Opened (h : Shape) (st m tape : List ℕ) (u : ℕ) (st′ m′ : List ℕ) : Type 0 where
-  pub meets : length st ≡ stateLength → Meets clearedClient closed (opening h) m tape [] (answerOf u (clientIn st′)) m′ []
+  pub meets : length st ≡ stateLength → Meets clearedClient closed (opening h) m (lookedAt tape) [] (answerOf u (clientIn st′)) m′ []
   -- a refused one hands back a closed state: zeros in all that was lent for it
   pub refused : (u % 32 ≡ 0 → ⊥) → st′ ≡ replicate (length st) 0
   -- an accepted one leaves the bytes between the numbers
@@ -52,24 +61,29 @@ pub record Opened (h : Shape) (st m tape : List ℕ) (u : ℕ) (st′ m′ : Lis
   -- a state of another length is no memory for a client: shape within bounds? 1. Long enough? 2
   pub other : (length st ≡ stateLength → ⊥) → (u ≡ (if within h then 2 else 1)) × (m′ ≡ m)
 
+-- a tape that is not longer is looked at whole
+pub looked-whole : (tape : List ℕ) → length tape ≤ mostWords * 2 → take (length tape) tape ≡ lookedAt tape
+looked-whole tape l = take-length tape ∙ sym (take-all (mostWords * 2) tape l)
+
+looked-short : (tape : List ℕ) → length (wordsOf (lookedAt tape)) ≤ mostWords
+looked-short tape = omega (arith, length-words (lookedAt tape), length-take (mostWords * 2) tape)
+
 -- ---- An accepted call's answer is small
 
 module _ (s : State) (a : Ask) (m tape b : List ℕ) (r : Answer) where
-  pub small-accepted : number s (callOf a m tape b) ≡ 0 → r .number ≡ 0 → r .taken ≡ takenOf (draws (bounds s a) (wordsOf tape)) → commandOf r ≡ sentCommand s a → r .found ≡ foundNumber (handedFound s a) → Small r
-  unfolding accepted
+  pub small-accepted : number s (callOf a m (lookedAt tape) b) ≡ 0 → r .number ≡ 0 → r .taken ≡ takenOf (draws (bounds s a) (wordsOf (lookedAt tape))) → commandOf r ≡ sentCommand s a → r .found ≡ foundNumber (handedFound s a) → Small r
   small-accepted e z t o y =
-      let p = accepted-passed s (callOf a m tape b) e in
-      let f = accepted-small s a (length m) (wordsOf tape) (length b) p in
-      let w : r .taken ≡ length (bounds s a) = t ∙ sym (ap (λ (x : State × Outcome). x .1 .taken) (step-accepted s (callOf a m tape b) e)) ∙ accepted-taken s (callOf a m tape b) e in
-      let d : SmallCommand (commandOf r) = rw o (f .0) in
-      let g = accepted-found s a (length m) (wordsOf tape) (length b) p in
-      record { number = omega arith; taken = omega (arith, f .1); kind = d .kind; partition = d .partition; level = d .level; slot = d .slot; found = omega arith }
+      let ws = wordsOf (lookedAt tape) in
+      let p = accepted-passed s (callOf a m (lookedAt tape) b) e in
+      let d : SmallCommand (commandOf r) = rw o (accepted-small s a (length m) ws (length b) p) in
+      let g = accepted-found s a (length m) ws (length b) p in
+      record { number = omega arith; taken = omega (arith, taken-lent (bounds s a) ws, looked-short tape); kind = d .kind; partition = d .partition; level = d .level; slot = d .slot; found = omega arith }
 
 -- ---- From a call's contract to the exported one's
 
-module _ (c : Client) (s : State) (a : Ask) (m tape b : List ℕ) (r : Answer) (m′ b′ : List ℕ) (k : Meets c s a m tape b r m′ b′) where
+module _ (c : Client) (s : State) (a : Ask) (m tape b : List ℕ) (r : Answer) (m′ b′ : List ℕ) (k : Meets c s a m (lookedAt tape) b r m′ b′) where
   abbrev made : Call
-  made = callOf a m tape b
+  made = callOf a m (lookedAt tape) b
 
   is-number : r .number ≡ number s made
   is-number = k .number ∙ step-number s made
@@ -101,12 +115,12 @@ module _ (c : Client) (s : State) (a : Ask) (m tape b : List ℕ) (r : Answer) (
   unfolding accepted
   left-in z =
       let e : number s made ≡ 0 = sym is-number ∙ z in
-      let w : stateOf (r .client) m′ ≡ act s a (numbersOf (draws (bounds s a) (wordsOf tape))) = k .state ∙ ap (λ (x : State × Outcome). x .0) (step-accepted s made e) in
-      rw w (accepted-in s a (length m) (wordsOf tape) (length b) (accepted-passed s made e))
+      let w : stateOf (r .client) m′ ≡ act s a (numbersOf (draws (bounds s a) (wordsOf (lookedAt tape)))) = k .state ∙ ap (λ (x : State × Outcome). x .0) (step-accepted s made e) in
+      rw w (accepted-in s a (length m) (wordsOf (lookedAt tape)) (length b) (accepted-passed s made e))
 
   -- the same answer with another client that stands for the same state
   repacked : (x : Client) → stateOf x m′ ≡ stateOf (r .client) m′ → (r .number ≡ 0 → Idle a (c .request) x) → ((r .number ≡ 0 → ⊥) → x ≡ c)
-      → Meets c s a m tape b (answerOf (packed r) x) m′ b′
+      → Meets c s a m (lookedAt tape) b (answerOf (packed r) x) m′ b′
   repacked x e i n = rw (unpacked r meets-small x) (record {
     number = k .number;
     taken = k .taken;
@@ -119,10 +133,10 @@ module _ (c : Client) (s : State) (a : Ask) (m tape b : List ℕ) (r : Answer) (
     tail = rw e (k .tail);
   })
 
-  pub meets-refused : (r .number ≡ 0 → ⊥) → Meets c s a m tape b (answerOf (packed r) c) m′ b′
+  pub meets-refused : (r .number ≡ 0 → ⊥) → Meets c s a m (lookedAt tape) b (answerOf (packed r) c) m′ b′
   meets-refused n = repacked c (ap (λ x. stateOf x m′) (sym (k .refused n .1))) (λ z. absurd (n z)) (λ z. refl)
 
-  pub meets-accepted : r .number ≡ 0 → (x : Client) → stateOf x m′ ≡ stateOf (r .client) m′ → Idle a (c .request) x → Meets c s a m tape b (answerOf (packed r) x) m′ b′
+  pub meets-accepted : r .number ≡ 0 → (x : Client) → stateOf x m′ ≡ stateOf (r .client) m′ → Idle a (c .request) x → Meets c s a m (lookedAt tape) b (answerOf (packed r) x) m′ b′
   meets-accepted z x e i = repacked x e (λ _. i) (λ n. absurd (n z))
 
   -- numbers modulo 2^16 stand for the same state
@@ -134,7 +148,7 @@ module _ (c : Client) (s : State) (a : Ask) (m tape b : List ℕ) (r : Answer) (
   unfolding accepted stateOf view
   shape-kept z four =
       let e : number s made ≡ 0 = sym is-number ∙ z in
-      ap (λ (x : State). x .shape) (k .state ∙ ap (λ (x : State × Outcome). x .0) (step-accepted s made e)) ∙ act-shape s a (numbersOf (draws (bounds s a) (wordsOf tape))) four
+      ap (λ (x : State). x .shape) (k .state ∙ ap (λ (x : State × Outcome). x .0) (step-accepted s made e)) ∙ act-shape s a (numbersOf (draws (bounds s a) (wordsOf (lookedAt tape)))) four
 
   pub left-within : r .number ≡ 0 → within (shapeOf (r .client .shape)) ≡ true
   left-within z = unfold stateOf view in left-in z .shape
@@ -162,7 +176,7 @@ pub shape-same : (g h : M.Shape) → shapeOf g ≡ shapeOf h → g ≡ h
 shape-same g h e = λ k. record { n = e k .N; p = e k .P; l = e k .L; b = e k .B; e = e k .E; w = e k .W }
 
 -- a call that meets the rules, handed back
-module _ (a : Ask) (four : opens a ≡ false) (st m tape b : List ℕ) (r : Answer) (u : ℕ) (st′ m′ b′ : List ℕ) (l : length st ≡ stateLength) (k : Meets (clientIn st) (stateOf (clientIn st) m) a m tape b r m′ b′) where
+module _ (a : Ask) (four : opens a ≡ false) (st m tape b : List ℕ) (r : Answer) (u : ℕ) (st′ m′ b′ : List ℕ) (l : length st ≡ stateLength) (k : Meets (clientIn st) (stateOf (clientIn st) m) a m (lookedAt tape) b r m′ b′) where
   abbrev s : State
   s = stateOf (clientIn st) m
 
@@ -179,7 +193,7 @@ module _ (a : Ask) (four : opens a ≡ false) (st m tape b : List ℕ) (r : Answ
       kept (yes z) = rw (h .accepted z) between
       kept (no n) = rw (h .refused n) (λ k. refl)
 
-      go : Dec (r .number ≡ 0) → Meets (clientIn st) s a m tape b (answerOf (packed r) (clientIn st′)) m′ b′
+      go : Dec (r .number ≡ 0) → Meets (clientIn st) s a m (lookedAt tape) b (answerOf (packed r) (clientIn st′)) m′ b′
       go (yes z) = meets-accepted (clientIn st) s a m tape b r m′ b′ k z (clientIn st′) (ap (λ x. stateOf (clientOf x) m′) (h .accepted z) ∙ same z) (subst (λ x. Idle a (clientIn st .request) (clientOf x)) (sym (h .accepted z)) (idle z))
       go (no n) = rw (h .refused n) (meets-refused (clientIn st) s a m tape b r m′ b′ k n)
 
@@ -210,7 +224,7 @@ zeros-say = refl
 
 -- an open
 pub exported-open : (h : Shape) (st m tape : List ℕ) (r : Answer) (u : ℕ) (st′ m′ : List ℕ) → length st ≡ stateLength
-    → Meets clearedClient closed (opening h) m tape [] r m′ [] → HandedBackOpened r u st st′ → Opened h st m tape u st′ m′
+    → Meets clearedClient closed (opening h) m (lookedAt tape) [] r m′ [] → HandedBackOpened r u st st′ → Opened h st m tape u st′ m′
 exported-open h st m tape r u st′ m′ l k b = record {
   meets = λ _. rw (b .answer) (go (ℕ-discrete (r .number) 0));
   refused = λ n. b .refused (λ z. n (rw (b .answer) (number-packed clearedClient closed (opening h) m tape [] r m′ [] k ∙ z)));
@@ -218,7 +232,7 @@ exported-open h st m tape r u st′ m′ l k b = record {
   other = λ n. absurd (n l);
 }
   where
-    go : Dec (r .number ≡ 0) → Meets clearedClient closed (opening h) m tape [] (answerOf (packed r) (clientIn st′)) m′ []
+    go : Dec (r .number ≡ 0) → Meets clearedClient closed (opening h) m (lookedAt tape) [] (answerOf (packed r) (clientIn st′)) m′ []
     go (yes z) = meets-accepted clearedClient closed (opening h) m tape [] r m′ [] k z (clientIn st′) (ap (λ x. stateOf x m′) (ap clientOf (b .accepted z) ∙ stored-is (r .client) (wordAt st)) ∙ left-low clearedClient closed (opening h) m tape [] r m′ [] k z)
         (subst (Idle (opening h) (clearedClient .request)) (sym (ap clientOf (b .accepted z) ∙ stored-is (r .client) (wordAt st))) (rest-idle st (opening h) (r .client) m′ (left-low clearedClient closed (opening h) m tape [] r m′ [] k z) (k .idle z)))
     go (no n) = rw (b .refused n, l, zeros-say) (meets-refused clearedClient closed (opening h) m tape [] r m′ [] k n)

@@ -6,7 +6,7 @@ use mathlib.Core.Option.{Option, none, some, Option·getD}
 use Prim.Native.Nat.{ℕ, _+_, _-_, _%_, _^_, _≤_, _<_}
 use native.Mathlib.Nat.{mod-eq-of-lt}
 use native.Mathlib.Omega.{arith}
-use lib.ListN.{length, length-replicate}
+use lib.ListN.{length}
 use lib.Dec.{eqb, leb}
 use lib.Pow.{pow-mono, pow-pos}
 use borrow.Author.Tests.{eqb-true, leb-true, eq-eqb}
@@ -17,7 +17,7 @@ use Rattle.rules.specs.Collect.{carried}
 use Rattle.rules.specs.State.{State, Command, cmd, Found, foundNowhere, foundCache, foundLevel, foundNumber}
 use Rattle.rules.specs.State as R
 use Rattle.rules.specs.Ranges.{isKind}
-use Rattle.rules.specs.Turn.{Step, idle, noDummy, readForRequest, readForJob, rebuild, writeNext, decide, command, stepBounds}
+use Rattle.rules.specs.Turn.{Step, idle, noDummy, readForRequest, readForJob, rebuild, writeNext, decide, command}
 use Rattle.rules.specs.Questions.{Ask, opening, request, turn, completion, collect, questions, bounds}
 use Rattle.rules.specs.Run.{sentCommand, handedFound}
 use Rattle.rules.specs.Laws.Answers.{Passed}
@@ -26,7 +26,6 @@ use Rattle.rules.specs.Laws.Waiting.{waits-le}
 use Rattle.rules.specs.Setters.{setRequest}
 use Rattle.rules.specs.Laws.Decided.{StepIn, decide-in}
 use Rattle.rules.specs.Laws.Kept.{given-in}
-use Rattle.rules.specs.Laws.Orders.{length-bounds}
 use Rattle.memory.specs.Fits.{shapeOf, parts-le, fit}
 use Rattle.memory.specs.Tables.{tablesOf}
 use Rattle.client.specs.declared.Client.{Client}
@@ -37,7 +36,7 @@ use Rattle.client.specs.Rows.{length-rows}
 use Rattle.memory.specs.declared.Shape as M
 use Rattle.codec.specs.Codec.{lowShape, lowRequest, lowClient}
 
--- ---- Counts of words and commands
+-- ---- Commands
 
 levels-le : (h : Shape) → within h ≡ true → h .L ≤ 8
 unfolding within between
@@ -67,23 +66,26 @@ cell-small s f k q ℓ i l h =
     let p = partitions-le (s .shape) (f .shape) in
     record { kind = l; partition = omega arith; level = omega arith; slot = omega arith }
 
-step-small : (s : State) → InRange s → (x : Step) → StepIn (s .shape) x → SmallCommand (command x) × (length (stepBounds x) < 65536)
-unfolding command stepBounds
-step-small s f idle h = (record { kind = omega arith; partition = omega arith; level = omega arith; slot = omega arith }, omega arith)
-step-small s f noDummy h = (record { kind = omega arith; partition = omega arith; level = omega arith; slot = omega arith }, omega arith)
-step-small s f (readForRequest q ℓ i) h = (cell-small s f 1 q ℓ i (omega arith) h, omega arith)
-step-small s f (readForJob q ℓ i) h = (cell-small s f 1 q ℓ i (omega arith) h, omega arith)
-step-small s f (rebuild q t) h = (cell-small s f 2 q t 0 (omega arith) (h .0, h .1, pow-pos (t + 1)), omega (arith, length-bounds (slots t), slots-small (s .shape) t (f .shape) (h .1)))
-step-small s f (writeNext q t i) h = (cell-small s f 2 q t i (omega arith) h, omega arith)
+no-command : SmallCommand (cmd 0 0 0 0)
+no-command = record { kind = omega arith; partition = omega arith; level = omega arith; slot = omega arith }
+
+step-small : (s : State) → InRange s → (x : Step) → StepIn (s .shape) x → SmallCommand (command x)
+unfolding command
+step-small s f idle h = no-command
+step-small s f noDummy h = no-command
+step-small s f (readForRequest q ℓ i) h = cell-small s f 1 q ℓ i (omega arith) h
+step-small s f (readForJob q ℓ i) h = cell-small s f 1 q ℓ i (omega arith) h
+step-small s f (rebuild q t) h = cell-small s f 2 q t 0 (omega arith) (h .0, h .1, pow-pos (t + 1))
+step-small s f (writeNext q t i) h = cell-small s f 2 q t i (omega arith) h
 
 -- of an accepted call
-pub accepted-small : (s : State) (a : Ask) (m : ℕ) (ws : List ℕ) (n : ℕ) → Passed (questions s a m ws n) → SmallCommand (sentCommand s a) × (length (bounds s a) < 65536)
-unfolding questions sentCommand bounds
-accepted-small s (opening h) m ws n p = (record { kind = omega arith; partition = omega arith; level = omega arith; slot = omega arith }, omega (arith, length-replicate {A = ℕ} (h .N) (h .P), blocks-le h (p .0)))
-accepted-small s (request k b bs) m ws n p = (record { kind = omega arith; partition = omega arith; level = omega arith; slot = omega arith }, omega arith)
+pub accepted-small : (s : State) (a : Ask) (m : ℕ) (ws : List ℕ) (n : ℕ) → Passed (questions s a m ws n) → SmallCommand (sentCommand s a)
+unfolding questions sentCommand
+accepted-small s (opening h) m ws n p = no-command
+accepted-small s (request k b bs) m ws n p = no-command
 accepted-small s turn m ws n p = let f = given-in s m (p .0) in step-small s f (decide s) (decide-in s f)
-accepted-small s (completion c bs) m ws n p = (record { kind = omega arith; partition = omega arith; level = omega arith; slot = omega arith }, omega arith)
-accepted-small s collect m ws n p = (record { kind = omega arith; partition = omega arith; level = omega arith; slot = omega arith }, omega arith)
+accepted-small s (completion c bs) m ws n p = no-command
+accepted-small s collect m ws n p = no-command
 
 -- ---- Where a block was found: nowhere, in the cache, or in one of at most eight levels
 

@@ -33,7 +33,7 @@ use Rattle.contract.specs.declared.Answer.{Answer}
 use Rattle.contract.specs.Meets.{unasked}
 use Rattle.ready.specs.Usable.{usable}
 use Rattle.releasing.specs.Performs.{Performed, Performs}
-use Rattle.exports.specs.Exported.{Exported, shape-same}
+use Rattle.exports.specs.Exported.{lookedAt, Exported, shape-same}
 use Rattle.exports.specs.Progress.{same-state}
 use Rattle.exports.specs.Settled.{HandedBackReleased, performs-small, exported-released}
 use Rattle.exports.specs.Small.{low-shape, low-client}
@@ -240,20 +240,20 @@ module _ (st m tape b : List ℕ) (a : Ask) (four : opens a ≡ false) (r : Answ
 
 -- ---- So they are handed back
 
-module _ (st m tape b : List ℕ) (c : Client) (r : Answer) (m′ b′ : List ℕ) (e : c ≡ clientOf (wordAt st)) (k : Performs c (stateOf c m) turn m tape b r m′ b′) where
-  turned : Performs (clientOf (wordAt st)) (stateOf (clientOf (wordAt st)) m) turn m tape b r m′ b′
-  turned = subst (λ x. Performs x (stateOf x m) turn m tape b r m′ b′) e k
+module _ (st m tape b : List ℕ) (c : Client) (r : Answer) (m′ b′ : List ℕ) (e : c ≡ clientOf (wordAt st)) (k : Performs c (stateOf c m) turn m (lookedAt tape) b r m′ b′) where
+  turned : Performs (clientOf (wordAt st)) (stateOf (clientOf (wordAt st)) m) turn m (lookedAt tape) b r m′ b′
+  turned = subst (λ x. Performs x (stateOf x m) turn m (lookedAt tape) b r m′ b′) e k
 
   pub turn-small : Small r
   turn-small = performs-small turn st m tape b r m′ b′ turned
 
   pub turn-ready : r .number ≡ 0 → ready (stateOf (clientOf (withTurn (r .kind) (r .client) (wordAt st))) m′) (length m′) ≡ true
-  turn-ready z = let p = turned .accepted z in ready-left st m tape b turn (unfold opens in refl) r m′ b′ p (turn-asked _) (withTurn (r .kind) (r .client)) (turn-same st m tape b r m′ b′ p)
+  turn-ready z = let p = turned .accepted z in ready-left st m (lookedAt tape) b turn (unfold opens in refl) r m′ b′ p (turn-asked _) (withTurn (r .kind) (r .client)) (turn-same st m (lookedAt tape) b r m′ b′ p)
 
   pub exported-turn : (u : ℕ) (st′ : List ℕ) → length st ≡ stateLength → HandedBackReleased (withTurn (r .kind) (r .client)) r m′ u st st′ → Exported turn st m tape b u st′ m′ b′
   exported-turn u st′ l h = exported-released turn st m tape b r m′ b′ turned (withTurn (r .kind) (r .client))
-      (λ z. let p = turned .accepted z in same-left st m tape b turn (unfold opens in refl) r m′ b′ p (turn-asked _) (withTurn (r .kind) (r .client)) (turn-same st m tape b r m′ b′ p))
-      (λ z. let p = turned .accepted z in idle-left st m tape b turn (unfold opens in refl) r m′ b′ p (turn-asked _) (withTurn (r .kind) (r .client)) (turn-same st m tape b r m′ b′ p) refl)
+      (λ z. let p = turned .accepted z in same-left st m (lookedAt tape) b turn (unfold opens in refl) r m′ b′ p (turn-asked _) (withTurn (r .kind) (r .client)) (turn-same st m (lookedAt tape) b r m′ b′ p))
+      (λ z. let p = turned .accepted z in idle-left st m (lookedAt tape) b turn (unfold opens in refl) r m′ b′ p (turn-asked _) (withTurn (r .kind) (r .client)) (turn-same st m (lookedAt tape) b r m′ b′ p) refl)
       u st′ h l (between-turn (r .kind) (r .client) (wordAt st))
 
 module _ (st m : List ℕ) (x : Command) (bs : List ℕ) (c : Client) (r : Answer) (m′ : List ℕ) (e : c ≡ clientOf (wordAt st)) (k : Performs c (stateOf c m) (completion x bs) m [] [] r m′ []) where

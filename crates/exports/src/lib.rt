@@ -7,8 +7,9 @@ use memory::Shape;
 use report::Shown;
 ghost use mathlib.Core.Bool.{true};
 ghost use mathlib.Core.Path.{_≡_};
-ghost use mathlib.Core.List.{[]};
-ghost use lib.ListN.{length, replicate};
+ghost use mathlib.Core.List.{List, []};
+ghost use Prim.Native.Nat.{ℕ, _≤_};
+ghost use lib.ListN.{length, take, replicate};
 ghost use Rattle.lists.specs.Tests.{if_then_else_};
 ghost use Rattle.rules.specs.Shape.{within};
 ghost use Rattle.rules.specs.State.{cmd};
@@ -18,9 +19,19 @@ ghost use Rattle.memory.specs.Words.{wordAt};
 ghost use Rattle.client.specs.View.{stateOf};
 ghost use Rattle.codec.specs.Codec.{stateLength, withTurn, withCompletion, withRest, clientOf, Small, packed};
 ghost use Rattle.contract.specs.Answers.{refusedWith, acceptedWith};
-ghost use Rattle.exports.specs.Exported.{Opened, Exported, HandedBack, HandedBackOpened, numbers};
+ghost use Rattle.exports.specs.Exported.{lookedAt, Opened, Exported, HandedBack, HandedBackOpened, numbers};
 ghost use Rattle.exports.specs.Paged.{Paged};
 ghost use Rattle.exports.specs.Settled.{ReleasedIn, HandedBackReleased};
+
+// How many bytes of a tape of this length a call looks at: those of the first 2^32 - 1 words, as the answer counts no more.
+fn looked_at(len: usize) -> usize
+    ensures { λ r. ⌜ (r ≤ len) × ((t : List ℕ) → length t ≡ len → take r t ≡ lookedAt t) ⌝ }
+{
+    if len < 8589934590 {
+        return len;
+    }
+    8589934590
+}
 
 // The next state is handed back where the call was accepted. No call but an open changes the shape.
 fn hand_back(state: &mut [u8], r: Answer) -> u64
@@ -111,7 +122,11 @@ pub extern "C" fn rinwolfedd_open(
     if state.len() != STATE {
         return refuse_state(state, Shape { n, p, l, b, e, w });
     }
-    let r = opening::open(Shape { n, p, l, b, e, w }, memory, tape);
+    let r = opening::open(
+        Shape { n, p, l, b, e, w },
+        memory,
+        &tape[..looked_at(tape.len())],
+    );
     hand_back_opened(state, r)
 }
 
@@ -130,7 +145,14 @@ pub extern "C" fn rinwolfedd_request(
         return 2;
     }
     let c = codec::decode(state);
-    let r = requesting::request(c, memory, kind, block, contents, tape);
+    let r = requesting::request(
+        c,
+        memory,
+        kind,
+        block,
+        contents,
+        &tape[..looked_at(tape.len())],
+    );
     hand_back(state, r)
 }
 
@@ -147,7 +169,7 @@ pub extern "C" fn rinwolfedd_turn(
         return 2;
     }
     let c = codec::decode(state);
-    let r = turning::perform(c, memory, tape, buffer);
+    let r = turning::perform(c, memory, &tape[..looked_at(tape.len())], buffer);
     hand_back_turn(state, memory, r)
 }
 

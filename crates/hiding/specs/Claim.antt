@@ -1,4 +1,5 @@
--- Document 01, "Two lists and their tapes": what demand 3 says, over the rules' own run. `hidden : Hiding` (Theorem.antt) is its proof.
+-- Document 01, "Two lists and their tapes", with the tapes of document 02, "Even draws": what demand 3 says, over the rules' own run.
+-- `hidden : Hiding` (Theorem.antt) is its proof.
 --
 -- The section, sentence by sentence:
 --   "A list is an open .. and then requests, turns, completions and collects in any order and number": `first` with a list of `Lent`, each of
@@ -14,27 +15,31 @@
 --     words, with all other lengths equal but that of a request's contents": `Compared`, `Same`, `Alike`. "A completion names the same kind and
 --     slot", "A request that is well-formed in one is so in the other; its block, kind and contents may differ. Any other request has the same
 --     kind, block and length of contents": `completions`, `wellFormed`, `anyOther`.
---   "A list's tape of drawn numbers has one for each draw of its run, in turn, below the m of that draw, and no more": `Tape`, by rules' `Drew`.
---     "A refused call draws nothing": `boundsOf`. `Tapes` says that these are what runs draw: the numbers that any run draws, whatever words
---     are lent and whatever bytes are brought, are a tape (`drawn`), and each tape is drawn, whatever bytes are brought, with some words of 16
---     bits (`given`). So no list is without tapes, no run is left out, and which tapes a list has does not depend on the bytes.
---   "The words lent to a call are any that give its draws' numbers, then any others": `Gives`; that it does not matter which: `tells`, `decides`.
+--   Document 02: "A matching of tapes of words, no longer of drawn numbers .. A tape then has the words taken and all words lent to a turn
+--     answered 3, and no more": `used` says which words of a call are the tape's, by the call and its outcome alone, and `tapeOf` puts them
+--     one behind the other. "The tape is 16-bit words": `Short`. A list's tapes (`Tape`) are those of its runs, whatever words are lent and
+--     whatever bytes are brought; which tapes it has does not depend on the bytes (`given` of `Tapes`).
+--   "For callers who lend no word again that was taken or that was lent to a turn answered 3": the plainest such caller has one flat
+--     tape and lends each call what comes next of it (`serve`); words that were lent and are not the tape's may be lent again. `Tapes` says that
+--     the tapes above are what it uses up: of every flat tape that is long enough exactly the beginning that is a tape of the list is used up
+--     (`served`, `alone`). The matching itself asks nothing of the caller: behind the words of the tape any words may be lent, at each call,
+--     and they do not matter (`tells`, `decides`).
 --   "There is a matching: each tape of either list has exactly one partner among the other's": `Matching`. "With partners, the two runs have at
 --     each place the same number answered, the same count of words taken and, for a turn, the same command": `told`, the last lines of `Claim`.
+--     So partners are of one length (`long`), and with evenly drawn words as likely as each other.
 --   "For the smaller cache ..": `Smaller`. The bytes brought may be any in either run (`tells`); with the same bytes in both, the bytes handed
 --     out are equal too (`whole`).
 use mathlib.Core.Path.{_≡_}
-use mathlib.Core.Bool.{true, false}
+use mathlib.Core.Bool.{Bool, true, false, _&&_}
 use mathlib.Core.List.{List, [], _∷_, _++_, map}
-use Prim.Native.Nat.{ℕ, _^_, _≤_, _<_}
-use lib.ListN.{length, take, drop, replicate}
+use Prim.Native.Nat.{ℕ, _+_, _≤_, _<_}
+use lib.ListN.{length, take, drop}
 use lib.Dec.{eqb}
 use Rattle.lists.specs.All.{All}
 use Rattle.lists.specs.Tests.{if_then_else_}
 use Rattle.rules.specs.Ranges.{isKind, bytesOf}
-use Rattle.rules.specs.Draws.{draws, Drew}
-use Rattle.rules.specs.Questions.{Ask, opening, request, turn, completion, collect, Call, bounds, number}
-use Rattle.rules.specs.Run.{Outcome, act, refuse, numbersOf, step, run}
+use Rattle.rules.specs.Questions.{Ask, opening, request, turn, completion, collect, Call}
+use Rattle.rules.specs.Run.{Outcome, step, run}
 use Rattle.rules.specs.State.{State, Command}
 use Rattle.rules.specs.Laws.Answers.{opens}
 use Rattle.rules.specs.Shape.{Shape}
@@ -53,14 +58,6 @@ outline (request k b bs) = aRequest k b (length bs)
 outline turn = aTurn
 outline (completion c bs) = aCompletion c (length bs)
 outline collect = aCollect
-
--- the one with zeros for bytes
-abbrev pub zeroed : Outline → Ask
-zeroed (anOpen h) = opening h
-zeroed (aRequest k b n) = request k b (replicate n 0)
-zeroed aTurn = turn
-zeroed (aCompletion c n) = completion c (replicate n 0)
-zeroed aCollect = collect
 
 -- A call of a list: what is asked, and the lengths lent. Neither bytes nor words are part of it
 pub record Lent : Type 0 where
@@ -105,29 +102,7 @@ pub data Compared (h : Shape) : List Lent → List Lent → Type 0 where
   none : Compared h [] []
   more : {a b : Lent} {as′ bs′ : List Lent} → Same h a b → Compared h as′ bs′ → Compared h (a ∷ as′) (b ∷ bs′)
 
--- ---- A list's tapes of drawn numbers
-
--- the call's number depends on how many words are lent and how many bytes are brought, not on which: zeros stand for them. (That they may
--- stand for any is `drawn` of `Tapes`)
-unfoldable pub numberOf : State → Lent → ℕ
-numberOf s a = number s (lend a (zeroed (a .ask)) (replicate (a .words) 0))
-
--- the bounds of its draws; a refused call draws nothing
-unfoldable pub boundsOf : State → Lent → List ℕ
-boundsOf s a = if eqb (numberOf s a) 0 then bounds s (zeroed (a .ask)) else []
-
--- the state after it, by the numbers drawn
-unfoldable pub nextOf : State → Lent → List ℕ → State
-nextOf s a js = if eqb (numberOf s a) 0 then act s (zeroed (a .ask)) js else refuse s (zeroed (a .ask))
-
--- one number for each draw of the run, in turn, below the m of that draw, and no more
-abbrev pub Tape : State → List Lent → List ℕ → Type 0
-Tape s [] t = t ≡ []
-Tape s (a ∷ as′) t =
-    let n = length (boundsOf s a) in
-    Drew (boundsOf s a) (take n t) × Tape (nextOf s a (take n t)) as′ (drop n t)
-
--- ---- Words that give a tape
+-- ---- A list's tapes of words
 
 -- the calls of a list, with as many words and bytes as it says: any words, any bytes
 pub data Lends : List Lent → List Call → Type 0 where
@@ -135,18 +110,44 @@ pub data Lends : List Lent → List Call → Type 0 where
   more : {a : Lent} {k : Ask} {ws : List ℕ} {as′ : List Lent} {cs : List Call} → outline k ≡ a .ask → length ws ≡ a .words → Lends as′ cs
       → Lends (a ∷ as′) (lend a k ws ∷ cs)
 
--- the numbers that a call draws, and those of a run
-unfoldable pub drawsOf : State → Call → List ℕ
-drawsOf s c = if eqb (number s c) 0 then numbersOf (draws (bounds s (c .ask)) (c .words)) else []
+-- all their words are of 16 bits
+abbrev pub ShortWords : List ℕ → Type 0
+ShortWords ws = All (λ w. w < 65536) ws
 
-unfoldable pub drawsIn : State → List Call → List ℕ
-drawsIn s [] = []
-drawsIn s (c ∷ cs) = drawsOf s c ++ drawsIn (step s c .0) cs
+abbrev pub Short : List Call → Type 0
+Short cs = All (λ (c : Call). ShortWords (c .words)) cs
 
--- these calls are the list's, lent words that give the tape
+unfoldable pub isTurn : Ask → Bool
+isTurn (opening h) = false
+isTurn (request k b bs) = false
+isTurn turn = true
+isTurn (completion c bs) = false
+isTurn collect = false
+
+-- of a call "the words taken", of "a turn answered 3" "all words lent to" it, "and no more"
+unfoldable pub usedBy : Bool → List ℕ → ℕ → ℕ → List ℕ
+usedBy isTurn words number taken =
+    if eqb number 0 then take taken words
+    else (if isTurn && eqb number 3 then words else [])
+
+abbrev pub used : Call → Outcome → List ℕ
+used c o = usedBy (isTurn (c .ask)) (c .words) (o .number) (o .taken)
+
+-- the tape of a run, by its calls and outcomes
+unfoldable pub tapeOf : List Call → List Outcome → List ℕ
+tapeOf [] os = []
+tapeOf (c ∷ cs) [] = []
+tapeOf (c ∷ cs) (o ∷ os) = used c o ++ tapeOf cs os
+
+-- these calls are the list's, lent words of 16 bits, and their run has this tape
 pub record Gives (s : State) (as′ : List Lent) (t : List ℕ) (cs : List Call) : Type 0 where
   pub calls : Lends as′ cs
-  pub tape : drawsIn s cs ≡ t
+  pub short : Short cs
+  pub tape : tapeOf cs (run s cs) ≡ t
+
+-- a list's tapes are those of its runs, whatever words are lent, whatever bytes are brought
+abbrev pub Tape : State → List Lent → List ℕ → Type 0
+Tape s as′ t = (cs : List Call) × Gives s as′ t cs
 
 -- the words that are lent to each call, and what is asked
 abbrev pub wordsIn : List Call → List (List ℕ)
@@ -154,11 +155,6 @@ wordsIn cs = map (λ (c : Call). c .words) cs
 
 abbrev pub asksIn : List Call → List Ask
 asksIn cs = map (λ (c : Call). c .ask) cs
-
--- all words are of 16 bits, and as many as the list says
-pub record Words (as′ : List Lent) (wss : List (List ℕ)) : Type 0 where
-  pub lengths : map length wss ≡ map (λ (a : Lent). a .words) as′
-  pub short : All (λ ws. All (λ w. w < 2 ^ 16) ws) wss
 
 -- ---- The claims
 
@@ -176,22 +172,48 @@ abbrev pub told : Outcome → ℕ × ℕ × Command
 told o = (o .number, o .taken, o .command)
 
 -- For every two compared lists, whatever was before the open in either. The matching comes first; then a tape, and then any words that give it
--- and its partner, with any bytes of the lengths that the lists say
+-- and its partner, whatever is lent behind those of the tapes, with any bytes of the lengths that the lists say
 abbrev pub Claim : Type 0
 Claim = (h : Shape) → h .E ≡ h .N → (m w n : ℕ) (as′ bs′ : List Lent) → Compared h as′ bs′ → (s s′ : State) →
     (p : Matching (Tape s (first h m w n ∷ as′)) (Tape s′ (first h m w n ∷ bs′)))
-    × ((t : List ℕ) → Tape s (first h m w n ∷ as′) t → (cs ds : List Call) →
-    Gives s (first h m w n ∷ as′) t cs → Gives s′ (first h m w n ∷ bs′) (p .f t) ds →
+    × ((t : List ℕ) (cs ds : List Call) → Gives s (first h m w n ∷ as′) t cs → Gives s′ (first h m w n ∷ bs′) (p .f t) ds →
     map told (run s cs) ≡ map told (run s′ ds))
 
--- The tapes of a list are what its runs draw, whatever words are lent and whatever bytes are brought; some words of 16 bits give each tape,
--- whatever bytes are brought; a tape decides what is told, whatever words give it and whatever bytes are brought, and with the bytes the whole run
+-- ---- What a tape is to a caller who lends no word again that is the tape's
+
+-- the calls ask this in turn; each is lent the next words of one flat tape, and those that it has not used up are lent again
+unfoldable pub serve : State → List Lent → List Ask → List ℕ → List Call
+serve s [] ks x = []
+serve s (a ∷ as′) [] x = []
+serve s (a ∷ as′) (k ∷ ks) x =
+    let c = lend a k (take (a .words) x) in
+    let r = step s c in
+    c ∷ serve (r .0) as′ ks (drop (length (used c (r .1))) x)
+
+-- as many words as a list can be lent
+abbrev pub most : List Lent → ℕ
+most [] = 0
+most (a ∷ as′) = a .words + most as′
+
 pub record Tapes : Type 0 where
-  pub drawn : (s : State) (as′ : List Lent) (cs : List Call) → Lends as′ cs → Tape s as′ (drawsIn s cs)
-  pub given : (s : State) (as′ : List Lent) (t : List ℕ) → Tape s as′ t →
-      (wss : List (List ℕ)) × (Words as′ wss × ((cs : List Call) → Lends as′ cs → wordsIn cs ≡ wss → drawsIn s cs ≡ t))
-  pub tells : (s : State) (as′ : List Lent) (t : List ℕ) (cs ds : List Call) → Gives s as′ t cs → Gives s as′ t ds → map told (run s cs) ≡ map told (run s ds)
-  pub decides : (s : State) (as′ : List Lent) (t : List ℕ) (cs ds : List Call) → Gives s as′ t cs → Gives s as′ t ds → asksIn cs ≡ asksIn ds → run s cs ≡ run s ds
+  -- a flat tape that is long enough begins with a tape of the list, which is what such a caller's run has used up, whatever bytes are brought
+  pub served : (s : State) (as′ : List Lent) (ks : List Ask) (x : List ℕ) → map outline ks ≡ map (λ (a : Lent). a .ask) as′ → ShortWords x → most as′ ≤ length x →
+      (t : List ℕ) × ((y : List ℕ) × ((x ≡ t ++ y) × Gives s as′ t (serve s as′ ks x)))
+  -- words that give a tape give it whatever bytes are brought
+  pub given : (s : State) (as′ : List Lent) (t : List ℕ) (cs : List Call) → Gives s as′ t cs →
+      (ds : List Call) → Lends as′ ds → wordsIn ds ≡ wordsIn cs → Gives s as′ t ds
+  -- no tape of a list begins with another
+  pub alone : (h : Shape) (m w n : ℕ) (as′ : List Lent) (s : State) (t u x y : List ℕ) →
+      Tape s (first h m w n ∷ as′) t → Tape s (first h m w n ∷ as′) u → t ++ x ≡ u ++ y → t ≡ u
+  -- what is told follows from the tape, whatever words are lent behind its own and whatever bytes are brought
+  pub tells : (h : Shape) (m w n : ℕ) (as′ : List Lent) (s : State) (t : List ℕ) (cs ds : List Call) →
+      Gives s (first h m w n ∷ as′) t cs → Gives s (first h m w n ∷ as′) t ds → map told (run s cs) ≡ map told (run s ds)
+  -- the tape with the bytes decides the whole run, whatever words are lent behind its own
+  pub decides : (h : Shape) (m w n : ℕ) (as′ : List Lent) (s : State) (t : List ℕ) (cs ds : List Call) →
+      Gives s (first h m w n ∷ as′) t cs → Gives s (first h m w n ∷ as′) t ds → asksIn cs ≡ asksIn ds → run s cs ≡ run s ds
+  -- runs of compared lists that tell the same have used up as many words
+  pub long : (h : Shape) (m w n : ℕ) (as′ bs′ : List Lent) → Compared h as′ bs′ → (s s′ : State) (t u : List ℕ) (cs ds : List Call) →
+      Gives s (first h m w n ∷ as′) t cs → Gives s′ (first h m w n ∷ bs′) u ds → map told (run s cs) ≡ map told (run s′ ds) → length t ≡ length u
 
 -- ---- The smaller cache: the requests may be any
 

@@ -1,19 +1,22 @@
 -- Two compared lists of a small shape, some of their tapes, and what their runs show: computed.
 -- One partition with two levels, two blocks. Both lists open, make a request, collect it, let the two jobs run and make a second request. The
 -- first list writes block 0 and then reads it. The second reads block 1 and then writes block 0, which is nowhere and so costs a dummy. The draws
--- that are not below 1 are one order of two slots and one of four: 48 tapes. In either list each of the four slots of level 1 is read with twelve
--- of them. Both lists go on with a completion of that read as one of slot 2, and a collect: they are accepted with those twelve tapes and refused
--- with the others. All else is the same.
+-- that are not below 1 are one order of two slots and one of four: 48 choices. The turn that draws the second is first lent words that end before
+-- its last draw is settled, as 65,535 is passed over below 3. In either list each of the four slots of level 1 is read with twelve of the
+-- choices. Both lists go on with a completion of that read as one of slot 2, and a collect: they are accepted with those twelve choices and
+-- refused with the others. All else is the same.
 -- With an honest host, the bytes that a read brings depend on the tape. What is told is the same as if it brought zeros, and where the second
 -- request is collected, the first list's hands out the 7 that it wrote, and the second's a 0.
 use mathlib.Core.Path.{_≡_, refl}
-use mathlib.Core.Bool.{true}
+use mathlib.Core.Bool.{Bool, true}
 use mathlib.Core.List.{List, [], _∷_, _++_, map}
 use Prim.Native.Nat.{ℕ, _+_, _<_}
 use native.Mathlib.Omega.{arith}
 use lib.ListN.{length, getD}
-use lib.Dec.{eqb}
-use Rattle.lists.specs.Search.{keep, below}
+use lib.Dec.{eqb, ltb}
+use borrow.Author.Tests.{ltb-true}
+use Rattle.lists.specs.All.{all-yes, all-map}
+use Rattle.lists.specs.Search.{keep, all, below}
 use Rattle.lists.specs.Tests.{if_then_else_, between}
 use Rattle.rules.specs.Questions.{Ask, opening, request, turn, completion, collect, Call}
 use Rattle.rules.specs.Unfold.{model, shape, call}
@@ -26,7 +29,7 @@ use Rattle.hiding.specs.Theorem.{hidden}
 use Rattle.hiding.specs.Claim
 use Rattle.array.specs.Claim.{Slots, store, sends as hostSends}
 use Rattle.array.specs.Served.{fit, brings, served}
-use Rattle.hiding.specs.Claim.{Outline, aTurn, aCompletion, aCollect, outline, Lent, first, WellFormed, Alike, wellFormed, turns, completions, collects, Same, Compared, Tape, Lends, drawsOf, drawsIn, told, Matching}
+use Rattle.hiding.specs.Claim.{Outline, aTurn, aCompletion, aCollect, outline, Lent, first, WellFormed, Alike, wellFormed, turns, completions, collects, Same, Compared, Tape, Lends, Short, isTurn, usedBy, tapeOf, told, Matching}
 
 abbrev two : Shape
 two = shape 2 1 2 1 2 1
@@ -43,12 +46,14 @@ pub record Sends : Type 0 where
 abbrev sends : ℕ → ℕ → ℕ → List ℕ → Sends
 sends k ℓ i ws = record { command = cmd k 0 ℓ i; words = ws }
 
--- the two jobs: the first writes level 0 by an order with draw j; the second reads it and writes level 1 by an order with draws a, b, c
+-- the two jobs: the first writes level 0 by an order with draw j; the second reads it and writes level 1 by an order with draws a, b, c. Between
+-- them a turn answered 3, and a completion answered 2
 abbrev jobs : ℕ → ℕ → ℕ → ℕ → List Sends
 jobs j a b c =
     sends write 0 0 (j ∷ []) ∷ sends write 0 1 []
     ∷ sends read 0 0 [] ∷ sends read 0 1 []
-    ∷ sends write 1 0 (a ∷ b ∷ c ∷ []) ∷ sends write 1 1 [] ∷ sends write 1 2 [] ∷ sends write 1 3 []
+    ∷ sends 0 0 0 (a ∷ 65535 ∷ 1 ∷ [])
+    ∷ sends write 1 0 (a ∷ 65535 ∷ b ∷ c ∷ []) ∷ sends write 1 1 [] ∷ sends write 1 2 [] ∷ sends write 1 3 []
     ∷ []
 
 -- how many bytes are brought for a read; in these runs they are zeros
@@ -118,8 +123,9 @@ join (xs ∷ xss) = xs ++ join xss
 abbrev each : {A : Type 0} → (ℕ → ℕ → ℕ → ℕ → A) → List A
 each f = join (map (λ j. join (map (λ a. join (map (λ b. map (λ c. f j a b c) (below 2)) (below 3))) (below 4))) (below 2))
 
+-- the words taken, and those lent to the turn answered 3
 abbrev tape : ℕ → ℕ → ℕ → ℕ → List ℕ
-tape j a b c = 0 ∷ 0 ∷ 0 ∷ 0 ∷ j ∷ a ∷ b ∷ c ∷ 0 ∷ 0 ∷ []
+tape j a b c = 0 ∷ 0 ∷ 0 ∷ 0 ∷ j ∷ a ∷ 65535 ∷ 1 ∷ a ∷ 65535 ∷ b ∷ c ∷ 0 ∷ 0 ∷ []
 
 lends : (r₁ r₂ : Ask) (j a b c : ℕ) → Lends (first two 1000 2 0 ∷ later r₁ r₂) (runs r₁ r₂ j a b c)
 unfolding list calls
@@ -127,29 +133,33 @@ lends r₁ r₂ j a b c =
     Claim.more refl refl (Claim.more refl refl (Claim.more refl refl (Claim.more refl refl (Claim.more refl refl (Claim.more refl refl (Claim.more refl refl
     (Claim.more refl refl (Claim.more refl refl (Claim.more refl refl (Claim.more refl refl (Claim.more refl refl (Claim.more refl refl (Claim.more refl refl
     (Claim.more refl refl (Claim.more refl refl (Claim.more refl refl (Claim.more refl refl (Claim.more refl refl (Claim.more refl refl (Claim.more refl refl
-    (Claim.more refl refl (Claim.more refl refl Claim.none))))))))))))))))))))))
+    (Claim.more refl refl (Claim.more refl refl (Claim.more refl refl (Claim.more refl refl Claim.none))))))))))))))))))))))))
 
--- the runs with these words have tapes ..
-pub tapes : (r₁ r₂ : Ask) (j a b c : ℕ) → Tape closed (first two 1000 2 0 ∷ later r₁ r₂) (drawsIn closed (runs r₁ r₂ j a b c))
-tapes r₁ r₂ j a b c = hidden .tapes .drawn closed (first two 1000 2 0 ∷ later r₁ r₂) (runs r₁ r₂ j a b c) (lends r₁ r₂ j a b c)
+-- words of 16 bits, computed
+isShort : Call → Bool
+isShort c = all (λ w. ltb w 65536) (c .words)
 
--- .. of which these two, with draws 0 0 0 0 and 1 3 2 1, are different
+short : (cs : List Call) → all isShort cs ≡ true → Short cs
+unfolding isShort
+short cs e = all-map (λ (c : Call) k. all-map (λ w l. ltb-true w 65536 l) (all-yes (λ w. ltb w 65536) (c .words) k)) (all-yes isShort cs e)
+
+-- the runs have these tapes, of which the two with draws 0 0 0 0 and 1 3 2 1 are different
 abbrev Two : Ask → Ask → Type 0
 Two r₁ r₂ = Tape closed (first two 1000 2 0 ∷ later r₁ r₂) (tape 0 0 0 0) × Tape closed (first two 1000 2 0 ∷ later r₁ r₂) (tape 1 3 2 1)
 
-drawn-first : (drawsIn closed (runs a₁ a₂ 0 0 0 0) ≡ tape 0 0 0 0) × (drawsIn closed (runs a₁ a₂ 1 3 2 1) ≡ tape 1 3 2 1)
-unfolding model calls drawsIn drawsOf
-drawn-first = (refl, refl)
-
-drawn-second : (drawsIn closed (runs b₁ b₂ 0 0 0 0) ≡ tape 0 0 0 0) × (drawsIn closed (runs b₁ b₂ 1 3 2 1) ≡ tape 1 3 2 1)
-unfolding model calls drawsIn drawsOf
-drawn-second = (refl, refl)
-
 pub tapes-first : Two a₁ a₂
-tapes-first = (rw (drawn-first .0) at (tapes a₁ a₂ 0 0 0 0), rw (drawn-first .1) at (tapes a₁ a₂ 1 3 2 1))
+unfolding model calls usedBy tapeOf isShort isTurn
+tapes-first = (
+  (runs a₁ a₂ 0 0 0 0, record { calls = lends a₁ a₂ 0 0 0 0; short = short (runs a₁ a₂ 0 0 0 0) refl; tape = refl }),
+  (runs a₁ a₂ 1 3 2 1, record { calls = lends a₁ a₂ 1 3 2 1; short = short (runs a₁ a₂ 1 3 2 1) refl; tape = refl }),
+)
 
 pub tapes-second : Two b₁ b₂
-tapes-second = (rw (drawn-second .0) at (tapes b₁ b₂ 0 0 0 0), rw (drawn-second .1) at (tapes b₁ b₂ 1 3 2 1))
+unfolding model calls usedBy tapeOf isShort isTurn
+tapes-second = (
+  (runs b₁ b₂ 0 0 0 0, record { calls = lends b₁ b₂ 0 0 0 0; short = short (runs b₁ b₂ 0 0 0 0) refl; tape = refl }),
+  (runs b₁ b₂ 1 3 2 1, record { calls = lends b₁ b₂ 1 3 2 1; short = short (runs b₁ b₂ 1 3 2 1) refl; tape = refl }),
+)
 
 -- and the tapes of the two lists are matched
 pub matching : Matching (Tape closed (first two 1000 2 0 ∷ later a₁ a₂)) (Tape closed (first two 1000 2 0 ∷ later b₁ b₂))
@@ -170,7 +180,8 @@ shows i =
     (0, 2, zeros) ∷ (0, 2, zeros) ∷ (0, 0, zeros)
     ∷ (0, 1, cmd write 0 0 0) ∷ (0, 0, zeros) ∷ (0, 0, cmd write 0 0 1) ∷ (0, 0, zeros)
     ∷ (0, 0, cmd read 0 0 0) ∷ (0, 0, zeros) ∷ (0, 0, cmd read 0 0 1) ∷ (0, 0, zeros)
-    ∷ (0, 3, cmd write 0 1 0) ∷ (0, 0, zeros) ∷ (0, 0, cmd write 0 1 1) ∷ (0, 0, zeros)
+    ∷ (3, 0, zeros) ∷ (2, 0, zeros)
+    ∷ (0, 4, cmd write 0 1 0) ∷ (0, 0, zeros) ∷ (0, 0, cmd write 0 1 1) ∷ (0, 0, zeros)
     ∷ (0, 0, cmd write 0 1 2) ∷ (0, 0, zeros) ∷ (0, 0, cmd write 0 1 3) ∷ (0, 0, zeros)
     ∷ (0, 2, zeros) ∷ (0, 0, cmd read 0 1 i) ∷ ends i
 
@@ -206,7 +217,7 @@ honestly r₁ r₂ j a b c = served unknown closed (runs r₁ r₂ j a b c)
 
 -- what is told, and what the last call, the second collect, hands out
 abbrev seen : List Outcome → List (ℕ × ℕ × Command) × List ℕ
-seen os = (map told os, getD (map (λ (o : Outcome). o .bytes) os) 22 [])
+seen os = (map told os, getD (map (λ (o : Outcome). o .bytes) os) 24 [])
 
 -- What is told is the same as before. The collect hands out what the array has at block 0, where it is accepted
 pub honest-first : each (λ j a b c. seen (run closed (honestly a₁ a₂ j a b c)))

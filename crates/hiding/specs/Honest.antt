@@ -3,15 +3,14 @@
 -- To believe it, read `Together` with crate `rules`, array/specs/Claim.antt and Claim.antt here: `together-from` has it from those two claims alone.
 -- There are such runs for every tape, whatever the contents of the requests and whatever the host had before (`honest-given`), and any run is one
 -- when the host's bytes are put into it (`honest-run`): array/specs/Served.antt.
-use mathlib.Core.Path.{_≡_, refl, ap, sym, _∙_}
-use mathlib.Core.Bool.{Bool, true, false, true≢false}
+use mathlib.Core.Path.{_≡_, refl, ap, ap₂, _∙_}
+use mathlib.Core.Bool.{Bool, true, false}
 use mathlib.Core.List.{List, [], _∷_, map}
 use Prim.Native.Nat.{ℕ}
 use native.Mathlib.Omega.{arith}
 use lib.ListN.{length}
 use lib.Dec.{eqb}
 use Rattle.lists.specs.Tests.{if_then_else_}
-use Rattle.rules.specs.Laws.Answers.{opens}
 use Rattle.rules.specs.Questions.{Ask, opening, request, turn, completion, collect, Call}
 use Rattle.rules.specs.Run.{run}
 use Rattle.rules.specs.Shape.{Shape}
@@ -22,29 +21,21 @@ use Rattle.array.specs.Served.{fit, fit-length, brings, served, served-at-once}
 use Rattle.array.specs.Claim.{Slots, Host, Expected, Honest, Plain}
 use Rattle.array.specs.Theorem.{plain-array}
 use Rattle.hiding.specs.Claim
-use Rattle.hiding.specs.Claim.{anOpen, aTurn, aCompletion, outline, zeroed, Lent, lend, first, Compared, Tape, Lends, Gives, wordsIn, Words, Twins, Matching, told, Claim}
-use Rattle.hiding.specs.Lists.Bytes.{twins-told, twins-drawn}
-use Rattle.hiding.specs.Lists.Words.{headOr, tailOf}
+use Rattle.hiding.specs.Claim.{aTurn, aCompletion, outline, Lent, lend, first, Compared, Tape, Lends, Gives, wordsIn, Twins, Matching, told, Claim}
+use Rattle.hiding.specs.Lists.Bytes.{open-ask, twins-told, twins-tape}
+use Rattle.hiding.specs.Lists.Runs.{headOr, tailOf, twins-short}
 use Rattle.hiding.specs.Theorem.{hidden}
 
 -- The matching comes first, then a tape; then words that give it and its partner, with bytes that an honest host brings in either run
 abbrev pub Together : Type 0
 Together = (h : Shape) → h .E ≡ h .N → (m w n : ℕ) (as′ bs′ : List Lent) → Compared h as′ bs′ → (s s′ : State) →
     (p : Matching (Tape s (first h m w n ∷ as′)) (Tape s′ (first h m w n ∷ bs′)))
-    × ((t : List ℕ) → Tape s (first h m w n ∷ as′) t → (cs ds : List Call) →
+    × ((t : List ℕ) (cs ds : List Call) →
     Gives s (first h m w n ∷ as′) t cs → Gives s′ (first h m w n ∷ bs′) (p .f t) ds →
     (host host′ : Host) → Honest host cs (run s cs) → Honest host′ ds (run s′ ds) → (x x′ : Expected) →
     (map told (run s cs) ≡ map told (run s′ ds)) × Plain x cs (run s cs) × Plain x′ ds (run s′ ds))
 
 -- ---- From the two claims
-
-open-ask : (h : Shape) (a : Ask) → outline a ≡ anOpen h → a ≡ opening h
-unfolding opens
-open-ask h (opening g) e = ap zeroed e
-open-ask h (request k b bs) e = absurd (true≢false (sym (ap (λ o. opens (zeroed o)) e)))
-open-ask h turn e = absurd (true≢false (sym (ap (λ o. opens (zeroed o)) e)))
-open-ask h (completion c bs) e = absurd (true≢false (sym (ap (λ o. opens (zeroed o)) e)))
-open-ask h collect e = absurd (true≢false (sym (ap (λ o. opens (zeroed o)) e)))
 
 pub list-plain : Array.Claim → (h : Shape) (m w n : ℕ) (as′ : List Lent) (s : State) (cs : List Call) → Lends (first h m w n ∷ as′) cs →
     (host : Host) → Honest host cs (run s cs) → (x : Expected) → Plain x cs (run s cs)
@@ -54,8 +45,8 @@ pub together-from : Array.Claim → Claim → Together
 together-from array lists h q m w n as′ bs′ c s s′ =
     let y = lists h q m w n as′ bs′ c s s′ in (
       y .0,
-      λ t a cs ds g g′ host host′ k k′ x x′. (
-        y .1 t a cs ds g g′,
+      λ t cs ds g g′ host host′ k k′ x x′. (
+        y .1 t cs ds g g′,
         list-plain array h m w n as′ s cs (g .calls) host k x,
         list-plain array h m w n bs′ s′ ds (g′ .calls) host′ k′ x′,
       ),
@@ -94,7 +85,11 @@ pub honest-run : (h : Shape) (m w n : ℕ) (as′ : List Lent) (s : State) (t : 
     × (map told (run s (served x s cs)) ≡ map told (run s cs))
     × Honest (record { last = x; has = x }) (served x s cs) (run s (served x s cs))
 honest-run h m w n as′ s t cs g x = (
-  record { calls = served-lends (first h m w n ∷ as′) cs (g .calls) x s; tape = twins-drawn (served x s cs) cs (served-twins x s cs) s s refl ∙ g .tape },
+  record {
+    calls = served-lends (first h m w n ∷ as′) cs (g .calls) x s;
+    short = twins-short (served x s cs) cs (served-twins x s cs) (g .short);
+    tape = twins-tape (served x s cs) cs (served-twins x s cs) s s refl ∙ g .tape;
+  },
   twins-told (served x s cs) cs (served-twins x s cs) s s refl,
   at-once (served x s cs) (run s (served x s cs)) x x (go cs (g .calls)),
 )
@@ -120,15 +115,19 @@ lending-lends (a ∷ as′) (k ∷ ks) (ws ∷ wss) e l =
     let r = lending-lends as′ ks wss (ap tailOf e) (ap tailOf l) in
     (Claim.more (ap (headOr aTurn) e) (ap (headOr 0) l) (r .0), ap (λ xs. ws ∷ xs) (r .1))
 
+words-lent : (as′ : List Lent) (cs : List Call) → Lends as′ cs → map length (wordsIn cs) ≡ map (λ (a : Lent). a .words) as′
+words-lent [] [] Claim.none = refl
+words-lent (a ∷ as′) (c ∷ cs) (Claim.more o e l) = ap₂ (λ x xs. x ∷ xs) e (words-lent as′ cs l)
+
 -- Every tape, whatever the contents of the requests and whatever the host had before: some words of 16 bits give it in a run with an honest host
 pub honest-given : (h : Shape) (m w n : ℕ) (as′ : List Lent) (s : State) (t : List ℕ) → Tape s (first h m w n ∷ as′) t →
     (ks : List Ask) → map outline ks ≡ map (λ (a : Lent). a .ask) (first h m w n ∷ as′) → (x : Slots) →
-    (wss : List (List ℕ)) × (Words (first h m w n ∷ as′) wss
-    × (let cs : List Call = served x s (lending (first h m w n ∷ as′) ks wss) in
-    Gives s (first h m w n ∷ as′) t cs × Honest (record { last = x; has = x }) cs (run s cs)))
+    (wss : List (List ℕ)) × (let cs : List Call = served x s (lending (first h m w n ∷ as′) ks wss) in
+    Gives s (first h m w n ∷ as′) t cs × Honest (record { last = x; has = x }) cs (run s cs))
 honest-given h m w n as′ s t a ks e x =
-    let g = hidden .tapes .given s (first h m w n ∷ as′) t a in
-    let l = lending-lends (first h m w n ∷ as′) ks (g .0) e (g .1 .0 .lengths) in
-    let cs = lending (first h m w n ∷ as′) ks (g .0) in
-    let r = honest-run h m w n as′ s t cs (record { calls = l .0; tape = g .1 .1 cs (l .0) (l .1) }) x in
-    (g .0, (g .1 .0, (r .0, r .2)))
+    let A = first h m w n ∷ as′ in
+    let wss = wordsIn (a .0) in
+    let l = lending-lends A ks wss e (words-lent A (a .0) (a .1 .calls)) in
+    let g = hidden .tapes .given s A t (a .0) (a .1) (lending A ks wss) (l .0) (l .1) in
+    let r = honest-run h m w n as′ s t (lending A ks wss) g x in
+    (wss, (r .0, r .2))

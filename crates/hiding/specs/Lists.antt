@@ -1,5 +1,16 @@
-pub mod Matched
+-- What bytes a call has matters to nothing that is told; a list with its bytes
 pub mod Bytes
+pub mod Fixed
+-- One call with numbers for words, as the machine of the rules has it
 pub mod Calls
-pub mod Runs
+-- One call with words: a word is a quotient and a number; what the call's number depends on, what it does, what it uses up
+pub mod Quotients
+pub mod Asks
 pub mod Words
+-- The machine that takes words, its tapes and the claim's; its chunks are public parts and numbers; two compared lists
+pub mod Tapes
+pub mod Codes
+pub mod Matched
+-- The claim
+pub mod Runs
+pub mod Served

@@ -1,5 +1,5 @@
 -- Every state that calls left has what the stages need: the crate `reachable` gives it.
-use mathlib.Core.Path.{_≡_, ap, sym, _∙_, subst}
+use mathlib.Core.Path.{_≡_, refl, ap, sym, _∙_, subst}
 use mathlib.Core.Bool.{true, _||_}
 use mathlib.Core.Option.{some}
 use Prim.Native.Nat.{ℕ, suc, _<_}
@@ -14,8 +14,9 @@ use Rattle.rules.specs.Request.{slotIn}
 use Rattle.rules.specs.Levels
 use Rattle.rules.specs.Laws.Decided.{decide-in}
 use Rattle.rules.specs.Turn.{readForRequest, rebuild, decide}
-use Rattle.rules.specs.State.{State, Request, stored}
+use Rattle.rules.specs.State.{State, Request, stored, closed}
 use Rattle.rules.specs.Laws.Answers.{accepted-passed}
+use Rattle.rules.specs.Run.{after}
 use Rattle.rules.specs.Rebuild
 use Rattle.rules.specs.Rebuild.{gathered}
 use Rattle.rules.specs.Shape.{Shape, slots, cell}
@@ -23,14 +24,14 @@ use Rattle.reachable.specs.Decided.{RequestReads, Rebuilds, decided}
 use Rattle.reachable.specs.Invariant.{Reached}
 use Rattle.reachable.specs.Consequences.{finished-read, request-unread, slot-own, sources-read}
 use Rattle.reachable.specs.Kept.Open.{fresh-kept}
-use Rattle.reachable.specs.Reached.{act-kept}
+use Rattle.reachable.specs.Reached.{shut, act-kept, was-reached, after-was}
 use Rattle.reachable.specs.Never.{always-possible, room-or-waits}
 use Rattle.reachable.specs.Slots.{gathered-stored, chosen-stored}
 use Rattle.hiding.specs.Unchanged.{act-shape, fresh-shape}
 use Rattle.hiding.specs.Machines.Public.{ask}
 use Rattle.hiding.specs.Machines.Middle.{gatheredM, chosenM}
 use Rattle.hiding.specs.Machines.Rules.{called}
-use Rattle.hiding.specs.Machines.Needs.{Reachable}
+use Rattle.hiding.specs.Machines.Needs.{Reachable, Able}
 
 module _ (s : State) (f : Reached s) where
   -- the read that a turn decides on is for the request in hand
@@ -97,3 +98,7 @@ reached h q = record {
   owned = λ s r q ℓ x i k. owned s (k .0) r q ℓ x i;
   left = λ s r ℓ i k. left s (k .0) r ℓ i;
 }
+
+-- whatever calls were made since the closed state
+pub able : Able closed
+able cs m e = always-possible (after closed cs) (was-reached (after closed cs) m (after-was cs closed (shut refl)) e)

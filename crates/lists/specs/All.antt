@@ -6,7 +6,7 @@ use mathlib.Core.List.{List, [], _∷_, _++_, map}
 use mathlib.Core.Option.{Option, none, some}
 use Prim.Native.Nat.{ℕ, zero, suc, _+_, _≤_, _<_}
 use native.Mathlib.Omega.{arith}
-use lib.ListN.{getD, set, replicate}
+use lib.ListN.{getD, set, take, replicate}
 use lib.Dec.{eqb}
 use borrow.Author.Tests.{eqb-true, eqb-false}
 use Rattle.lists.specs.Tests.{and-l, and-r, and-true, or-true, or-left, or-right}
@@ -137,6 +137,11 @@ module _ {A : Type 0} {P : A → Type 0} where
   pub all-right : (xs ys : List A) → All P (xs ++ ys) → All P ys
   all-right [] ys h = h
   all-right (x ∷ xs) ys (cons h t) = all-right xs ys t
+
+  pub all-take : (n : ℕ) {xs : List A} → All P xs → All P (take n xs)
+  all-take zero h = nil
+  all-take (suc n) nil = nil
+  all-take (suc n) (cons h t) = cons h (all-take n t)
 
 pub all-replicate : (P : ℕ → Type 0) (n x : ℕ) → P x → All P (replicate n x)
 all-replicate P zero x h = nil

@@ -282,9 +282,9 @@ nodup-keep-map p g (x ∷ xs) u h = go (p (g x)) refl (nodup-keep-map p g xs (u 
     )
     go false e k = rw (keep-no p (g x) (map g xs) e) k
 
-pub nodup-map-suc : (xs : List ℕ) → NoDup xs → NoDup (map suc xs)
-nodup-map-suc [] u = tt
-nodup-map-suc (x ∷ xs) u = ((λ m. let r = mem-map suc (suc x) xs m in let e : x ≡ r .0 = omega (arith, r .1 .1) in u .0 (subst (λ z. Mem z xs) (sym e) (r .1 .0))), nodup-map-suc xs (u .1))
+pub nodup-map : (g : ℕ → ℕ) (xs : List ℕ) → ((x y : ℕ) → g x ≡ g y → x ≡ y) → NoDup xs → NoDup (map g xs)
+nodup-map g [] h u = tt
+nodup-map g (x ∷ xs) h u = ((λ m. let r = mem-map g (g x) xs m in u .0 (subst (λ z. Mem z xs) (sym (h x (r .0) (r .1 .1))) (r .1 .0))), nodup-map g xs h (u .1))
 
 -- two tests that answer alike keep the same
 pub keep-same : (p g : ℕ → Bool) (xs : List ℕ) → ((x : ℕ) → Mem x xs → p x ≡ g x) → keep p xs ≡ keep g xs

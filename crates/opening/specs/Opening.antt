@@ -20,7 +20,7 @@ use Rattle.rules.specs.Memory.{needed}
 use Rattle.rules.specs.Draws.{draws}
 use Rattle.rules.specs.Open.{fresh}
 use Rattle.rules.specs.Questions.{opening, bounds, questions, firstNo, number}
-use Rattle.rules.specs.Run.{numbersOf}
+use Rattle.rules.specs.Run.{numbersOf, takenOf}
 use Rattle.rules.specs.Laws.Levels.{partitions-pos}
 use Rattle.memory.specs.Tables.{Tables, tablesOf, withPartition}
 use Rattle.memory.specs.Parts.{empty}
@@ -30,8 +30,8 @@ use Rattle.client.specs.declared.Client.{Client}
 use Rattle.client.specs.View.{stateOf, view, rows, requestOf, bytesIn, placeOf, levelAt}
 use Rattle.client.specs.Changes.{place-nowhere}
 use Rattle.client.specs.Moves.{noRequest}
-use Rattle.rules.specs.Laws.Drawn.{draws-enough, draws-number, length-numbers}
-use Rattle.tape.specs.Tape.{wordsOf}
+use Rattle.rules.specs.Laws.Drawn.{Straight, straight-partitions, draws-enough, draws-number, length-numbers, taken-all}
+use Rattle.tape.specs.Tape.{wordsOf, words-short}
 use Rattle.contract.specs.Meets.{callOf}
 
 unfoldable pub openNumber : Shape → ℕ → ℕ → ℕ
@@ -39,7 +39,11 @@ openNumber h len words = firstNo ((within h, 1) ∷ (leb (needed h) len, 2) ∷ 
 
 pub open-number : (h : Shape) (m tape : List ℕ) → number closed (callOf (opening h) m tape []) ≡ openNumber h (length m) (length (wordsOf tape))
 unfolding number questions openNumber bounds
-open-number h m tape = rw (draws-enough (replicate (h .N) (h .P)) (wordsOf tape), length-replicate {A = ℕ} (h .N) (h .P))
+open-number h m tape = go (within h) refl
+  where
+    go : (t : Bool) → within h ≡ t → number closed (callOf (opening h) m tape []) ≡ openNumber h (length m) (length (wordsOf tape))
+    go false e = rw e (unfold firstNo in refl)
+    go true e = rw (draws-enough (replicate (h .N) (h .P)) (wordsOf tape) (straight-partitions h e (h .N) (wordsOf tape) (words-short tape)), length-replicate {A = ℕ} (h .N) (h .P))
 
 abbrev pub freshClient : Numbers → Client
 freshClient h = record { shape = h; request = noRequest; jobs = 0; cursor = 0; sent = 0; waiting = 0; out = 0 }
@@ -80,14 +84,21 @@ module _ (h : Numbers) (tape : List ℕ) (w : within (shapeOf h) ≡ true) (enou
   abbrev H : Shape
   H = shapeOf h
 
+  straight : Straight (replicate (h .n) (h .p)) (wordsOf tape)
+  straight = straight-partitions H w (h .n) (wordsOf tape) (words-short tape)
+
   enough′ : length (replicate (h .n) (h .p)) ≤ length (wordsOf tape)
   enough′ = omega (arith, length-replicate {A = ℕ} (h .n) (h .p))
 
   pub drawn-length : length (drawnBy h tape) ≡ h .n
-  drawn-length = length-numbers (replicate (h .n) (h .p)) (wordsOf tape) enough′ ∙ length-replicate (h .n) (h .p)
+  drawn-length = length-numbers (replicate (h .n) (h .p)) (wordsOf tape) straight enough′ ∙ length-replicate (h .n) (h .p)
+
+  -- one word a block
+  pub drawn-taken : takenOf (draws (replicate (h .n) (h .p)) (wordsOf tape)) ≡ h .n
+  drawn-taken = taken-all (replicate (h .n) (h .p)) (wordsOf tape) straight enough′ ∙ length-replicate (h .n) (h .p)
 
   pub drawn-number : (b : ℕ) → b < h .n → getD (drawnBy h tape) b 0 ≡ getD (wordsOf tape) b 0 % h .p
-  drawn-number b l = draws-number (replicate (h .n) (h .p)) (wordsOf tape) b enough′ (omega (arith, length-replicate {A = ℕ} (h .n) (h .p))) ∙ ap (λ p. getD (wordsOf tape) b 0 % p) (getD-replicate (h .n) b (h .p) 0 l)
+  drawn-number b l = draws-number (replicate (h .n) (h .p)) (wordsOf tape) straight enough′ b (omega (arith, length-replicate {A = ℕ} (h .n) (h .p))) ∙ ap (λ p. getD (wordsOf tape) b 0 % p) (getD-replicate (h .n) b (h .p) 0 l)
 
   drawn-lt : (b : ℕ) → getD (drawnBy h tape) b 0 < h .p
   drawn-lt b = go (decLt b (h .n))

@@ -13,7 +13,7 @@ use Rattle.rules.specs.Blocks
 use Rattle.rules.specs.Collect
 use Rattle.rules.specs.Completion
 use Rattle.rules.specs.Draws.{newOrder, draws, Drew}
-use Rattle.rules.specs.Laws.Answers.{Passed, accepted-passed, step-accepted, step-refused}
+use Rattle.rules.specs.Laws.Answers.{Passed, accepted-passed, step-accepted, step-refused, open-first}
 use Rattle.rules.specs.Laws.Decided.{decide-in, StepIn, stepBounds-pos}
 use Rattle.rules.specs.Laws.Kept.{perform-in, completed-in, fresh-in, drew-of, given-in}
 use Rattle.rules.specs.Laws.Levels.{partitions-pos}
@@ -140,21 +140,10 @@ step-was s c l = go (eqb (number s c) 0) refl
         rw (step-accepted s c z) (live (unfold Run.accepted in (accepted-kept s (c .ask) (c .memory) (c .words) (c .buffer) l (accepted-passed s c z))))
     go false e = rw (step-refused s c (eqb-false (number s c) 0 e)) (refuse-was s (c .ask) l)
 
-after-was : (cs : List Call) (s : State) → Was s → Was (after s cs)
+pub after-was : (cs : List Call) (s : State) → Was s → Was (after s cs)
 unfolding after
 after-was [] s l = l
 after-was (c ∷ cs) s l = after-was cs (step s c .0) (step-was s c l)
-
--- the open does not look at what was before it
-open-same : (s : State) (h : Shape) (k : ℕ) (ws : List ℕ) (n : ℕ) → let c : Call = record { ask = opening h; memory = k; words = ws; buffer = n } in step s c ≡ step closed c
-unfolding step number questions bounds Run.accepted act Run.perform Run.refuse Run.sentCommand Run.handed Run.handedFound
-open-same s h k ws n = refl
-
-pub open-first : (s : State) (c : Call) (h : Shape) → c .ask ≡ opening h → step s c ≡ step closed c
-open-first s c h e = same (c .ask) h e
-  where
-    same : (a : Ask) (h : Shape) → a ≡ opening h → step s (record { ask = a; memory = c .memory; words = c .words; buffer = c .buffer }) ≡ step closed (record { ask = a; memory = c .memory; words = c .words; buffer = c .buffer })
-    same a h e = rw e (open-same s h (c .memory) (c .words) (c .buffer))
 
 -- Every state that an open and calls after it left is closed, or reached; whatever state was before the open
 pub reachable : (s : State) (c : Call) (h : Shape) → c .ask ≡ opening h → (cs : List Call) → Was (after s (c ∷ cs))

@@ -18,7 +18,7 @@ use Rattle.rules.specs.Collect
 use Rattle.rules.specs.Completion
 use Rattle.rules.specs.Completion.{isCommand}
 use Rattle.rules.specs.Draws.{draws, newOrder, Drew}
-use Rattle.rules.specs.Laws.Answers.{Passed, opens, refuse-keeps, accepted-passed, step-accepted, step-refused}
+use Rattle.rules.specs.Laws.Answers.{Passed, opens, refuse-keeps, accepted-passed, step-accepted, step-refused, open-first}
 use Rattle.rules.specs.Laws.Decided.{StepIn, decide-in, stepBounds-pos}
 use Rattle.rules.specs.Laws.Kept.{drew-of, completed-in}
 use Rattle.rules.specs.Laws.Layout.{cell-inj}
@@ -44,7 +44,7 @@ use Rattle.reachable.specs.Kept.Rebuild.Marks.{mark-else}
 use Rattle.reachable.specs.Live.{Target, front-mem, isFront, front-is, front-eq}
 use Rattle.reachable.specs.Outstanding.{decOne, is-command}
 use Rattle.reachable.specs.Pending.{front-more}
-use Rattle.reachable.specs.Reached.{Was, was-reached, step-was, shut, open-first}
+use Rattle.reachable.specs.Reached.{Was, was-reached, step-was, shut}
 use Rattle.reachable.specs.Terms.{One, lastKind, EachAfterWrite}
 
 module _ (q ℓ i : ℕ) where

@@ -11,7 +11,7 @@ use lib.Dec.{eqb, ltb}
 use borrow.Author.Tests.{eqb-true, eq-eqb, ltb-true, lt-ltb}
 use Rattle.lists.specs.All.{keep-passes}
 use Rattle.lists.specs.Distinct.{Mem, NoDup}
-use Rattle.lists.specs.Members.{all-mem, keep-mem, mem-keep, nodup-below, mem-below, below-mem, mem-member, member-mem, map-mem, mem-map, nodup-sub, nodup-keep-map, nodup-map-suc, keep-same}
+use Rattle.lists.specs.Members.{all-mem, keep-mem, mem-keep, nodup-below, mem-below, below-mem, mem-member, member-mem, map-mem, mem-map, nodup-sub, nodup-keep-map, nodup-map, keep-same}
 use Rattle.lists.specs.Search.{find, keep, below}
 use Rattle.lists.specs.Tests.{if_then_else_, and-l, and-r, and-true, or-true, or-left, or-right, both-true}
 use Rattle.rules.specs.Blocks.{entries, blocksIn}
@@ -90,7 +90,7 @@ module _ (s : State) (f : Reached s) (q : ℕ) (hq : q < s .shape .P) where
     arith,
     length-map (storedIn s q top) suc,
     nodup-sub (keep (ltb 0) (entries s q top)) (map suc (storedIn s q top)) once (λ v m. named v (ltb-true 0 v (all-mem (keep-passes (ltb 0) (entries s q top)) v m)) (keep-mem (ltb 0) (entries s q top) v m)),
-    nodup-sub (map suc (storedIn s q top)) (keep (ltb 0) (entries s q top)) (nodup-map-suc (storedIn s q top) (nodup-in s q top)) (λ v m.
+    nodup-sub (map suc (storedIn s q top)) (keep (ltb 0) (entries s q top)) (nodup-map suc (storedIn s q top) (λ x y e. omega arith) (nodup-in s q top)) (λ v m.
         let r = mem-map suc v (storedIn s q top) m in
         let y = in-why s q top (r .0) (r .1 .0) in
         rw (r .1 .1) (mem-keep (ltb 0) (entries s q top) (suc (r .0)) (why-entry top (r .0) (y .0) (y .1) (y .2)) (lt-ltb 0 (suc (r .0)) (omega arith)))),

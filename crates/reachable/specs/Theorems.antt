@@ -17,7 +17,7 @@ use Rattle.rules.specs.Before.{untold, heldByRule, stepBefore, before}
 use Rattle.rules.specs.Blocks.{isUnread}
 use Rattle.rules.specs.Completion.{isCommand}
 use Rattle.rules.specs.Figures.{nowhereBlocks, storedBlocks, waitingBlocks, jobsFor}
-use Rattle.rules.specs.Laws.Answers.{opens}
+use Rattle.rules.specs.Laws.Answers.{opens, open-first}
 use Rattle.rules.specs.Laws.Before.{step-before}
 use Rattle.rules.specs.Laws.Figures.{places-add, ColumnsAdd, columns-add, front-counts}
 use Rattle.rules.specs.Levels.{filled, sources}
@@ -36,7 +36,7 @@ use Rattle.reachable.specs.Counts.{waiting-all, begun-front}
 use Rattle.reachable.specs.Decided.{Rebuilds, decided, JobReads}
 use Rattle.reachable.specs.Found.{request-decides, scan-all, lower-read, lowest-dummy, decided-filled, sent-turn}
 use Rattle.reachable.specs.Never.{always-possible, never-many, late-two, never-full, full-ready}
-use Rattle.reachable.specs.Reached.{Was, reachable, open-first, live, shut, ready-memory, was-reached}
+use Rattle.reachable.specs.Reached.{Was, reachable, live, shut, ready-memory, was-reached}
 use Rattle.reachable.specs.Sends.{write-within, reads-after-writes, behind, read-is}
 use Rattle.reachable.specs.Settled.{Settled, closed-settled, step-settles, after-settled, held-is, runs-before}
 use Rattle.reachable.specs.Slots.{front-in}

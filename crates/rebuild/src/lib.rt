@@ -12,6 +12,7 @@ ghost use Rattle.rules.specs.Setters.{setOrder, setMark, setHolds, setPlace};
 ghost use Rattle.rules.specs.Draws.{newOrder, draws, orderBounds};
 ghost use Rattle.rules.specs.Rebuild.{cleared, newPlace, newHolds};
 ghost use Rattle.rules.specs.Run.{numbersOf};
+ghost use Rattle.rules.specs.Laws.Draws.{Enough};
 ghost use Rattle.memory.specs.Fits.{shapeOf};
 ghost use Rattle.client.specs.View.{stateOf};
 ghost use Rattle.client.specs.Moves.{Room, Stands};
@@ -89,16 +90,19 @@ fn exchange(c: Client, m: &mut [u8], n: usize, x: usize, y: usize)
 
 // For i from n − 1 down to 1, item i exchanges slots with the item drawn for it.
 pub fn draw_order(c: Client, m: &mut [u8], q: usize, t: usize, tape: &[u8])
-    requires { ⌜ Room c (now m) × (q < c .shape .p) × (t < c .shape .l) × (slots t - 1 ≤ length (wordsOf (now tape))) ⌝ }
+    requires { ⌜ Room c (now m) × (q < c .shape .p) × (t < c .shape .l) × Enough (orderBounds (slots t)) (wordsOf (now tape)) ⌝ }
     ensures { λ _. ⌜ Stands c (now (m .entry)) (now (m .exit)) (setOrder (putAll (cellOf (shapeOf (c .shape)) q t 0) (newOrder (slots t) (numbersOf (draws (orderBounds (slots t)) (wordsOf (now (tape .entry)))))) (stateOf c (now (m .entry)) .order)) (stateOf c (now (m .entry)))) ⌝ }
 {
     start_order(c, m, q, t);
     let n = bits::pow2(t + 1);
     let base = level_start(c, q, t);
+    let mut k = 0;
     let mut i = n - 1;
     while 0 < i {
-        let j = tape::draw(tape, n - 1 - i, i + 1);
+        let w = tape::settle(tape, k, i + 1);
+        let j = tape::draw(tape, w, i + 1);
         exchange(c, m, n, base + i, base + j);
+        k = w + 1;
         i -= 1;
     }
 }
@@ -143,7 +147,7 @@ pub fn rebuild_tables(
     k: usize,
     tape: &[u8],
 )
-    requires { ⌜ Room c (now m) × (q < c .shape .p) × (t < c .shape .l) × (n ≤ c .shape .l) × (k ≤ slots t) × (k ≤ length (now list)) × NoDup (take k (now list)) × All (λ b. b < c .shape .n) (take k (now list)) × (slots t - 1 ≤ length (wordsOf (now tape))) ⌝ }
+    requires { ⌜ Room c (now m) × (q < c .shape .p) × (t < c .shape .l) × (n ≤ c .shape .l) × (k ≤ slots t) × (k ≤ length (now list)) × NoDup (take k (now list)) × All (λ b. b < c .shape .n) (take k (now list)) × Enough (orderBounds (slots t)) (wordsOf (now tape)) ⌝ }
     ensures { λ _. ⌜ Stands c (now (m .entry)) (now (m .exit)) (rebuilt (shapeOf (c .shape)) q t n (take k (now (list .entry))) (newOrder (slots t) (numbersOf (draws (orderBounds (slots t)) (wordsOf (now (tape .entry)))))) (stateOf c (now (m .entry)))) ⌝ }
 {
     clear_sources(c, m, q, n);

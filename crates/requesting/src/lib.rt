@@ -5,12 +5,13 @@ use client::WRITE;
 use contract::Answer;
 use memory::Shape;
 ghost use mathlib.Core.Path.{_≡_};
-ghost use mathlib.Core.Bool.{_&&_, _||_};
+ghost use mathlib.Core.Bool.{true, _&&_, _||_};
 ghost use mathlib.Core.List.{[]};
 ghost use Prim.Native.Nat.{_≤_, _<_};
 ghost use lib.ListN.{length};
 ghost use lib.Dec.{ltb};
 ghost use Rattle.lists.specs.Search.{member};
+ghost use Rattle.rules.specs.Shape.{within};
 ghost use Rattle.rules.specs.Ranges.{isKind, bytesOf};
 ghost use Rattle.rules.specs.Request.{release};
 ghost use Rattle.rules.specs.Questions.{request as requestOf, ready};
@@ -87,7 +88,7 @@ fn keep(h: Shape, m: &mut [u8], kind: usize, contents: &[u8])
 
 // The request is in hand from now on, and it is held only if a job for its block's partition is queued.
 fn take(c: Client, m: &mut [u8], kind: usize, block: usize, contents: &[u8], tape: &[u8]) -> Client
-    requires { ⌜ Room c (now m) × (c .jobs ≤ 64) × (c .waiting ≤ c .shape .n) × (block < c .shape .n) × (1 ≤ kind) × (length (now contents) ≡ bytesOf (shapeOf (c .shape)) kind) × (2 ≤ length (wordsOf (now tape))) ⌝ }
+    requires { ⌜ Room c (now m) × (c .jobs ≤ 64) × (c .waiting ≤ c .shape .n) × (block < c .shape .n) × (within (shapeOf (c .shape)) ≡ true) × (1 ≤ kind) × (length (now contents) ≡ bytesOf (shapeOf (c .shape)) kind) × (2 ≤ length (wordsOf (now tape))) ⌝ }
     ensures { λ r. ⌜ Stands r (now (m .entry)) (now (m .exit)) (release (Taken c (now (m .entry)) kind block (now (contents .entry)) (now (tape .entry)))) ⌝ }
 {
     let p = c.shape.p;

@@ -5,3 +5,4 @@ pub mod SessionsA
 pub mod SessionsB
 pub mod SessionsC
 pub mod SessionsD
+pub mod Even

@@ -1,11 +1,17 @@
--- Document 01, "Draws": numbers drawn from a tape of words, and the order of a level's items over its slots.
+-- Document 01, "Draws", and document 02, "Even draws": numbers drawn from a tape of words, and the order of a level's items over its slots.
+use mathlib.Core.Bool.{true, false}
 use mathlib.Core.List.{List, [], _∷_}
 use mathlib.Core.Option.{Option, none, some}
-use Prim.Native.Nat.{ℕ, zero, suc, _-_, _%_, _<_}
+use Prim.Native.Nat.{ℕ, zero, suc, _-_, _*_, _/_, _%_, _<_}
 use lib.ListN.{getD, set}
+use lib.Dec.{ltb}
 use Rattle.lists.specs.Search.{below}
 
--- "A draw below m takes one word w and gives w mod m."
+-- "The largest multiple of m that is at most 65,536": the words are of 16 bits
+unfoldable pub limit : ℕ → ℕ
+limit m = 65536 / m * m
+
+-- the word taken "gives w mod m"
 unfoldable pub draw : ℕ → ℕ → ℕ
 draw m w = w % m
 
@@ -18,13 +24,19 @@ unfoldable pub drawnFirst : ℕ → Option Drawn → Option Drawn
 drawnFirst j none = none
 drawnFirst j (some d) = some (record { numbers = j ∷ d .numbers; taken = suc (d .taken) })
 
--- One draw below each of the bounds, in turn; none if the words end before the last draw. All words go through this
+-- "Passed words count as taken."
+unfoldable pub passOver : Option Drawn → Option Drawn
+passOver none = none
+passOver (some d) = some (record { numbers = d .numbers; taken = suc (d .taken) })
+
+-- One draw below each of the bounds, in turn: it "passes over words at or above the largest multiple of m that is at most 65,536, and takes the
+-- first word below it". None if the words end before the last draw is settled. All words go through this
 unfoldable pub draws : List ℕ → List ℕ → Option Drawn
 draws [] ws = some (record { numbers = []; taken = 0 })
 draws (m ∷ ms) [] = none
-draws (m ∷ ms) (w ∷ ws) = drawnFirst (draw m w) (draws ms ws)
+draws (m ∷ ms) (w ∷ ws) = elim (ltb w (limit m)) [ true ↦ drawnFirst (draw m w) (draws ms ws) | false ↦ passOver (draws (m ∷ ms) ws) ]
 
--- A tape of drawn numbers, for these draws: "one for each draw, in turn, below the m of that draw, and no more"
+-- The numbers that these draws may give: one for each, in turn, below its m, and no more
 abbrev pub Drew : List ℕ → List ℕ → Type 0
 Drew [] [] = Unit {0}
 Drew [] (j ∷ js) = ⊥

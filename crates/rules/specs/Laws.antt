@@ -1,3 +1,5 @@
+pub mod Draws
+pub mod Even
 pub mod Answers
 pub mod Layout
 pub mod Levels
@@ -7,6 +9,7 @@ pub mod Waiting
 pub mod Range
 pub mod RangeSetters
 pub mod Decided
+pub mod Bounds
 pub mod Kept
 pub mod Shapes
 pub mod Released

@@ -8,7 +8,7 @@ use Rattle.rules.specs.Shape.{within, cell, offset}
 use Rattle.rules.specs.State.{foundNumber, closed}
 use Rattle.rules.specs.Ranges.{isKind, bytesOf, rangePlace, rangeCommand, rangeFound, rangeRequest, queueFits, others, cacheFits, eachCell, ranges, inRange}
 use Rattle.rules.specs.Memory.{needed}
-use Rattle.rules.specs.Draws.{draw, drawnFirst, draws, exchange, shuffle, newOrder, orderBounds}
+use Rattle.rules.specs.Draws.{limit, draw, drawnFirst, passOver, draws, exchange, shuffle, newOrder, orderBounds}
 use Rattle.rules.specs.Levels.{filled, trailingOnes, sources, target, grown}
 use Rattle.rules.specs.Blocks.{named, holder, entries, blocksIn, isUnread, zeros, isNowhere, contents, foundAt, lookUp, slotBytes}
 use Rattle.rules.specs.Open.{fresh}
@@ -26,7 +26,7 @@ use Rattle.rules.specs.Questions.{Ask, Call}
 use Rattle.rules.specs.Run.{Outcome}
 
 unfoldable pub model : Unit {0}
-unfolding every between find keep any all without isNone orElse count below member indexFrom indexOf put putAll within cell offset foundNumber closed isKind bytesOf rangePlace rangeCommand rangeFound rangeRequest queueFits others cacheFits eachCell ranges inRange needed draw drawnFirst draws exchange shuffle newOrder orderBounds filled trailingOnes sources target grown named holder entries blocksIn isUnread zeros isNowhere contents foundAt lookUp slotBytes fresh accept blocked held releasedIn levelsLeft slotIn dummy passLevel places unread chosen isChosen gathered itemPlace newPlace itemHolds newHolds cleared leave doRebuild readStep firstRead requestStep gatherStep rebuildStep writeStep jobStep decide command stepBounds send markRead doStep isCommand completed gatherBytes completeRead jobDone endJob finishJob completeWrite complete finished emptied finish collected answer carried bounds ready sends possible inHand questions firstNo number perform act refuse sentCommand written handed handedFound numbersOf takenOf refused accepted step run after nowhereBlocks storedBlocks waitingBlocks inPartition jobsFor figures allFigures
+unfolding every between find keep any all without isNone orElse count below member indexFrom indexOf put putAll within cell offset foundNumber closed isKind bytesOf rangePlace rangeCommand rangeFound rangeRequest queueFits others cacheFits eachCell ranges inRange needed limit draw drawnFirst passOver draws exchange shuffle newOrder orderBounds filled trailingOnes sources target grown named holder entries blocksIn isUnread zeros isNowhere contents foundAt lookUp slotBytes fresh accept blocked held releasedIn levelsLeft slotIn dummy passLevel places unread chosen isChosen gathered itemPlace newPlace itemHolds newHolds cleared leave doRebuild readStep firstRead requestStep gatherStep rebuildStep writeStep jobStep decide command stepBounds send markRead doStep isCommand completed gatherBytes completeRead jobDone endJob finishJob completeWrite complete finished emptied finish collected answer carried bounds ready sends possible inHand questions firstNo number perform act refuse sentCommand written handed handedFound numbersOf takenOf refused accepted step run after nowhereBlocks storedBlocks waitingBlocks inPartition jobsFor figures allFigures
 model = tt
 
 -- short forms, for sessions and the table of edges

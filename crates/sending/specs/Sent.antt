@@ -6,9 +6,10 @@ use mathlib.Core.Option.{none, some}
 use Prim.Native.Nat.{ℕ, zero, suc, _+_, _-_, _≤_, _<_}
 use native.Mathlib.Omega.{arith}
 use lib.ListN.{length, replicate}
-use lib.Dec.{eqb, leb, ltb}
-use borrow.Author.Tests.{lt-ltb, le-ltb, le-leb, lt-leb, eq-eqb, ne-eqb}
+use lib.Dec.{eqb, ltb}
+use borrow.Author.Tests.{lt-ltb, le-ltb, eq-eqb, ne-eqb}
 use Rattle.lists.specs.Tests.{if_then_else_}
+use Rattle.lists.specs.Search.{isNone}
 use Rattle.rules.specs.Shape.{slots, cell, offset}
 use Rattle.rules.specs.State.{State, cmd, read, write, foundNumber}
 use Rattle.rules.specs.Setters.{setRequest, setCursor, setSent, setWaiting}
@@ -19,8 +20,8 @@ use Rattle.rules.specs.Blocks.{holder, slotBytes, named, zeros}
 use Rattle.rules.specs.Rebuild.{gathered, doRebuild}
 use Rattle.rules.specs.Turn.{Step, idle, noDummy, readForRequest, readForJob, rebuild, writeNext, decide, command, stepBounds, markRead, send, doStep}
 use Rattle.rules.specs.Questions.{turn, ready, sends, possible, questions, firstNo, number, bounds}
-use Rattle.rules.specs.Run.{act, perform, sentCommand, handed, handedFound, written, numbersOf, refuse}
-use Rattle.rules.specs.Laws.Drawn.{draws-enough, taken-all}
+use Rattle.rules.specs.Run.{act, perform, sentCommand, handed, handedFound, written, numbersOf, takenOf, refuse}
+use Rattle.rules.specs.Laws.Draws.{Enough}
 use Rattle.rules.specs.Laws.Answers.{opens}
 use Rattle.rules.specs.Laws.Asked.{reads-asked}
 use Rattle.rules.specs.Laws.Decided.{StepIn, decide-in}
@@ -91,12 +92,12 @@ module _ (c : Client) (m tape b : List ℕ) (x : Step) (d : Due c m x) where
   asked =
       (sends x, 10)
       ∷ (not (eqb (command x .kind) write) || eqb (length b) (c .shape .b), 15)
-      ∷ (leb (length (stepBounds x)) (length (wordsOf tape)), 3)
+      ∷ (not (isNone (draws (stepBounds x) (wordsOf tape))), 3)
       ∷ (possible s x, 2) ∷ []
 
   pub turn-number : number s (callOf turn m tape b) ≡ firstNo asked
   unfolding number questions bounds firstNo
-  turn-number = rw (d .ready, d .step, out-is c m, window-is c m, lt-ltb (c .out) (c .shape .w) (d .free), bytes-is c m, draws-enough (stepBounds x) (wordsOf tape))
+  turn-number = rw (d .ready, d .step, out-is c m, window-is c m, lt-ltb (c .out) (c .shape .w) (d .free), bytes-is c m)
 
   -- a turn that is refused
   pub refuses : (n : ℕ) → firstNo asked ≡ n → (n ≡ 0 → ⊥) → Performs c s turn m tape b (refusedWith n c) m b
@@ -114,15 +115,15 @@ module _ (c : Client) (m tape b : List ℕ) (x : Step) (d : Due c m x) where
       shape : doStep x js s .shape ≡ shapeOf (c .shape)
       shape = subst (λ y. doStep y js s .shape ≡ shapeOf (c .shape)) (d .step) (unfold act perform stateOf view in (act-shape s turn js (unfold opens in refl)))
 
-  pub accepts : (r : Answer) (m′ b′ : List ℕ) → firstNo asked ≡ 0 → length (stepBounds x) ≤ length (wordsOf tape)
-      → r .number ≡ 0 → r .taken ≡ length (stepBounds x) → commandOf r ≡ command x → r .found ≡ 0 → length m′ ≡ length m
+  pub accepts : (r : Answer) (m′ b′ : List ℕ) → firstNo asked ≡ 0
+      → r .number ≡ 0 → r .taken ≡ takenOf (draws (stepBounds x) (wordsOf tape)) → commandOf r ≡ command x → r .found ≡ 0 → length m′ ≡ length m
       → Left c (r .client) m m′ (doStep x drawn s) → b′ ≡ handedTo b (written (doStep x drawn s) (command x)) → Performs c s turn m tape b r m′ b′
   unfolding bounds perform sentCommand handed handedFound foundNumber stateOf view
-  accepts r m′ b′ e l n t k u g f h = record {
+  accepts r m′ b′ e n t k u g f h = record {
     refused = λ z. absurd (z n);
     accepted = λ _. record {
       yes = turn-number ∙ e;
-      taken = rw (d .step) (t ∙ sym (taken-all (stepBounds x) (wordsOf tape) l));
+      taken = rw (d .step) t;
       command = rw (d .step) k;
       found = u;
       state = rw (d .step) (f .stands .state);
@@ -234,15 +235,14 @@ module _ (c : Client) (m tape b : List ℕ) (x : Step) (d : Due c m x) where
 
   pub lacks-number : x ≡ noDummy → firstNo (asked c m tape b x d) ≡ 2
   unfolding firstNo
-  lacks-number e = rw e (unfold sends command stepBounds possible in (rw (le-leb 0 (length (wordsOf tape)) (omega arith))))
+  lacks-number e = rw e (unfold sends command stepBounds possible draws isNone in refl)
 
   -- a read
-  pub read-performs : (e : Client) (m′ : List ℕ) (q l i : ℕ) → command x ≡ cmd 1 q l i → sends x ≡ true → possible (stateOf c m) x ≡ true → length (stepBounds x) ≡ 0
+  pub read-performs : (e : Client) (m′ : List ℕ) (q l i : ℕ) → command x ≡ cmd 1 q l i → sends x ≡ true → possible (stateOf c m) x ≡ true → stepBounds x ≡ []
       → length m′ ≡ length m → Left c e m m′ (doStep x (drawn c m tape b x d) (stateOf c m)) → Performs c (stateOf c m) turn m tape b (acceptedWith e 0 1 q l i) m′ b
-  unfolding firstNo
+  unfolding firstNo draws isNone takenOf
   read-performs e m′ q l i k g p n y f = accepts c m tape b x d (acceptedWith e 0 1 q l i) m′ b
-      (rw (g, k, p, n, le-leb 0 (length (wordsOf tape)) (omega arith)))
-      (omega arith) refl (sym n) (sym k) refl y f (rw k (handed-read b (doStep x (drawn c m tape b x d) (stateOf c m)) q l i))
+      (rw (g, k, p, n)) refl (rw n) (sym k) refl y f (rw k (handed-read b (doStep x (drawn c m tape b x d) (stateOf c m)) q l i))
 
   -- a write
   module _ (q l i : ℕ) (k : command x ≡ cmd 2 q l i) (g : sends x ≡ true) where
@@ -250,21 +250,20 @@ module _ (c : Client) (m tape b : List ℕ) (x : Step) (d : Due c m x) where
     unfolding firstNo
     other-buffer n = rw (g, k, ne-eqb (length b) (c .shape .b) n)
 
-    pub few-words : length b ≡ c .shape .b → length (wordsOf tape) < length (stepBounds x) → firstNo (asked c m tape b x d) ≡ 3
-    unfolding firstNo
-    few-words e n = rw (g, k, eq-eqb (length b) (c .shape .b) e, lt-leb (length (stepBounds x)) (length (wordsOf tape)) n)
+    pub few-words : length b ≡ c .shape .b → draws (stepBounds x) (wordsOf tape) ≡ none → firstNo (asked c m tape b x d) ≡ 3
+    unfolding firstNo isNone
+    few-words e n = rw (g, k, eq-eqb (length b) (c .shape .b) e, n)
 
-    pub no-room : length b ≡ c .shape .b → length (stepBounds x) ≤ length (wordsOf tape) → possible (stateOf c m) x ≡ false → firstNo (asked c m tape b x d) ≡ 2
+    pub no-room : length b ≡ c .shape .b → Enough (stepBounds x) (wordsOf tape) → possible (stateOf c m) x ≡ false → firstNo (asked c m tape b x d) ≡ 2
     unfolding firstNo
-    no-room e n p = rw (g, k, eq-eqb (length b) (c .shape .b) e, le-leb (length (stepBounds x)) (length (wordsOf tape)) n, p)
+    no-room e n p = rw (g, k, eq-eqb (length b) (c .shape .b) e, n, p)
 
-    pub write-performs : (e : Client) (m′ b′ : List ℕ) (n : ℕ) → possible (stateOf c m) x ≡ true → length b ≡ c .shape .b → n ≡ length (stepBounds x) → n ≤ length (wordsOf tape)
+    pub write-performs : (e : Client) (m′ b′ : List ℕ) (n : ℕ) → possible (stateOf c m) x ≡ true → length b ≡ c .shape .b → Enough (stepBounds x) (wordsOf tape) → n ≡ takenOf (draws (stepBounds x) (wordsOf tape))
         → length m′ ≡ length m → Left c e m m′ (doStep x (drawn c m tape b x d) (stateOf c m)) → 1 ≤ length b′ → b′ ≡ slotBytes (stateOf e m′) (holder (stateOf e m′) q l i)
         → Performs c (stateOf c m) turn m tape b (acceptedWith e n 2 q l i) m′ b′
     unfolding firstNo
-    write-performs e m′ b′ n p h t w y f o z = accepts c m tape b x d (acceptedWith e n 2 q l i) m′ b′
-        (rw (g, k, eq-eqb (length b) (c .shape .b) h, le-leb (length (stepBounds x)) (length (wordsOf tape)) (omega arith), p))
-        (omega arith) refl t (sym k) refl y f (rw k (handed-write b b′ (doStep x (drawn c m tape b x d) (stateOf c m)) q l i o (z ∙ ap (λ s. slotBytes s (holder s q l i)) (f .stands .state))))
+    write-performs e m′ b′ n p h w t y f o z = accepts c m tape b x d (acceptedWith e n 2 q l i) m′ b′
+        (rw (g, k, eq-eqb (length b) (c .shape .b) h, w, p)) refl t (sym k) refl y f (rw k (handed-write b b′ (doStep x (drawn c m tape b x d) (stateOf c m)) q l i o (z ∙ ap (λ s. slotBytes s (holder s q l i)) (f .stands .state))))
 
 -- ---- The rebuild
 pub rebuilt-stands : (c d : Client) (m m₁ m₂ : List ℕ) (q t n : ℕ) (bs o : List ℕ) (x : Found) → d .shape ≡ c .shape

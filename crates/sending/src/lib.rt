@@ -6,7 +6,7 @@ use client::Request;
 use client::WRITE;
 use contract::Answer;
 ghost use mathlib.Core.Path.{_≡_};
-ghost use Prim.Native.Nat.{_+_, _-_, _<_, _≤_, _^_};
+ghost use Prim.Native.Nat.{_+_, _<_, _≤_, _^_};
 ghost use lib.ListN.{length, take};
 ghost use Rattle.rules.specs.Shape.{slots};
 ghost use Rattle.rules.specs.Setters.{setWaiting};
@@ -15,7 +15,8 @@ ghost use Rattle.rules.specs.Blocks.{holder, slotBytes};
 ghost use Rattle.rules.specs.Rebuild.{gathered, doRebuild};
 ghost use Rattle.rules.specs.Turn.{readForRequest as readForRequestOf, readForJob as readForJobOf, rebuild as rebuildOf, writeNext as writeNextOf};
 ghost use Rattle.rules.specs.Questions.{turn as turnOf};
-ghost use Rattle.rules.specs.Run.{numbersOf};
+ghost use Rattle.rules.specs.Run.{numbersOf, takenOf};
+ghost use Rattle.rules.specs.Laws.Draws.{Enough};
 ghost use Rattle.client.specs.View.{stateOf};
 ghost use Rattle.client.specs.Moves.{Room, Stands};
 ghost use Rattle.tape.specs.Tape.{wordsOf};
@@ -166,7 +167,7 @@ fn write_level(
     k: usize,
     tape: &[u8],
 ) -> Client
-    requires { ⌜ Usable c (now m) × (q < c .shape .p) × (t < c .shape .l) × Chosen (stateOf c (now m)) q x × (take k (now list) ≡ gathered (stateOf c (now m)) q) × (k ≤ 2 ^ t) × (k ≤ length (now list)) × (slots t - 1 ≤ length (wordsOf (now tape))) ⌝ }
+    requires { ⌜ Usable c (now m) × (q < c .shape .p) × (t < c .shape .l) × Chosen (stateOf c (now m)) q x × (take k (now list) ≡ gathered (stateOf c (now m)) q) × (k ≤ 2 ^ t) × (k ≤ length (now list)) × Enough (orderBounds (slots t)) (wordsOf (now tape)) ⌝ }
     ensures { λ r. ⌜ (r .shape ≡ c .shape) × (r .out ≡ c .out) × Stands r (now (m .entry)) (now (m .exit)) (doRebuild q t (newOrder (slots t) (numbersOf (draws (orderBounds (slots t)) (wordsOf (now (tape .entry)))))) (stateOf c (now (m .entry)))) × (r .request ≡ c .request) ⌝ }
 {
     let sources = bits::sources(memory::tables::counter(c.shape, m, q), c.shape.l);
@@ -174,7 +175,7 @@ fn write_level(
     leave(c, m, x).with_sent(1)
 }
 
-// Rebuilds q into level t, and sends the first write.
+// Rebuilds q into level t by an order that takes these words, and sends the first write.
 fn send_rebuild(
     c: Client,
     m: &mut [u8],
@@ -185,18 +186,18 @@ fn send_rebuild(
     x: Found,
     list: &[usize],
     k: usize,
+    words: usize,
 ) -> Answer
-    requires { ⌜ Due c (now m) (rebuildOf q t) × Chosen (stateOf c (now m)) q x × (take k (now list) ≡ gathered (stateOf c (now m)) q) × (k ≤ 2 ^ t) × (k ≤ length (now list)) × (slots t - 1 ≤ length (wordsOf (now tape))) × (length (now buffer) ≡ c .shape .b) ⌝ }
+    requires { ⌜ Due c (now m) (rebuildOf q t) × Chosen (stateOf c (now m)) q x × (take k (now list) ≡ gathered (stateOf c (now m)) q) × (k ≤ 2 ^ t) × (k ≤ length (now list)) × Enough (orderBounds (slots t)) (wordsOf (now tape)) × (words ≡ takenOf (draws (orderBounds (slots t)) (wordsOf (now tape)))) × (length (now buffer) ≡ c .shape .b) ⌝ }
     ensures { λ r. ⌜ Performs c (stateOf c (now (m .entry))) turnOf (now (m .entry)) (now (tape .entry)) (now (buffer .entry)) r (now (m .exit)) (now (buffer .exit)) ⌝ }
 {
-    let words = bits::pow2(t + 1) - 1;
     let d = write_level(c, m, q, t, x, list, k, tape);
     let e = commands::send(d, m, WRITE, q, t, 0);
     put_bytes(e, m, q, t, 0, buffer);
     contract::sent(e, words, WRITE, q, t, 0)
 }
 
-// The rebuild, if enough is lent and the target has room for what it gathers.
+// The rebuild, if the words lent settle its order's draws and the target has room for what it gathers.
 pub fn rebuild(
     c: Client,
     m: &mut [u8],
@@ -211,7 +212,8 @@ pub fn rebuild(
     if buffer.len() != c.shape.b {
         return contract::refused(15, c);
     }
-    if tape::words(tape) < bits::pow2(t + 1) - 1 {
+    let words = tape::order_words(tape, bits::pow2(t + 1));
+    if tape::words(tape) < words {
         return contract::refused(3, c);
     }
     let x = chosen(c, m, q);
@@ -221,5 +223,5 @@ pub fn rebuild(
     if limit < k {
         return contract::refused(2, c);
     }
-    send_rebuild(c, m, tape, buffer, q, t, x, &list, k)
+    send_rebuild(c, m, tape, buffer, q, t, x, &list, k, words)
 }

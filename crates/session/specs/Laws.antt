@@ -1,9 +1,8 @@
 -- How a line's answer comes to be what the definition gives.
 use mathlib.Core.Path.{_≡_, refl, ap, sym, _∙_}
 use mathlib.Core.Bool.{false}
-use mathlib.Core.List.{List, [], _∷_}
-use mathlib.Core.Option.{Option, none, some}
-use Prim.Native.Nat.{ℕ, suc, _+_, _*_, _/_, _-_, _≤_, _<_}
+use mathlib.Core.List.{List, []}
+use Prim.Native.Nat.{ℕ, _+_, _*_, _/_, _-_, _≤_, _<_}
 use native.Mathlib.Omega.{arith}
 use native.Mathlib.Decide.{ℕ-discrete}
 use lib.ListN.{length, getD, take, drop, length-drop}
@@ -11,9 +10,10 @@ use lib.Seq.{drop-drop, getD-drop, ext-getD, take-all}
 use borrow.Author.Tests.{eq-eqb, ne-eqb}
 use Rattle.rules.specs.Shape.{Shape}
 use Rattle.rules.specs.State.{State}
-use Rattle.rules.specs.Draws.{Drawn, draw, draws, drawnFirst}
+use Rattle.rules.specs.Draws.{draws}
+use Rattle.rules.specs.Laws.Drawn.{taken-lent}
 use Rattle.rules.specs.Questions.{Ask, request, Call, bounds, number}
-use Rattle.rules.specs.Run.{Outcome, step, accepted, refused, takenOf, numbersOf}
+use Rattle.rules.specs.Run.{Outcome, step, accepted, refused, numbersOf}
 use Rattle.rules.specs.Laws.Answers.{opens, number-le, step-number, step-accepted, refused-keeps, refused-outcome}
 use Rattle.rules.specs.Laws.Shapes.{act-shape}
 use Rattle.memory.specs.Words.{wordAt}
@@ -58,22 +58,12 @@ words-drop t k l = ext-getD 0 _ _ same at
         word-is (drop (k * 2) t) i (omega (arith, n)) ∙ later i ∙ sym (getD-drop k (wordsOf t) i 0 ∙ word-is t (k + i) (omega (arith, m)))
 
 -- no call takes more words than it is lent
-taken-most : (ms ws : List ℕ) → takenOf (draws ms ws) ≤ length ws
-unfolding draws drawnFirst takenOf
-taken-most [] ws = omega arith
-taken-most (m ∷ ms) [] = omega arith
-taken-most (m ∷ ms) (w ∷ ws) = go (draws ms ws) (taken-most ms ws)
-  where
-    go : (o : Option Drawn) → takenOf o ≤ length ws → takenOf (drawnFirst (draw m w) o) ≤ suc (length ws)
-    go none l = omega arith
-    go (some d) l = omega arith
-
 pub step-taken : (s : State) (c : Call) → step s c .1 .taken ≤ length (c .words)
 unfolding accepted refused
 step-taken s c = go (ℕ-discrete (number s c) 0)
   where
     go : Dec (number s c ≡ 0) → step s c .1 .taken ≤ length (c .words)
-    go (yes z) = rw (step-accepted s c z) (taken-most (bounds s (c .ask)) (c .words))
+    go (yes z) = rw (step-accepted s c z) (taken-lent (bounds s (c .ask)) (c .words))
     go (no n) = rw (refused-outcome s c n) (omega arith)
 
 -- no call but an open changes the shape

@@ -1,1 +1,2 @@
 pub mod Tape
+pub mod Settled

@@ -1,8 +1,12 @@
 // The tape: 16-bit words as pairs of bytes, low byte first. An odd last byte is no word.
 ghost use mathlib.Core.Path.{_≡_};
-ghost use Prim.Native.Nat.{_%_, _<_};
+ghost use Prim.Native.Nat.{_%_, _<_, _≤_};
 ghost use lib.ListN.{length, getD};
+ghost use lib.Dec.{leb};
+ghost use Rattle.rules.specs.Draws.{limit, orderBounds};
+ghost use Rattle.rules.specs.Laws.Drawn.{SettledBy};
 ghost use Rattle.tape.specs.Tape.{wordsOf};
+ghost use Rattle.tape.specs.Settled.{Counts};
 
 // How many words there are.
 pub fn words(t: &[u8]) -> usize
@@ -11,10 +15,54 @@ pub fn words(t: &[u8]) -> usize
     t.len() / 2
 }
 
-// A draw below `bound`, by word k.
+// Whether a draw below `bound` passes over the word w. The limit is above 65,536 less the bound, so that most words cost no division.
+fn passed(w: usize, bound: usize) -> bool
+    requires { ⌜ (w < 65536) × (0 < bound) × (bound ≤ 65536) ⌝ }
+    ensures { λ r. ⌜ r ≡ leb (limit bound) w ⌝ }
+{
+    if w + bound <= 65536 {
+        return false;
+    }
+    65536 / bound * bound <= w
+}
+
+// The word that settles a draw below `bound`: the first from word k on that is not passed over. There is none if the result is no word.
+pub fn settle(t: &[u8], k: usize, bound: usize) -> usize
+    requires { ⌜ (0 < bound) × (bound ≤ 65536) ⌝ }
+    ensures { λ r. ⌜ SettledBy bound (wordsOf (now (t .entry))) k r ⌝ }
+{
+    let n = words(t);
+    let mut i = k;
+    while i < n {
+        if !passed(memory::word(t, i), bound) {
+            return i;
+        }
+        i += 1;
+    }
+    i
+}
+
+// The number that word k gives in a draw below `bound`.
 pub fn draw(t: &[u8], k: usize, bound: usize) -> usize
     requires { ⌜ (k < length (wordsOf (now t))) × (0 < bound) ⌝ }
     ensures { λ r. ⌜ (r ≡ getD (wordsOf (now (t .entry))) k 0 % bound) × (r < bound) ⌝ }
 {
     memory::word(t, k) % bound
+}
+
+// How many words the draws of an order of n slots take, passed ones counted; or more than there are, if they end before the last draw is settled.
+pub fn order_words(t: &[u8], n: usize) -> usize
+    requires { ⌜ n ≤ 65536 ⌝ }
+    ensures { λ r. ⌜ Counts (orderBounds n) (wordsOf (now (t .entry))) r ⌝ }
+{
+    let mut k = 0;
+    let mut bound = n;
+    while 1 < bound {
+        k = settle(t, k, bound) + 1;
+        if words(t) < k {
+            return k;
+        }
+        bound -= 1;
+    }
+    k
 }

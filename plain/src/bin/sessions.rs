@@ -1,14 +1,17 @@
 //! Writes random sessions with their outcomes for the proof checker, to the
 //! directory named by the first argument. Among many seeds it chooses those
 //! whose sessions tell the planted mistakes from the right rules: first by the
-//! rules of document 01, then by where blocks are found (document 02, P2).
+//! rules of document 01, then by where blocks are found (document 02, P2) and
+//! by which words draws pass over (P3).
 
 use plain::antt;
 use plain::calls::{Ask, Call, Outcome, Store};
+use plain::draws::{WIDTH, limit};
 use plain::found::Found;
 use plain::mistakes::Mistake;
 use plain::script::{Script, replay};
 use plain::shape::Shape;
+use plain::state::State;
 use std::path::Path;
 use std::process::ExitCode;
 
@@ -36,7 +39,12 @@ const FOUND_PLANS: [Plan; 2] = [
     (Shape::new(1, 2, 3, 1, 1, 3), None, 60),
 ];
 
+/// That of the session for draws: its orders have up to eight slots.
+const DRAW_PLANS: [Plan; 1] = [(Shape::new(1, 1, 3, 1, 1, 3), None, 56)];
+
 const SEEDS: u64 = 3000;
+/// Few sessions have all marks of draws.
+const DRAW_SEEDS: u64 = 9000;
 const MOST_LINES: usize = 399;
 
 /// The numbers that have to occur; 7 needs 63 jobs queued.
@@ -51,6 +59,12 @@ enum Mark {
     /// The request was held: where its block was at acceptance, and where it
     /// was found.
     Held(Found, Found),
+    /// A draw below this passed a word over.
+    Passed(usize),
+    /// After that, the last draw was settled by the last word lent.
+    LastWord,
+    /// A turn lent as many words as it makes draws, or more, was answered 3.
+    Unsettled,
 }
 
 /// The marks that have to occur in what is found.
@@ -66,27 +80,48 @@ const FOUND_MARKS: [Mark; 9] = [
     Mark::Held(Found::Level(0), Found::Level(1)),
 ];
 
+/// The marks that have to occur in what is drawn. The bounds of orders that
+/// are not here divide 2^16.
+const DRAW_MARKS: [Mark; 6] = [
+    Mark::Passed(3),
+    Mark::Passed(5),
+    Mark::Passed(6),
+    Mark::Passed(7),
+    Mark::LastWord,
+    Mark::Unsettled,
+];
+
 /// Sessions to choose, and what they have to tell and to have among them.
 struct Group {
     plans: &'static [Plan],
+    seeds: u64,
     mistakes: Vec<Mistake>,
     marks: Vec<Mark>,
 }
 
-fn groups() -> [Group; 2] {
-    let of_document_01 = |mistake: &Mistake| !Mistake::FOUND.contains(mistake);
+fn groups() -> [Group; 3] {
+    let later = [&Mistake::FOUND[..], &Mistake::DRAWS].concat();
+    let of_document_01 = |mistake: &Mistake| !later.contains(mistake);
     let mistakes = Mistake::ALL.into_iter().filter(of_document_01);
     let first = Group {
         plans: &PLANS,
+        seeds: SEEDS,
         mistakes: mistakes.collect(),
         marks: NUMBERS.map(Mark::Number).to_vec(),
     };
     let found = Group {
         plans: &FOUND_PLANS,
+        seeds: SEEDS,
         mistakes: Mistake::FOUND.to_vec(),
         marks: FOUND_MARKS.to_vec(),
     };
-    [first, found]
+    let draws = Group {
+        plans: &DRAW_PLANS,
+        seeds: DRAW_SEEDS,
+        mistakes: Mistake::DRAWS.to_vec(),
+        marks: DRAW_MARKS.to_vec(),
+    };
+    [first, found, draws]
 }
 
 struct Session {
@@ -119,9 +154,11 @@ fn marks(calls: &[Call], outcomes: &[Outcome]) -> Vec<Mark> {
     let mut store = Store::new(Mistake::None);
     let mut held = None;
     for (call, outcome) in calls.iter().zip(outcomes) {
+        let draws = store.state.as_ref().map(State::turn_bounds);
         store.call(call);
         marks.push(Mark::Number(outcome.number));
         match call.ask {
+            Ask::Turn => marks.extend(of_turn(&draws.unwrap_or_default(), call, outcome)),
             _ if outcome.number != 0 => {}
             Ask::Request { block, .. } => held = held_at(&store, block),
             Ask::Collect => {
@@ -132,6 +169,28 @@ fn marks(calls: &[Call], outcomes: &[Outcome]) -> Vec<Mark> {
         }
     }
     marks
+}
+
+/// What the draws of a turn, below these bounds, did with its words.
+fn of_turn(bounds: &[usize], call: &Call, outcome: &Outcome) -> Vec<Mark> {
+    let lent = call.words.len();
+    match outcome.number {
+        0 if outcome.taken > bounds.len() => {}
+        3 if lent >= bounds.len() => return vec![Mark::Unsettled],
+        _ => return Vec::new(),
+    }
+    let mut words = call.words.iter();
+    let mut passed = Vec::new();
+    for m in bounds {
+        let below = |word: &u16| usize::from(*word) < limit(*m, WIDTH);
+        if words.position(below) > Some(0) {
+            passed.push(Mark::Passed(*m));
+        }
+    }
+    if outcome.taken == lent {
+        passed.push(Mark::LastWord);
+    }
+    passed
 }
 
 /// Where the block of a request that is held was at acceptance.
@@ -166,7 +225,7 @@ impl Group {
     fn choose(&self) -> Vec<Session> {
         let mut chosen: Vec<Session> = Vec::new();
         for plan in self.plans {
-            let seeds = (0..SEEDS).map(|seed| session(plan, seed));
+            let seeds = (0..self.seeds).map(|seed| session(plan, seed));
             if let Some(best) = seeds.max_by_key(|s| self.worth(s, &chosen)) {
                 chosen.push(best);
             }
@@ -224,7 +283,7 @@ fn print_told(sessions: &[Session]) {
         let told = those(sessions, |session| session.told.contains(&mistake));
         println!("{mistake:?}: told by sessions {told:?}");
     }
-    for mark in FOUND_MARKS {
+    for mark in FOUND_MARKS.into_iter().chain(DRAW_MARKS) {
         let marked = those(sessions, |session| session.marks.contains(&mark));
         println!("{mark:?}: in sessions {marked:?}");
     }

@@ -1,14 +1,14 @@
-//! Runs pairs of compared lists with every tape of drawn numbers and compares
-//! the transcripts: with the right rules each occurs equally often in both
-//! lists, and with each of some planted mistakes some pair differs.
+//! Runs pairs of compared lists with every tape of words, for words of few
+//! bits, and compares the transcripts: with the right rules each occurs equally
+//! often in both lists. With each of some planted mistakes some pair differs,
+//! and so it does for a caller who lends words again.
 
-use plain::calls::{Call, Outcome, Store};
-use plain::lists::{Pair, layered, pair};
+use plain::lists::{Pair, drawn_again, layered, lent_again, pair, two_stored};
 use plain::mistakes::Mistake;
-use plain::rng::Rng;
 use plain::shape::Shape;
-use plain::state::Command;
-use std::collections::HashMap;
+use plain::transcripts::Transcripts;
+use plain::walk::transcripts;
+use plain::words::{Caller, Words};
 use std::process::ExitCode;
 
 const SHAPES: [Shape; 10] = [
@@ -25,11 +25,18 @@ const SHAPES: [Shape; 10] = [
 ];
 
 const PAIRS: usize = 400;
-/// A list with more tapes than this is left out.
-const MOST_TAPES: u64 = 100_000;
+/// The bits of the largest words.
+const WIDEST: u32 = 3;
+/// In so many pairs at least a word has to be passed over, and in so many a
+/// turn lent as many words as it makes draws has to be answered 3.
+const FEWEST: usize = 100;
 
-/// The mistakes that demand 3 itself has to shut out.
-const TOLD: [Mistake; 7] = [
+/// The mistakes that demand 3 itself has to shut out. With words of few bits
+/// draws are far from even if words that should be passed over are taken: the
+/// slot of the third item of an order of four is then told from the others'. A
+/// word passed over that does not count is followed by words that were drawn
+/// from and are lent again, as the caller goes by the count.
+const TOLD: [Mistake; 10] = [
     Mistake::LowestDummySlot,
     Mistake::WaitingSendsNothing,
     Mistake::FinishedEarly,
@@ -37,175 +44,159 @@ const TOLD: [Mistake; 7] = [
     Mistake::OrderDrawnOnce,
     Mistake::KeepsPartition,
     Mistake::DrawBelowI,
+    Mistake::LimitTaken,
+    Mistake::PassedNotCounted,
+    Mistake::NothingPassed,
 ];
 
-/// What is compared at each place: number, count of words, command. Where a
-/// block was found is not told to the host, and may differ between the lists.
-type Event = (u8, usize, Command);
+/// A pair, and at how many different runs its lists end.
+type Limited = (Pair, usize);
 
-/// The transcripts met, as a tree: a transcript is a node, and so is each of
-/// its beginnings. At the ends, how many tapes of each list lead there.
+/// Pairs made for some of these, then random ones of all shapes in turn, with
+/// words of all widths in which the largest bound can be drawn. An order of
+/// four slots makes many runs, so lists for two levels have more of them.
+fn pairs() -> impl Iterator<Item = Limited> {
+    let made = [
+        layered(2),
+        two_stored(2),
+        lent_again(),
+        drawn_again(),
+        two_stored(3),
+        layered(3),
+    ];
+    let random = (0..).map(|seed: usize| {
+        let (shape, round) = (SHAPES[seed % SHAPES.len()], seed / SHAPES.len());
+        let least = shape.levels as u32;
+        let width = least + round as u32 % (WIDEST + 1 - least);
+        let most = if shape.levels == 1 { 1_000 } else { 4_000 };
+        (pair(shape, width, seed as u64), most)
+    });
+    let made = made.map(|pair| (pair, usize::MAX));
+    made.into_iter().chain(random)
+}
+
+/// Goes over the tapes of pairs. The words of each width are gone over once
+/// for all of them.
+struct Tapes {
+    words: [Words; WIDEST as usize],
+}
+
+impl Tapes {
+    fn new(mistake: Mistake, caller: Caller) -> Tapes {
+        let words = |index: usize| Words::new(index as u32 + 1, mistake, caller);
+        Tapes {
+            words: std::array::from_fn(words),
+        }
+    }
+
+    fn transcripts(&mut self, (pair, most): &Limited) -> Transcripts {
+        transcripts(pair, &mut self.words[pair.width as usize - 1], *most)
+    }
+
+    /// The first of the pairs whose lists are told apart.
+    fn first_told(&mut self, pairs: &[Limited]) -> Option<usize> {
+        let mut pairs = pairs.iter();
+        pairs.position(|pair| !self.transcripts(pair).equal())
+    }
+}
+
+/// What was met in pairs with the right rules.
 #[derive(Default)]
-struct Transcripts {
-    nodes: HashMap<(usize, Event), usize>,
-    ends: HashMap<usize, [u64; 2]>,
+struct Met {
+    pairs: Vec<Limited>,
+    widths: [usize; WIDEST as usize],
+    calls: usize,
+    transcripts: usize,
+    tapes: f64,
+    longest: usize,
+    passed: usize,
+    unsettled: usize,
 }
 
-impl Transcripts {
-    fn after(&mut self, node: usize, outcome: &Outcome) -> usize {
-        let event = (outcome.number, outcome.taken, outcome.command);
-        let new = self.nodes.len() + 1;
-        *self.nodes.entry((node, event)).or_insert(new)
+impl Met {
+    fn add(&mut self, pair: Limited, found: &Transcripts) {
+        let (tapes, longest) = found.tapes();
+        self.widths[pair.0.width as usize - 1] += 1;
+        self.calls += found.places;
+        self.transcripts += found.count();
+        self.tapes += tapes;
+        self.longest = self.longest.max(longest);
+        self.passed += usize::from(found.passed);
+        self.unsettled += usize::from(found.unsettled);
+        self.pairs.push(pair);
     }
 
-    fn equal(&self) -> bool {
-        self.ends.values().all(|[left, right]| left == right)
-    }
-}
-
-/// A walk over all tapes of one list.
-struct Walk<'a> {
-    calls: &'a [Call],
-    side: usize,
-    found: &'a mut Transcripts,
-    rng: Rng,
-    tapes: u64,
-}
-
-impl Walk<'_> {
-    fn go(&mut self, mut store: Store, mut place: usize, mut node: usize) {
-        while let Some(call) = self.calls.get(place) {
-            if store.may_draw(call) {
-                let mut trial = store.clone();
-                trial.call(call);
-                if !trial.bounds.is_empty() {
-                    return self.branch(&store, &trial.bounds, place, node);
-                }
-            }
-            let outcome = store.call(call);
-            node = self.found.after(node, &outcome);
-            place += 1;
-        }
-        self.found.ends.entry(node).or_default()[self.side] += 1;
-        self.tapes += 1;
-    }
-
-    /// Goes on with each sequence of numbers below the bounds of a call.
-    fn branch(&mut self, store: &Store, bounds: &[usize], place: usize, node: usize) {
-        let sequences = bounds.iter().product();
-        for sequence in 0..sequences {
-            if self.tapes > MOST_TAPES {
-                return;
-            }
-            let mut call = self.calls[place].clone();
-            call.words = self.words(sequence, bounds, call.words.len());
-            let mut next = store.clone();
-            let outcome = next.call(&call);
-            let node = self.found.after(node, &outcome);
-            self.go(next, place + 1, node);
-        }
-    }
-
-    /// Any words that give these numbers, then any others.
-    fn words(&mut self, mut sequence: usize, bounds: &[usize], lent: usize) -> Vec<u16> {
-        let mut words = self.rng.words(lent);
-        for (word, m) in words.iter_mut().zip(bounds) {
-            let number = sequence % m;
-            sequence /= m;
-            let times = usize::from(*word) / m;
-            // A last incomplete run of m words may be cut off: take the first.
-            let sum = times * m + number;
-            *word = u16::try_from(sum).unwrap_or(number as u16);
-        }
-        words
+    fn print(&self) {
+        let (pairs, calls) = (self.pairs.len(), self.calls / self.pairs.len());
+        let [one, two, three] = self.widths;
+        println!("None: {pairs} pairs of lists of {calls} calls on average are equal");
+        println!("None: words of 1 bit in {one} pairs, 2 in {two}, 3 in {three}");
+        println!(
+            "None: {} transcripts in all, of {:.1e} tapes of at most {} words",
+            self.transcripts, self.tapes, self.longest
+        );
+        println!("None: a word is passed over in {} pairs", self.passed);
+        println!(
+            "None: a turn with a word for each draw is answered 3 in {} pairs",
+            self.unsettled
+        );
     }
 }
 
-/// The transcripts of both lists and the larger count of tapes, or nothing if
-/// a list has too many tapes.
-fn enumerate(pair: &Pair, mistake: Mistake) -> Option<(Transcripts, u64)> {
-    let mut found = Transcripts::default();
-    let mut most = 0;
-    for (side, calls) in pair.sides.iter().enumerate() {
-        let mut walk = Walk {
-            calls,
-            side,
-            found: &mut found,
-            rng: Rng::new(side as u64),
-            tapes: 0,
-        };
-        walk.go(Store::new(mistake), 0, 0);
-        most = most.max(walk.tapes);
-    }
-    (most <= MOST_TAPES).then_some((found, most))
-}
-
-/// Pairs of all shapes in turn; one round in four has more tapes.
-fn pairs() -> impl Iterator<Item = Pair> {
-    (0..).map(|seed: usize| {
-        let shape = SHAPES[seed % SHAPES.len()];
-        let round = seed / SHAPES.len();
-        if round % 8 == 2 && shape.partitions == 2 && shape.levels == 2 {
-            return layered(shape, seed as u64);
-        }
-        let budget = if round % 4 == 1 { 8_000.0 } else { 800.0 };
-        pair(shape, seed as u64, budget)
-    })
-}
-
-/// Compares the lists with the right rules; hands back the pairs compared.
-fn honest() -> Result<Vec<Pair>, String> {
-    let (mut compared, mut tapes, mut most) = (Vec::new(), 0, 0);
-    let (mut calls, mut left_out) = (0, 0);
-    for (index, pair) in pairs().enumerate() {
-        let Some((found, count)) = enumerate(&pair, Mistake::None) else {
-            left_out += 1;
-            continue;
-        };
-        if !pair.is_compared() {
+/// Compares the lists with the right rules.
+fn honest() -> Result<Met, String> {
+    let mut tapes = Tapes::new(Mistake::None, Caller::MovesOn);
+    let mut met = Met::default();
+    for (index, pair) in pairs().take(PAIRS).enumerate() {
+        if !pair.0.is_compared() {
             return Err(format!("pair {index} has no compared lists"));
         }
-        if !found.equal() {
-            return Err(format!("None: pair {index} of {:?} differs", pair.shape));
+        let found = tapes.transcripts(&pair);
+        if !found.equal() || !found.equally_long {
+            return Err(format!("None: pair {index} of {:?} differs", pair.0.shape));
         }
-        tapes += found.ends.values().flatten().sum::<u64>();
-        most = most.max(count);
-        calls += pair.sides[0].len();
-        compared.push(pair);
-        if compared.len() == PAIRS {
-            break;
-        }
+        met.add(pair, &found);
     }
-    println!(
-        "None: {PAIRS} pairs of lists of {} calls on average are equal",
-        calls / PAIRS
-    );
-    println!("None: {tapes} tapes in all, at most {most} a list; {left_out} pairs left out");
-    Ok(compared)
+    met.print();
+    if met.passed.min(met.unsettled) < FEWEST {
+        return Err(format!("None: fewer than {FEWEST} pairs of either kind"));
+    }
+    Ok(met)
+}
+
+/// Says by which pair lists are told apart, and whether there is one.
+fn print_told(mistake: Mistake, caller: Caller, pairs: &[Limited]) -> bool {
+    let told = Tapes::new(mistake, caller).first_told(pairs);
+    match told {
+        Some(index) => {
+            let Pair { shape, width, .. } = &pairs[index].0;
+            println!(
+                "{mistake:?}, {caller:?}: told apart by pair {index}, width {width}, {shape:?}"
+            );
+        }
+        None => println!("{mistake:?}, {caller:?}: not told apart"),
+    }
+    told.is_some()
 }
 
 fn main() -> ExitCode {
     let pairs = match honest() {
-        Ok(pairs) => pairs,
+        Ok(met) => met.pairs,
         Err(error) => {
             eprintln!("{error}");
             return ExitCode::FAILURE;
         }
     };
-    let mut code = ExitCode::SUCCESS;
-    for mistake in TOLD {
-        let differs =
-            |pair: &Pair| enumerate(pair, mistake).is_some_and(|(found, _)| !found.equal());
-        match pairs.iter().position(differs) {
-            Some(index) => println!(
-                "{mistake:?}: told apart by pair {index}, {:?}",
-                pairs[index].shape
-            ),
-            None => {
-                println!("{mistake:?}: not told apart");
-                code = ExitCode::FAILURE;
-            }
-        }
+    let mistakes = TOLD.map(|mistake| (mistake, Caller::MovesOn));
+    // With the right rules too, if words are lent again.
+    let wrong = mistakes
+        .into_iter()
+        .chain([(Mistake::None, Caller::LendsAgain)]);
+    let told: Vec<bool> = wrong
+        .map(|(mistake, caller)| print_told(mistake, caller, &pairs))
+        .collect();
+    match told.contains(&false) {
+        true => ExitCode::FAILURE,
+        false => ExitCode::SUCCESS,
     }
-    code
 }

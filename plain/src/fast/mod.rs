@@ -1,8 +1,8 @@
 //! A fast plain implementation of document 01's block store, for benchmarks,
-//! with where a block was found (document 02, P2). It answers the documents'
-//! numbers. It owns its memory, so the questions about the length of lent
-//! memory are left out, and as a refused open hands back no store, so is the
-//! closed state.
+//! with where a block was found and even draws (document 02, P2 and P3). It
+//! answers the documents' numbers. It owns its memory, so the questions about
+//! the length of lent memory are left out, and as a refused open hands back no
+//! store, so is the closed state.
 //!
 //! A slot has an index in its partition like a node in a heap: slot s of
 //! level l is at 2^(l+1) + s. A rebuild's reads, levels ascending and slots
@@ -38,6 +38,7 @@ pub struct Answer {
     pub number: u8,
     /// 0 nowhere, 1 in the cache, 2 + l in level l. A refusal tells 0.
     pub found: u8,
+    /// A call is to be lent at most 65,535 words, so that these can be counted.
     pub taken: u16,
     pub command: Command,
 }

@@ -11,8 +11,7 @@ impl Store {
             return Answer::refused(15);
         }
         let target = self.job.target;
-        let draws = (2 << target) - 1;
-        let Some(words) = words.get(..draws) else {
+        let Some(taken) = self.draw_order(words) else {
             return Answer::refused(3);
         };
         let chosen = self.chosen();
@@ -23,7 +22,6 @@ impl Store {
             self.take(chosen);
         }
         self.gathered[..self.job.count].sort_unstable();
-        self.draw_order(words);
         self.place();
         self.job.phase = Phase::Write;
         self.job.left = 2 << target;
@@ -33,7 +31,7 @@ impl Store {
             level: target as u8,
             slot: 0,
         };
-        self.write(buffer, draws as u16)
+        self.write(buffer, taken as u16)
     }
 
     /// The waiting block that the job takes, or NONE.
@@ -57,8 +55,10 @@ impl Store {
         self.job.room = room;
     }
 
-    /// Draws the target's order.
-    fn draw_order(&mut self, words: &[u16]) {
+    /// Draws the target's order and hands back the words taken, if they
+    /// settle it. The order that the target had is read no more, so that it
+    /// may be lost even if they don't.
+    fn draw_order(&mut self, words: &[u16]) -> Option<usize> {
         let Job { base, target, .. } = self.job;
         let first = base + (2 << target);
         let slot_of = &mut self.slot_of[first..first + (2 << target)];
@@ -66,11 +66,18 @@ impl Store {
             *slot = item;
         }
         let inverse = &self.inverse[..=slot_of.len()];
-        for (i, word) in (1..slot_of.len()).rev().zip(words) {
-            let part = inverse[i + 1].wrapping_mul(u32::from(*word));
-            let j = (u64::from(part) * (i as u64 + 1)) >> 32;
+        let mut left = words.iter();
+        for i in (1..slot_of.len()).rev() {
+            let m = i as u32 + 1;
+            let mut word = u32::from(*left.next()?);
+            while is_passed(word, m) {
+                word = u32::from(*left.next()?);
+            }
+            let part = inverse[i + 1].wrapping_mul(word);
+            let j = (u64::from(part) * u64::from(m)) >> 32;
             slot_of.swap(i, j as usize);
         }
+        Some(words.len() - left.len())
     }
 
     /// Gives the gathered blocks their new place.
@@ -101,4 +108,11 @@ impl Store {
             _ => partition.unread[1 << (target - 5)..2 << (target - 5)].fill(!0),
         }
     }
+}
+
+/// Whether a draw below m passes the word over. The limit is above 2^16 - m,
+/// so that it is seldom computed.
+#[inline]
+fn is_passed(word: u32, m: u32) -> bool {
+    word + m > 1 << 16 && word >= (1 << 16) - (1 << 16) % m
 }

@@ -17,7 +17,7 @@ collect-requires : tie.Need-collect-requires
 collect-requires c κs = omega arith
 
 hand-back-requires : tie.Need-hand-back-requires
-hand-back-requires c κs = (omega arith, meets-small _ _ _ _ _ _ _ _ _ (c .before .before .before .before .before .collect .ensures))
+hand-back-requires c κs = (omega arith, meets-small _ _ _ _ [] _ _ _ _ (c .before .before .before .before .before .collect .ensures))
 
 same-length : tie.Need-same-length
 same-length c = omega arith

@@ -1,4 +1,5 @@
-use mathlib.Core.Path.{refl}
+use mathlib.Core.Path.{refl, sym}
+use lib.Seq.{length-take-le}
 use Rattle.rules.specs.Shape.{within}
 use Rattle.exports.specs.Exported.{one-or-two, exported-open, numbers, meets-small}
 use native.Mathlib.Omega.{arith}
@@ -17,11 +18,20 @@ returns c =
 refuse-state-requires : tie.Need-refuse-state-requires
 refuse-state-requires c κs = omega arith
 
+looked-at-requires : tie.Need-looked-at-requires
+looked-at-requires c κs = omega arith
+
+slice-aggregate-open : tie.Need-slice-aggregate-open
+slice-aggregate-open c = sym (length-take-le _ _ (c .before .looked-at .ensures .0))
+
 open-requires : tie.Need-open-requires
 open-requires c κs = omega arith
 
 hand-back-opened-requires : tie.Need-hand-back-opened-requires
-hand-back-opened-requires c κs = (omega arith, meets-small _ _ _ _ _ _ _ _ _ (c .before .before .before .«open» .ensures))
+hand-back-opened-requires c κs =
+    let l = c .before .before .before .before .before .looked-at in
+    let a = c .before .before .before .before .before .before .before .before .before .before .before .args in
+    (omega arith, meets-small _ _ _ _ (a .tape .now) _ _ _ _ (rw (l .ensures .1 (a .tape .now) refl) at (c .before .before .before .«open» .ensures)))
 
 same-length : tie.Need-same-length
 same-length c = omega arith
@@ -36,8 +46,9 @@ returns-2 : tie.Need-returns-2
 returns-2 c =
     let d = c .before .before in
     let o = d .before .before .before .before in
-    let a = o .before .before .before .before .before .before .args in
-    exported-open (numbers (a .n) (a .p) (a .l) (a .b) (a .e) (a .w)) (a .state .now) (a .memory .now) (a .tape .now) (o .«open» .result) (d .hand-back-opened .result) _ _ (omega arith) (o .«open» .ensures) (d .hand-back-opened .ensures)
+    let l = o .before .before .looked-at in
+    let a = c .before .before .before .before .before .before .before .before .before .before .before .before .before .before .args in
+    exported-open (numbers (a .n) (a .p) (a .l) (a .b) (a .e) (a .w)) (a .state .now) (a .memory .now) (a .tape .now) (o .«open» .result) (d .hand-back-opened .result) _ _ (omega arith) (rw (l .ensures .1 (a .tape .now) refl) at (o .«open» .ensures)) (d .hand-back-opened .ensures)
 
 pub rinwolfedd-open-spec : {M : Type 1} → statement M
 rinwolfedd-open-spec =
@@ -46,6 +57,8 @@ rinwolfedd-open-spec =
     refuse-state-requires
     same-length
     returns
+    looked-at-requires
+    slice-aggregate-open
     open-requires
     hand-back-opened-requires
     same-length-2

@@ -1,7 +1,7 @@
 -- What bytes a completion brings, and which contents a request has, changes nothing of what is told: calls that differ only in these have the
--- same numbers, draws and commands from states that differ only in the bytes they keep, and leave such states.
+-- same numbers, counts of words and commands, and use up the same words, from states that differ only in the bytes they keep, and leave such states.
 use mathlib.Core.Path.{_≡_, refl, ap, ap₂, sym, _∙_}
-use mathlib.Core.Bool.{Bool, true, false, not, _&&_}
+use mathlib.Core.Bool.{Bool, true, false, not, _&&_, true≢false}
 use mathlib.Core.List.{List, [], _∷_, map, _++_}
 use mathlib.Core.Option.{Option, none, some, Option·map}
 use Prim.Native.Nat.{ℕ}
@@ -20,12 +20,31 @@ use Rattle.rules.specs.Run
 use Rattle.rules.specs.Run.{Outcome, act, step, run}
 use Rattle.rules.specs.Setters.{_▷_, setBytes, setRequest}
 use Rattle.rules.specs.State.{State, Request, Command}
+use Rattle.rules.specs.Shape.{Shape}
+use Rattle.rules.specs.Laws.Answers.{opens}
 use Rattle.rules.specs.Turn
 use Rattle.rules.specs.Turn.{Step, idle, noDummy, readForRequest, readForJob, rebuild, writeNext, decide, doStep}
 use Rattle.rules.specs.Blocks
 use Rattle.rules.specs.Request
 use Rattle.hiding.specs.Claim
-use Rattle.hiding.specs.Claim.{Outline, anOpen, aRequest, aTurn, aCompletion, aCollect, outline, zeroed, told, drawsOf, drawsIn, Twin, Twins}
+use Rattle.hiding.specs.Claim.{Outline, anOpen, aRequest, aTurn, aCompletion, aCollect, outline, isTurn, used, usedBy, tapeOf, told, Twin, Twins}
+
+-- what is asked, with zeros for bytes
+abbrev pub zeroed : Outline → Ask
+zeroed (anOpen h) = opening h
+zeroed (aRequest k b n) = request k b (replicate n 0)
+zeroed aTurn = turn
+zeroed (aCompletion c n) = completion c (replicate n 0)
+zeroed aCollect = collect
+
+-- which asks are an open
+pub open-ask : (h : Shape) (a : Ask) → outline a ≡ anOpen h → a ≡ opening h
+unfolding opens
+open-ask h (opening g) e = ap zeroed e
+open-ask h (request k b bs) e = absurd (true≢false (sym (ap (λ o. opens (zeroed o)) e)))
+open-ask h turn e = absurd (true≢false (sym (ap (λ o. opens (zeroed o)) e)))
+open-ask h (completion c bs) e = absurd (true≢false (sym (ap (λ o. opens (zeroed o)) e)))
+open-ask h collect e = absurd (true≢false (sym (ap (λ o. opens (zeroed o)) e)))
 
 -- a state without the bytes it keeps: of a request's contents the length stays
 abbrev pub zeroBytes : Request → Request
@@ -45,16 +64,11 @@ bareAsk a = zeroed (outline a)
 abbrev pub bareCall : Call → Call
 bareCall c = record { ask = bareAsk (c .ask); memory = c .memory; words = c .words; buffer = c .buffer }
 
-length-zeros : (bs : List ℕ) → length {A = ℕ} (replicate (length bs) 0) ≡ length bs
-length-zeros bs = let z : ℕ = 0 in length-replicate (length bs) z
+pub zeros-length : (n : ℕ) → length {A = ℕ} (replicate n 0) ≡ n
+zeros-length n = let z : ℕ = 0 in length-replicate n z
 
--- zeros for bytes are as many
-pub outline-zeroed : (o : Outline) → outline (zeroed o) ≡ o
-outline-zeroed (anOpen h) = refl
-outline-zeroed (aRequest k b n) = let z : ℕ = 0 in ap (aRequest k b) (length-replicate n z)
-outline-zeroed aTurn = refl
-outline-zeroed (aCompletion c n) = let z : ℕ = 0 in ap (aCompletion c) (length-replicate n z)
-outline-zeroed aCollect = refl
+length-zeros : (bs : List ℕ) → length {A = ℕ} (replicate (length bs) 0) ≡ length bs
+length-zeros bs = zeros-length (length bs)
 
 -- ---- what is asked of a state
 
@@ -233,11 +247,10 @@ module _ (s : State) where
   -- a call with zeros, from the state without its bytes
   pub record Bare (c : Call) : Type 0 where
     pub tells : told (step (bare s) (bareCall c) .1) ≡ told (step s c .1)
-    pub draws : drawsOf (bare s) (bareCall c) ≡ drawsOf s c
     pub next : bare (step (bare s) (bareCall c) .0) ≡ bare (step s c .0)
 
   step-bare : (c : Call) → Bare c
-  unfolding step Run.accepted Run.refused drawsOf
+  unfolding step Run.accepted Run.refused
   step-bare c = go (eqb (number s c) 0) refl
     where
       n : number (bare s) (bareCall c) ≡ number s c
@@ -249,12 +262,10 @@ module _ (s : State) where
       go : (t : Bool) → eqb (number s c) 0 ≡ t → Bare c
       go true e = record {
         tells = rw (n, e, bounds-bare s (c .ask), sent-bare s (c .ask));
-        draws = rw (n, e, bounds-bare s (c .ask));
         next = rw (n, e, bounds-bare s (c .ask)) (act-bare (c .ask) js);
       }
       go false e = record {
         tells = rw (n, e);
-        draws = rw (n, e);
         next = rw (n, e) (refuse-bare (c .ask));
       }
 
@@ -262,6 +273,14 @@ module _ (s : State) where
 
 twin-bare : (c d : Call) → Twin c d → bareCall c ≡ bareCall d
 twin-bare c d t = λ i. record { ask = zeroed (t .ask i); memory = t .memory i; words = t .words i; buffer = t .buffer i }
+
+pub turn-bare : (a : Ask) → isTurn (bareAsk a) ≡ isTurn a
+unfolding isTurn
+turn-bare (opening h) = refl
+turn-bare (request k b bs) = refl
+turn-bare turn = refl
+turn-bare (completion c bs) = refl
+turn-bare collect = refl
 
 -- two calls, from two states
 module _ (c d : Call) (t : Twin c d) (s s′ : State) (e : bare s ≡ bare s′) where
@@ -274,8 +293,11 @@ module _ (c d : Call) (t : Twin c d) (s s′ : State) (e : bare s ≡ bare s′)
   pub twin-next : bare (step s c .0) ≡ bare (step s′ d .0)
   twin-next = sym (step-bare s c .next) ∙ ap (λ (r : State × Outcome). bare (r .0)) same-step ∙ step-bare s′ d .next
 
-  pub twin-draws : drawsOf s c ≡ drawsOf s′ d
-  twin-draws = sym (step-bare s c .draws) ∙ (λ i. drawsOf (e i) (twin-bare c d t i)) ∙ step-bare s′ d .draws
+  same-turn : isTurn (c .ask) ≡ isTurn (d .ask)
+  same-turn = sym (turn-bare (c .ask)) ∙ ap (λ (o : Outline). isTurn (zeroed o)) (t .ask) ∙ turn-bare (d .ask)
+
+  pub twin-used : used c (step s c .1) ≡ used d (step s′ d .1)
+  twin-used = λ i. usedBy (same-turn i) (t .words i) (twin-tells i .0) (twin-tells i .1)
 
 pub twins-told : (cs ds : List Call) → Twins cs ds → (s s′ : State) → bare s ≡ bare s′ → map told (run s cs) ≡ map told (run s′ ds)
 unfolding run
@@ -283,11 +305,11 @@ twins-told [] [] Claim.none s s′ e = refl
 twins-told (c ∷ cs) (d ∷ ds) (Claim.more t ts) s s′ e =
     ap₂ (λ o os. o ∷ os) (twin-tells c d t s s′ e) (twins-told cs ds ts (step s c .0) (step s′ d .0) (twin-next c d t s s′ e))
 
-pub twins-drawn : (cs ds : List Call) → Twins cs ds → (s s′ : State) → bare s ≡ bare s′ → drawsIn s cs ≡ drawsIn s′ ds
-unfolding drawsIn
-twins-drawn [] [] Claim.none s s′ e = refl
-twins-drawn (c ∷ cs) (d ∷ ds) (Claim.more t ts) s s′ e =
-    ap₂ _++_ (twin-draws c d t s s′ e) (twins-drawn cs ds ts (step s c .0) (step s′ d .0) (twin-next c d t s s′ e))
+pub twins-tape : (cs ds : List Call) → Twins cs ds → (s s′ : State) → bare s ≡ bare s′ → tapeOf cs (run s cs) ≡ tapeOf ds (run s′ ds)
+unfolding run tapeOf
+twins-tape [] [] Claim.none s s′ e = refl
+twins-tape (c ∷ cs) (d ∷ ds) (Claim.more t ts) s s′ e =
+    ap₂ _++_ (twin-used c d t s s′ e) (twins-tape cs ds ts (step s c .0) (step s′ d .0) (twin-next c d t s s′ e))
 
 -- a call, and the same with zeros
 pub zeros-twin : (c : Call) → Twin c (bareCall c)

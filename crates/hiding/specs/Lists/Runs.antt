@@ -1,151 +1,181 @@
--- The claim about lists, from the matching of the machine's flat tapes.
-use mathlib.Core.Path.{_≡_, refl, ap, ap₂, sym, _∙_}
-use mathlib.Core.Bool.{true, false}
-use mathlib.Core.Logic.{_↔_}
-use mathlib.Core.List.{List, [], _∷_, map}
-use mathlib.Core.Option.{none}
+-- The claim: from the tapes of the machine that takes words to the rules' run. First for lists with their bytes, then whatever bytes are brought.
+use mathlib.Core.Path.{_≡_, refl, ap, ap₂, sym, _∙_, subst}
+use mathlib.Core.List.{List, [], _∷_, _++_, map}
 use Prim.Native.Nat.{ℕ}
-use native.Mathlib.Omega.{arith}
-use lib.ListN.{length, take, drop, replicate, length-replicate}
-use lib.Seq.{take-at, drop-at}
-use borrow.Author.Tests.{eq-eqb, lt-ltb}
-use Rattle.rules.specs.Questions.{Call}
-use Rattle.rules.specs.State.{State, Command}
-use Rattle.rules.specs.Laws.Answers.{opens}
+use Rattle.lists.specs.All.{nil, cons}
+use Rattle.rules.specs.Questions.{opening, turn, Call}
+use Rattle.rules.specs.Run.{Outcome, step, run}
 use Rattle.rules.specs.Shape.{Shape}
-use Rattle.rules.specs.Run.{step, run}
-use Rattle.matching.specs.Flat.{FlatTape, FlatWatch}
-use Rattle.matching.specs.TwoLists.{Any}
-use Rattle.hiding.specs.Machines.Rules.{Real, unopened, real, real-next}
-use Rattle.hiding.specs.Machines.Needs.{Reachable}
+use Rattle.rules.specs.Laws.Answers.{open-first}
+use Rattle.rules.specs.State.{State, closed}
+use Rattle.matching.specs.Flat.{FlatTape, FlatWatch, flattened, flat-alone, cut}
+use Rattle.hiding.specs.Machines.Needs.{Reachable, Able}
 use Rattle.hiding.specs.Claim
-use Rattle.hiding.specs.Claim.{Outline, zeroed, Lent, WellFormed, Alike, wellFormed, anyOther, turns, completions, collects, Same, Compared, boundsOf, nextOf, Tape, drawsOf, drawsIn, Gives, told, first, Claim}
-use Rattle.hiding.specs.Machines.Public
-use Rattle.hiding.specs.Machines.Public.{Entry, ask, formed, publicEntry}
-use Rattle.hiding.specs.Lists.Bytes.{bareCall, twins-told, twins-drawn, zeros-twins}
-use Rattle.hiding.specs.Lists.Calls
-use Rattle.hiding.specs.Lists.Calls.{Is, Agrees, agrees, agrees-open, plain, Plainly, plainly, stepped, entry, entryOf}
-use Rattle.hiding.specs.Lists.Matched.{wants, tapes-matched}
+use Rattle.hiding.specs.Claim.{Outline, anOpen, aRequest, aTurn, aCompletion, aCollect, outline, Lent, first, Lends, ShortWords, Short, tapeOf, Gives, Tape, wordsIn, asksIn, Twins, told, Claim}
+use Rattle.hiding.specs.Lists.Bytes.{zeroed, open-ask, bareCall, zeros-length, twins-told, twins-tape, zeros-twins}
+use Rattle.hiding.specs.Lists.Fixed
+use Rattle.hiding.specs.Lists.Fixed.{Fixed, fixed}
+use Rattle.hiding.specs.Lists.Calls.{lent}
+use Rattle.hiding.specs.Lists.Tapes.{words, wants, keep, size, outcomes, run-outcomes, run-watch, tape-flat, flat-tape}
+use Rattle.hiding.specs.Lists.Matched.{zeros, words-matched}
 
--- ---- compared lists have the same public parts
+-- ---- What was before the open does not matter
 
-formed-well : (h : Shape) (k b n : ℕ) → WellFormed h k b n → formed h k b (length {A = ℕ} (replicate n 0)) ≡ true
-unfolding formed
-formed-well h k b n f = let z : ℕ = 0 in rw (f .kind, lt-ltb b (h .N) (f .block), length-replicate n z, eq-eqb _ _ (f .contents))
+module _ (able : Able closed) (h : Shape) (a : Fixed) (o : a .ask ≡ opening h) (as′ : List Fixed) where
+  abbrev A : List Fixed
+  A = a ∷ as′
 
-same-ask : (h : Shape) {a b : Outline} (m w n : ℕ) → Alike h a b → publicEntry h (entryOf (zeroed a) m w n) ≡ publicEntry h (entryOf (zeroed b) m w n)
-same-ask h m w n (wellFormed {k = k} {b = b} {n = i} {k′ = k′} {b′ = b′} {n′ = i′} f g) = rw (formed-well h k b i f, formed-well h k′ b′ i′ g)
-same-ask h m w n (anyOther f) = refl
-same-ask h m w n turns = refl
-same-ask h m w n completions = refl
-same-ask h m w n collects = refl
-
-same-entry : (h : Shape) (a b : Lent) → Same h a b → publicEntry h (entry a) ≡ publicEntry h (entry b)
-same-entry h a b s = rw (s .memory, s .words, s .buffer) (same-ask h (b .memory) (b .words) (b .buffer) (s .ask))
-
-same-list : (h : Shape) (as′ bs′ : List Lent) → Compared h as′ bs′ → map (publicEntry h) (map entry as′) ≡ map (publicEntry h) (map entry bs′)
-same-list h [] [] Claim.none = refl
-same-list h (a ∷ as′) (b ∷ bs′) (Claim.more s c) = ap₂ (λ x xs. x ∷ xs) (same-entry h a b s) (same-list h as′ bs′ c)
-
--- no later call is an open
-abbrev Laters : List Lent → Type 0
-Laters [] = Unit {0}
-Laters (a ∷ as′) = (opens (zeroed (a .ask)) ≡ false) × Laters as′
-
-no-open : (h : Shape) {a b : Outline} → Alike h a b → (opens (zeroed a) ≡ false) × (opens (zeroed b) ≡ false)
-unfolding opens
-no-open h (wellFormed f g) = (refl, refl)
-no-open h (anyOther f) = (refl, refl)
-no-open h turns = (refl, refl)
-no-open h completions = (refl, refl)
-no-open h collects = (refl, refl)
-
-no-opens : (h : Shape) (as′ bs′ : List Lent) → Compared h as′ bs′ → Laters as′ × Laters bs′
-no-opens h [] [] Claim.none = (tt, tt)
-no-opens h (a ∷ as′) (b ∷ bs′) (Claim.more s c) =
-    let x = no-open h (s .ask) in
-    let y = no-opens h as′ bs′ c in
-    ((x .0, y .0), (x .1, y .1))
-
--- ---- lists
-
-module _ (h : Shape) (reach : Reachable h) where
-  abbrev Flats : Real → List Entry → List ℕ → Type 0
-  Flats = FlatTape (real h) (wants h reach) Any
-
-  abbrev Watched : Real → List Entry → List ℕ → List (ℕ × ℕ × Command)
-  Watched = FlatWatch (real h) (wants h reach)
-
-  -- one call more
-  tape-more : (c : Entry) (cs : List Entry) (r : Real) (s : State) (a : Lent) (as′ : List Lent) → Agrees h reach c r s a →
-      ((d t : List ℕ) → Tape (nextOf s a d) as′ t ↔ Flats (real-next h r c d) cs t) → (t : List ℕ) → Tape s (a ∷ as′) t ↔ Flats r (c ∷ cs) t
-  tape-more c cs r s a as′ g k t = rw (g .count) (
-    λ p. (g .legal (take (length (boundsOf s a)) t) .1 (p .0), k _ (drop (length (boundsOf s a)) t) .0 (p .1)),
-    λ p. (g .legal (take (length (boundsOf s a)) t) .0 (p .0), k _ (drop (length (boundsOf s a)) t) .1 (p .1)),
-  )
-
-  tapes : (as′ : List Lent) → Laters as′ → (r : Real) (s : State) → Is h reach r s → (t : List ℕ) → Tape s as′ t ↔ Flats r (map entry as′) t
-  tapes [] l r s k [] = (λ p. tt, λ p. refl)
-  tapes [] l r s k (x ∷ t) = (λ p. absurd (omega (arith, ap length p)), λ p. absurd p)
-  tapes (a ∷ as′) l r s k t =
-      let g = agrees h reach r s (a .ask) (a .memory) (a .words) (a .buffer) k (l .0) in
-      tape-more (entry a) (map entry as′) r s a as′ g (λ d t′. tapes as′ (l .1) _ _ (g .next d) t′) t
-
-  list-tapes : (s : State) (m w n : ℕ) (as′ : List Lent) → Laters as′ → (t : List ℕ) → Tape s (first h m w n ∷ as′) t ↔ Flats unopened (Public.first m w ∷ map entry as′) t
-  list-tapes s m w n as′ l t =
-      let g = agrees-open h reach s m w n in
-      tape-more (Public.first m w) (map entry as′) unopened s (first h m w n) as′ g (λ d t′. tapes as′ l _ _ (g .next d) t′) t
-
-  -- what a run with words tells is what the machine shows
-  watch-more : (c : Entry) (cs : List Entry) (r : Real) (s : State) (a : Lent) (as′ : List Lent) (ws : List ℕ) (ds : List Call) → Agrees h reach c r s a → length ws ≡ a .words →
-      ((d : List ℕ) (s′ : State) → s′ ≡ nextOf s a d → map told (run s′ ds) ≡ Watched (real-next h r c d) cs (drawsIn s′ ds)) →
-      map told (run s (plain a ws ∷ ds)) ≡ Watched r (c ∷ cs) (drawsIn s (plain a ws ∷ ds))
-  unfolding run drawsIn
-  watch-more c cs r s a as′ ws ds g e k =
-      let p = stepped s a ws e in
-      let own = drawsOf s (plain a ws) in
-      let rest = drawsIn (step s (plain a ws) .0) ds in
-      let x = take-at own rest (wants h reach r c) (p .drawn ∙ sym (g .count)) in
-      let y = drop-at own rest (wants h reach r c) (p .drawn ∙ sym (g .count)) in
-      rw (x, y) (ap₂ (λ o os. o ∷ os) (p .tells ∙ sym (g .tells own)) (k own (step s (plain a ws) .0) (p .next)))
-
-  watches : (as′ : List Lent) (cs : List Call) → Plainly as′ cs → Laters as′ → (r : Real) (s : State) → Is h reach r s →
-      map told (run s cs) ≡ Watched r (map entry as′) (drawsIn s cs)
+  open-run : (s s′ : State) (cs : List Call) → Fixed.Lends A cs → run s cs ≡ run s′ cs
   unfolding run
-  watches [] [] Calls.none l r s k = refl
-  watches (a ∷ as′) (c ∷ cs) (Calls.more {ws = ws} e ls) l r s k =
-      let g = agrees h reach r s (a .ask) (a .memory) (a .words) (a .buffer) k (l .0) in
-      watch-more (entry a) (map entry as′) r s a as′ ws cs g e (λ d s′ q. watches as′ cs ls (l .1) _ s′ (rw q (g .next d)))
+  open-run s s′ (c ∷ cs) (Fixed.more {ws = ws} e l) =
+      let p : step s (Fixed.lend a ws) ≡ step s′ (Fixed.lend a ws) = open-first s (Fixed.lend a ws) h o ∙ sym (open-first s′ (Fixed.lend a ws) h o) in
+      ap (λ (r : State × Outcome). r .1 ∷ run (r .0) cs) p
 
-  list-watches : (s : State) (m w n : ℕ) (as′ : List Lent) (cs : List Call) → Laters as′ → Plainly (first h m w n ∷ as′) cs →
-      map told (run s cs) ≡ Watched unopened (Public.first m w ∷ map entry as′) (drawsIn s cs)
-  list-watches s m w n as′ (c ∷ cs) l (Calls.more {ws = ws} e ls) =
-      let g = agrees-open h reach s m w n in
-      watch-more (Public.first m w) (map entry as′) unopened s (first h m w n) as′ ws cs g e (λ d s′ q. watches as′ cs ls l _ s′ (rw q (g .next d)))
+  gives-from : (s s′ : State) (t : List ℕ) (cs : List Call) → Fixed.Gives s A t cs → Fixed.Gives s′ A t cs
+  gives-from s s′ t cs g = record { calls = g .calls; short = g .short; tape = ap (tapeOf cs) (open-run s′ s cs (g .calls)) ∙ g .tape }
 
-  -- .. whatever bytes it has
-  shown : (s : State) (m w n : ℕ) (as′ : List Lent) (t : List ℕ) (cs : List Call) → Laters as′ → Gives s (first h m w n ∷ as′) t cs →
-      map told (run s cs) ≡ Watched unopened (Public.first m w ∷ map entry as′) t
-  shown s m w n as′ t cs l g =
-      let zs = map bareCall cs in
-      twins-told cs zs (zeros-twins cs) s s refl
-      ∙ list-watches s m w n as′ zs l (plainly (first h m w n ∷ as′) cs (g .calls))
-      ∙ ap (Watched unopened (Public.first m w ∷ map entry as′)) (sym (twins-drawn cs zs (zeros-twins cs) s s refl) ∙ g .tape)
+  -- what is told of a run, by its tape
+  told-by : (s : State) (t : List ℕ) (cs : List Call) → Fixed.Gives s A t cs → map told (run s cs) ≡ FlatWatch words wants closed A t
+  told-by s t cs g = ap (map told) (open-run s closed cs (g .calls)) ∙ run-watch A closed able t cs (gives-from s closed t cs g)
+
+  -- The tape decides the run
+  fixed-decides : (s : State) (t : List ℕ) (cs ds : List Call) → Fixed.Gives s A t cs → Fixed.Gives s A t ds → run s cs ≡ run s ds
+  fixed-decides s t cs ds g k = by cs g ∙ sym (by ds k)
+    where
+      by : (cs : List Call) → Fixed.Gives s A t cs → run s cs ≡ outcomes closed A (cut words wants closed A t)
+      by cs g = open-run s closed cs (g .calls) ∙ run-outcomes A closed able t cs (gives-from s closed t cs g)
+
+  -- the tapes of the list and of the machine
+  flat-of : (s : State) (t : List ℕ) → Fixed.Tape s A t → FlatTape words wants closed A t
+  flat-of s t p = tape-flat A closed able t (p .0, gives-from s closed t (p .0) (p .1))
+
+  of-flat : (s : State) (t : List ℕ) → FlatTape words wants closed A t → Fixed.Tape s A t
+  of-flat s t p = let r = flat-tape A closed t p in (r .0, gives-from closed s t (r .0) (r .1))
+
+  -- No tape begins with another
+  fixed-alone : (s : State) (t u x y : List ℕ) → Fixed.Tape s A t → Fixed.Tape s A u → t ++ x ≡ u ++ y → t ≡ u
+  fixed-alone s t u x y p q e = flat-alone words wants Able keep size closed A able t u x y (flat-of s t p) (flat-of s u q) e
+
+-- ---- Whatever bytes are brought
+
+outline-zeroed : (o : Outline) → outline (zeroed o) ≡ o
+outline-zeroed (anOpen h) = refl
+outline-zeroed (aRequest k b n) = ap (aRequest k b) (zeros-length n)
+outline-zeroed aTurn = refl
+outline-zeroed (aCompletion c n) = ap (aCompletion c) (zeros-length n)
+outline-zeroed aCollect = refl
+
+lends-zeros : (as′ : List Lent) (cs : List Call) → Lends as′ cs → Fixed.Lends (map zeros as′) (map bareCall cs)
+lends-zeros [] [] Claim.none = Fixed.none
+lends-zeros (a ∷ as′) (c ∷ cs) (Claim.more {k = k} {ws = ws} o e l) =
+    subst (λ (x : Outline). Fixed.Lends (zeros a ∷ map zeros as′) (record { ask = zeroed x; memory = a .memory; words = ws; buffer = a .buffer } ∷ map bareCall cs)) (sym o)
+    (Fixed.more e (lends-zeros as′ cs l))
+
+zeros-lends : (as′ : List Lent) (cs : List Call) → Fixed.Lends (map zeros as′) cs → Lends as′ cs
+zeros-lends [] [] Fixed.none = Claim.none
+zeros-lends (a ∷ as′) (c ∷ cs) (Fixed.more e l) = Claim.more (outline-zeroed (a .ask)) e (zeros-lends as′ cs l)
+
+short-zeros : (cs : List Call) → Short cs → Short (map bareCall cs)
+short-zeros [] nil = nil
+short-zeros (c ∷ cs) (cons p q) = cons p (short-zeros cs q)
+
+-- a run with any bytes, and the one with zeros for them
+gives-zeros : (s : State) (as′ : List Lent) (t : List ℕ) (cs : List Call) → Gives s as′ t cs → Fixed.Gives s (map zeros as′) t (map bareCall cs)
+gives-zeros s as′ t cs g = record {
+  calls = lends-zeros as′ cs (g .calls);
+  short = short-zeros cs (g .short);
+  tape = sym (twins-tape cs (map bareCall cs) (zeros-twins cs) s s refl) ∙ g .tape;
+}
+
+tape-zeros : (s : State) (as′ : List Lent) (t : List ℕ) → Tape s as′ t → Fixed.Tape s (map zeros as′) t
+tape-zeros s as′ t p = (map bareCall (p .0), gives-zeros s as′ t (p .0) (p .1))
+
+zeros-tape : (s : State) (as′ : List Lent) (t : List ℕ) → Fixed.Tape s (map zeros as′) t → Tape s as′ t
+zeros-tape s as′ t p = (p .0, record { calls = zeros-lends as′ (p .0) (p .1 .calls); short = p .1 .short; tape = p .1 .tape })
+
+unfoldable pub headOr : {A : Type 0} → A → List A → A
+headOr x [] = x
+headOr x (y ∷ ys) = y
+
+unfoldable pub tailOf : {A : Type 0} → List A → List A
+tailOf [] = []
+tailOf (y ∷ ys) = ys
+
+-- words that give a tape give it whatever bytes are brought
+lends-twins : (as′ : List Lent) (cs ds : List Call) → Lends as′ cs → Lends as′ ds → wordsIn cs ≡ wordsIn ds → Twins cs ds
+unfolding headOr tailOf
+lends-twins [] [] [] Claim.none Claim.none e = Claim.none
+lends-twins (a ∷ as′) (c ∷ cs) (d ∷ ds) (Claim.more o x l) (Claim.more o′ y l′) e =
+    Claim.more (record { ask = o ∙ sym o′; memory = refl; words = ap (headOr []) e; buffer = refl }) (lends-twins as′ cs ds l l′ (ap tailOf e))
+
+pub twins-short : (cs ds : List Call) → Twins cs ds → Short ds → Short cs
+twins-short [] [] Claim.none nil = nil
+twins-short (c ∷ cs) (d ∷ ds) (Claim.more t ts) (cons p q) = cons (subst ShortWords (sym (t .words)) p) (twins-short cs ds ts q)
+
+pub given : (s : State) (as′ : List Lent) (t : List ℕ) (cs : List Call) → Gives s as′ t cs → (ds : List Call) → Lends as′ ds → wordsIn ds ≡ wordsIn cs → Gives s as′ t ds
+given s as′ t cs g ds l e =
+    let r = lends-twins as′ ds cs l (g .calls) e in
+    record { calls = l; short = twins-short ds cs r (g .short); tape = twins-tape ds cs r s s refl ∙ g .tape }
+
+-- No tape begins with another
+pub alone : Able closed → (h : Shape) (m w n : ℕ) (as′ : List Lent) (s : State) (t u x y : List ℕ) →
+    Tape s (first h m w n ∷ as′) t → Tape s (first h m w n ∷ as′) u → t ++ x ≡ u ++ y → t ≡ u
+alone able h m w n as′ s t u x y p q e =
+    fixed-alone able h (lent (opening h) m w n) refl (map zeros as′) s t u x y (tape-zeros s (first h m w n ∷ as′) t p) (tape-zeros s (first h m w n ∷ as′) u q) e
+
+-- ---- With the bytes the tape decides the run
+
+fixed-lends : (cs : List Call) → Fixed.Lends (map fixed cs) cs
+fixed-lends [] = Fixed.none
+fixed-lends (c ∷ cs) = Fixed.more refl (fixed-lends cs)
+
+same-fixed : (as′ : List Lent) (cs ds : List Call) → Lends as′ cs → Lends as′ ds → asksIn cs ≡ asksIn ds → map fixed cs ≡ map fixed ds
+unfolding headOr tailOf
+same-fixed [] [] [] Claim.none Claim.none e = refl
+same-fixed (a ∷ as′) (c ∷ cs) (d ∷ ds) (Claim.more o x l) (Claim.more o′ y l′) e =
+    ap₂ (λ f fs. f ∷ fs) (λ i. record { ask = ap (headOr turn) e i; memory = a .memory; words = (x ∙ sym y) i; buffer = a .buffer }) (same-fixed as′ cs ds l l′ (ap tailOf e))
+
+pub decides : Able closed → (h : Shape) (m w n : ℕ) (as′ : List Lent) (s : State) (t : List ℕ) (cs ds : List Call) →
+    Gives s (first h m w n ∷ as′) t cs → Gives s (first h m w n ∷ as′) t ds → asksIn cs ≡ asksIn ds → run s cs ≡ run s ds
+decides able h m w n as′ s t cs ds g k e = go cs ds (g .calls) g k e
+  where
+    go : (cs ds : List Call) → Lends (first h m w n ∷ as′) cs → Gives s (first h m w n ∷ as′) t cs → Gives s (first h m w n ∷ as′) t ds → asksIn cs ≡ asksIn ds → run s cs ≡ run s ds
+    go (c ∷ cs) ds (Claim.more o x l) g k e =
+        let same = same-fixed (first h m w n ∷ as′) ds (c ∷ cs) (k .calls) (g .calls) (sym e) in
+        fixed-decides able h (fixed c) (open-ask h (c .ask) o) (map fixed cs) s t (c ∷ cs) ds
+        (record { calls = fixed-lends (c ∷ cs); short = g .short; tape = g .tape })
+        (record { calls = subst (λ fs. Fixed.Lends fs ds) same (fixed-lends ds); short = k .short; tape = k .tape })
+
+module _ (able : Able closed) (h : Shape) (m w n : ℕ) where
+  abbrev a : Fixed
+  a = lent (opening h) m w n
+
+  -- the tapes of a list and of the machine
+  of-list : (as′ : List Lent) (s : State) (t : List ℕ) → Tape s (first h m w n ∷ as′) t → FlatTape words wants closed (a ∷ map zeros as′) t
+  of-list as′ s t p = flat-of able h a refl (map zeros as′) s t (tape-zeros s (first h m w n ∷ as′) t p)
+
+  list-of : (as′ : List Lent) (s : State) (t : List ℕ) → FlatTape words wants closed (a ∷ map zeros as′) t → Tape s (first h m w n ∷ as′) t
+  list-of as′ s t p = zeros-tape s (first h m w n ∷ as′) t (of-flat able h a refl (map zeros as′) s t p)
+
+  -- what is told of a run, whatever bytes it has
+  pub shown : (as′ : List Lent) (s : State) (t : List ℕ) (cs : List Call) → Gives s (first h m w n ∷ as′) t cs → map told (run s cs) ≡ FlatWatch words wants closed (a ∷ map zeros as′) t
+  shown as′ s t cs g =
+      twins-told cs (map bareCall cs) (zeros-twins cs) s s refl
+      ∙ told-by able h a refl (map zeros as′) s t (map bareCall cs) (gives-zeros s (first h m w n ∷ as′) t cs g)
 
 -- The claim, from what holds of every state that calls left
-pub claim : ((h : Shape) → h .E ≡ h .N → Reachable h) → Claim
-claim reach h q m w n as′ bs′ c s s′ =
-    let o = no-opens h as′ bs′ c in
-    let k = tapes-matched h (reach h q) (Public.first m w ∷ map entry as′) (Public.first m w ∷ map entry bs′) (ap (λ xs. Public.first m w ∷ xs) (same-list h as′ bs′ c)) in
-    let A = list-tapes h (reach h q) s m w n as′ (o .0) in
-    let B = list-tapes h (reach h q) s′ m w n bs′ (o .1) in (
+pub claim : Able closed → ((h : Shape) → h .E ≡ h .N → Reachable h) → Claim
+claim able reach h q m w n as′ bs′ c s s′ =
+    let a = lent (opening h) m w n in
+    let k = flattened words wants Able keep size closed closed (a ∷ map zeros as′) (a ∷ map zeros bs′) able able (words-matched able h (reach h q) m w n as′ bs′ c) in
+    let tape = of-list able h m w n in (
       record {
         f = k .f;
         g = k .g;
-        f-ok = λ t p. B (k .f t) .1 (k .f-ok t (A t .0 p));
-        g-ok = λ t p. A (k .g t) .1 (k .g-ok t (B t .0 p));
-        g-f = λ t p. k .g-f t (A t .0 p);
-        f-g = λ t p. k .f-g t (B t .0 p);
+        f-ok = λ t p. list-of able h m w n bs′ s′ (k .f t) (k .f-ok t (tape as′ s t p));
+        g-ok = λ t p. list-of able h m w n as′ s (k .g t) (k .g-ok t (tape bs′ s′ t p));
+        g-f = λ t p. k .g-f t (tape as′ s t p);
+        f-g = λ t p. k .f-g t (tape bs′ s′ t p);
       },
-      λ t p cs ds x y. shown h (reach h q) s m w n as′ t cs (o .0) x ∙ k .same t (A t .0 p) ∙ sym (shown h (reach h q) s′ m w n bs′ (k .f t) ds (o .1) y),
+      λ t cs ds x y. shown able h m w n as′ s t cs x ∙ k .same t (tape as′ s t (cs, x)) ∙ sym (shown able h m w n bs′ s′ (k .f t) ds y),
     )

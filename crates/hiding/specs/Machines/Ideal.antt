@@ -3,6 +3,8 @@ use mathlib.Core.List.{List, [], _∷_, _++_}
 use mathlib.Core.Option.{Option, none, some}
 use Prim.Native.Nat.{ℕ, zero, suc}
 use lib.ListN.{length, getD, replicate}
+use lib.Dec.{eqb}
+use Rattle.lists.specs.Tests.{if_then_else_}
 use Rattle.lists.specs.Tables.{putAll}
 use Rattle.rules.specs.Completion.{complete}
 use Rattle.rules.specs.Open.{fresh}
@@ -17,10 +19,13 @@ use Rattle.matching.specs.Machine.{Machine}
 use Rattle.matching.specs.Reads.{Arranges, Pick}
 use Rattle.hiding.specs.Machines.Public.{Later, later-request, later-turn, later-completion, later-collect, Entry, first, later, hide, publicRequest, unreadIn, decideP, boundsP, numberP, numberOpen}
 
--- ---- What is seen: the number, the count of words, the command
+-- ---- What is seen: the number, the bounds of the draws if the call is accepted or lacks words for them, the command
 
 abbrev pub Seen : Type 0
-Seen = ℕ × ℕ × Command
+Seen = ℕ × List ℕ × Command
+
+unfoldable pub lacking : ℕ → List ℕ → List ℕ
+lacking n ms = if eqb n 3 then ms else []
 
 abbrev pub nothingSent : Command
 nothingSent = cmd 0 0 0 0
@@ -41,12 +46,12 @@ commandP i (later-completion c bs) e = nothingSent
 commandP i later-collect e = nothingSent
 
 abbrev pub seenIf : ℕ → State → Later → List ℕ → Seen
-seenIf zero i l e = (0, length (boundsP i l), commandP i l e)
-seenIf (suc n) i l e = (suc n, 0, nothingSent)
+seenIf zero i l e = (0, boundsP i l, commandP i l e)
+seenIf (suc n) i l e = (suc n, lacking (suc n) (boundsP i l), nothingSent)
 
 abbrev pub seenOpen : Shape → ℕ → Seen
-seenOpen h zero = (0, h .N, nothingSent)
-seenOpen h (suc n) = (suc n, 0, nothingSent)
+seenOpen h zero = (0, replicate (h .N) (h .P), nothingSent)
+seenOpen h (suc n) = (suc n, lacking (suc n) (replicate (h .N) (h .P)), nothingSent)
 
 -- ---- What is drawn
 
@@ -127,9 +132,9 @@ module _ (h : Shape) where
 
   abbrev pub ideal-seen : Ideal → Entry → List ℕ → Seen
   ideal-seen unopened (first m w) e = seenOpen h (numberOpen h m w)
-  ideal-seen unopened (later l m w n) e = (2, 0, nothingSent)
-  ideal-seen shut c e = (2, 0, nothingSent)
-  ideal-seen (on i) (first m w) e = (2, 0, nothingSent)
+  ideal-seen unopened (later l m w n) e = (2, [], nothingSent)
+  ideal-seen shut c e = (2, [], nothingSent)
+  ideal-seen (on i) (first m w) e = (2, [], nothingSent)
   ideal-seen (on i) (later l m w n) e = seenIf (numberP i l m w n) i l e
 
   abbrev pub ideal : Machine Entry (List ℕ) Seen

@@ -147,9 +147,9 @@ module _ (h : Shape) where
 
   abbrev pub mid-seen : Mid → Entry → List ℕ → Seen
   mid-seen unopened (first m w) e = seenOpen h (numberOpen h m w)
-  mid-seen unopened (later l m w n) e = (2, 0, nothingSent)
-  mid-seen shut c e = (2, 0, nothingSent)
-  mid-seen (on s it) (first m w) e = (2, 0, nothingSent)
+  mid-seen unopened (later l m w n) e = (2, [], nothingSent)
+  mid-seen shut c e = (2, [], nothingSent)
+  mid-seen (on s it) (first m w) e = (2, [], nothingSent)
   mid-seen (on s it) (later l m w n) e = seenIf (numberP (hide s) (publicLater h l) m w n) (hide s) l e
 
   abbrev pub mid : Machine Entry (List ℕ) Seen

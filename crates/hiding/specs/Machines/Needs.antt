@@ -1,8 +1,8 @@
--- What the stages need of every state that calls left, where E is N. `Reached` has it from the crate `reachable`; nothing else of this crate
--- speaks of that invariant.
+-- What the stages need of every state that calls left, where E is N, and what the lists need whatever E is. `Reached` has it from the crate
+-- `reachable`; nothing else of this crate speaks of that invariant.
 use mathlib.Core.Path.{_≡_}
 use mathlib.Core.Bool.{true, _||_}
-use mathlib.Core.List.{List}
+use mathlib.Core.List.{List, [], _∷_}
 use mathlib.Core.Option.{some}
 use Prim.Native.Nat.{ℕ, suc, _<_}
 use lib.ListN.{length, replicate}
@@ -10,7 +10,7 @@ use lib.Dec.{ltb}
 use Rattle.lists.specs.Search.{member}
 use Rattle.rules.specs.Draws.{Drew}
 use Rattle.rules.specs.Rebuild.{gathered, chosen}
-use Rattle.rules.specs.Run.{act}
+use Rattle.rules.specs.Run.{act, step, after}
 use Rattle.rules.specs.State.{stored, Request, State}
 use Rattle.rules.specs.Shape.{Shape, within, slots, cell}
 use Rattle.rules.specs.Open.{fresh}
@@ -18,7 +18,7 @@ use Rattle.rules.specs.Collect.{finished}
 use Rattle.rules.specs.Turn.{readForRequest, rebuild, decide}
 use Rattle.rules.specs.Levels.{sources}
 use Rattle.rules.specs.Request.{slotIn}
-use Rattle.rules.specs.Questions.{bounds, possible}
+use Rattle.rules.specs.Questions.{Call, bounds, ready, possible}
 use Rattle.rules.specs.Ranges.{inRange}
 use Rattle.hiding.specs.Machines.Middle.{chosenM, gatheredM}
 use Rattle.hiding.specs.Machines.Public.{Later, ask}
@@ -48,3 +48,15 @@ pub record Reachable (h : Shape) : Type 1 where
   -- when a request is finished its block's slot has been read
   pub left : (s : State) (r : Request) (ℓ i : ℕ) → Holds s → s .request ≡ some r → finished s r ≡ true →
       s .place (r .block) ≡ stored ℓ i → ¬ (s .mark (cell (s .shape) (s .partition (r .block)) ℓ i) ≡ 1)
+
+-- Whatever calls come, no turn lacks a dummy or gathers too much. Every list starts from the closed state
+abbrev pub Able : State → Type 0
+Able s = (cs : List Call) (m : ℕ) → ready (after s cs) m ≡ true → possible (after s cs) (decide (after s cs)) ≡ true
+
+pub able-now : (s : State) (m : ℕ) → Able s → ready s m ≡ true → possible s (decide s) ≡ true
+unfolding after
+able-now s m v = v [] m
+
+pub able-step : (s : State) (c : Call) → Able s → Able (step s c .0)
+unfolding after
+able-step s c v = λ cs. v (c ∷ cs)

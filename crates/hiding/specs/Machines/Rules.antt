@@ -1,7 +1,7 @@
 -- The rules as a machine, and what the middle machine keeps of its state.
 use mathlib.Core.List.{List, [], map}
 use Prim.Native.Nat.{ℕ, zero, suc}
-use lib.ListN.{length, replicate}
+use lib.ListN.{replicate}
 use Rattle.lists.specs.Search.{below}
 use Rattle.rules.specs.Open.{fresh}
 use Rattle.rules.specs.Questions
@@ -14,7 +14,7 @@ use Rattle.matching.specs.Keyed.{Key}
 use Rattle.matching.specs.Trades.{None}
 use Rattle.matching.specs.Machine.{Machine}
 use Rattle.hiding.specs.Machines.Public.{Later, Entry, first, later, ask, openIn}
-use Rattle.hiding.specs.Machines.Ideal.{Seen, nothingSent, seenOpen}
+use Rattle.hiding.specs.Machines.Ideal.{Seen, lacking, nothingSent, seenOpen}
 use Rattle.hiding.specs.Machines.Middle
 use Rattle.hiding.specs.Machines.Middle.{Items, Mid, forget, boundsOpen}
 
@@ -38,8 +38,8 @@ nextR zero s l d = act s (ask l) d
 nextR (suc n) s l d = s
 
 abbrev pub seenR : ℕ → State → Later → Seen
-seenR zero s l = (0, length (bounds s (ask l)), sentCommand s (ask l))
-seenR (suc n) s l = (suc n, 0, nothingSent)
+seenR zero s l = (0, bounds s (ask l), sentCommand s (ask l))
+seenR (suc n) s l = (suc n, lacking (suc n) (bounds s (ask l)), nothingSent)
 
 -- before the open; after a refused one, closed; after an accepted one
 pub data Real : Type 0 where
@@ -67,9 +67,9 @@ module _ (h : Shape) where
 
   abbrev pub real-seen : Real → Entry → List ℕ → Seen
   real-seen unopened (first m w) d = seenOpen h (number closed (openCall h m w))
-  real-seen unopened (later l m w n) d = (2, 0, nothingSent)
-  real-seen shut c d = (2, 0, nothingSent)
-  real-seen (on s) (first m w) d = (2, 0, nothingSent)
+  real-seen unopened (later l m w n) d = (2, [], nothingSent)
+  real-seen shut c d = (2, [], nothingSent)
+  real-seen (on s) (first m w) d = (2, [], nothingSent)
   real-seen (on s) (later l m w n) d = seenR (numberR s l m w n) s l
 
   abbrev pub real : Machine Entry (List ℕ) Seen

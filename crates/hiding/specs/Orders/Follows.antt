@@ -4,7 +4,6 @@ use mathlib.Core.Bool.{Bool, true, false}
 use mathlib.Core.List.{List, [], _∷_}
 use mathlib.Core.Option.{Option, none, some}
 use Prim.Native.Nat.{ℕ, zero, suc, _+_}
-use lib.ListN.{length}
 use lib.Dec.{eqb}
 use lib.Pow.{pow-pos}
 use Rattle.lists.specs.Tables.{put}
@@ -34,7 +33,7 @@ use Rattle.rules.specs.Laws.Range.{range-facts, InRange}
 use Rattle.matching.specs.Reads.{arranges-mem}
 use Rattle.matching.specs.Order.{order-ok}
 use Rattle.reachable.specs.Live.{storedIn, isBelow}
-use Rattle.hiding.specs.Machines.Ideal.{slotted, seenIf, rebuildP}
+use Rattle.hiding.specs.Machines.Ideal.{slotted, lacking, nothingSent, seenIf, rebuildP}
 use Rattle.hiding.specs.Machines.Middle
 use Rattle.hiding.specs.Machines.Middle.{levelOnly, forget, chosenM, gatheredM, Items, nextStepM, performM, nextM, itemsStep, itemsM, collectedM}
 use Rattle.hiding.specs.Orders.Trades.{HiddenOn, OpenP, rebuild-step, decideP-open, tradeStep, tradeIf}
@@ -238,11 +237,11 @@ module _ (h : Shape) (reach : Reachable h) (s : State) (k : reach .Holds s) (hid
   perform-follows (later-request t a bs) m w j e b = (refl, record { state = refl; items = refl; orders = refl })
   perform-follows later-turn m w j e b =
       let r = turn-follows b in
-      (λ i. (0, ap length (bounds-hide h reach s k later-turn) i, r .0 i), r .1)
+      (λ i. (0, bounds-hide h reach s k later-turn i, r .0 i), r .1)
   perform-follows (later-completion c bs) m w j e b = (refl, complete-follows c bs)
   perform-follows later-collect m w j e b = (refl, collect-follows (s .request) refl (accepted-passed s (called later-collect m w j) e .1 .1 .0))
 
   pub call-follows : (n : ℕ) (l : Later) (m w j : ℕ) → numberR s l m w j ≡ n → Drew (boundsR n s l) d → CallFollows n l
   unfolding act
-  call-follows (suc n) l m w j e b = (refl, record { state = refl; items = refl; orders = refl })
+  call-follows (suc n) l m w j e b = (λ i. (suc n, lacking (suc n) (bounds-hide h reach s k l i), nothingSent), record { state = refl; items = refl; orders = refl })
   call-follows zero l m w j e b = let r = perform-follows l m w j e b in (r .0, release-follows _ _ _ _ (r .1))

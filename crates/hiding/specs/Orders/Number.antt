@@ -1,13 +1,14 @@
 -- In a state that calls left, the number of a call, the bounds of its draws and its step are those of the public parts.
 use mathlib.Core.Path.{_≡_, refl, ap, sym, _∙_}
-use mathlib.Core.Bool.{Bool, true, false, not, _&&_, _||_, true≢false}
+use mathlib.Core.Bool.{Bool, true, false, _&&_, _||_, true≢false}
 use mathlib.Core.List.{List, [], _∷_}
 use mathlib.Core.Option.{Option, none, some, Option·getD}
 use Prim.Native.Nat.{ℕ}
-use lib.ListN.{length, replicate, length-replicate}
+use lib.ListN.{length, length-replicate}
 use lib.Dec.{eqb, leb, ltb}
 use borrow.Author.Tests.{leb-true, ltb-true, lt-ltb}
 use Rattle.lists.specs.Members.{mem-member}
+use Rattle.lists.specs.All.{nil, cons}
 use Rattle.lists.specs.Search.{isNone, any, orElse, member}
 use Rattle.lists.specs.Tests.{if_then_else_, between, and-l, and-r, every-yes}
 use Rattle.lists.specs.Distinct.{Mem}
@@ -25,20 +26,12 @@ use Rattle.rules.specs.Turn
 use Rattle.rules.specs.Turn.{Step, idle, noDummy, readForRequest, readForJob, rebuild, writeNext, firstRead, readStep, requestStep, jobStep, decide, command, stepBounds}
 use Rattle.rules.specs.Questions.{possible, inHand, sends, bounds, ready, questions, firstNo, number}
 use Rattle.rules.specs.Ranges.{isKind, bytesOf, inRange}
-use Rattle.rules.specs.Draws.{draws}
-use Rattle.rules.specs.Laws.Drawn.{draws-enough}
+use Rattle.rules.specs.Laws.Bounds.{Few, enough-zeros, partitions-few, turn-few}
 use Rattle.hiding.specs.Machines.Rules.{numberR}
 use Rattle.hiding.specs.Orders.Decides.{OpenStep, decide-open}
 use Rattle.hiding.specs.Machines.Needs.{Reachable}
 use Rattle.hiding.specs.Machines.Release.{held-public}
 use Rattle.hiding.specs.Machines.Public.{Later, later-request, later-turn, later-completion, later-collect, ask, formed, publicAsk, publicLater, publicRequest, blank, hide, requestStepP, plannedP, checked, isNil, decideP, boundsP, questionsP, numberP}
-
--- words are enough if there is one for each draw
-pub enough : (ms ws : List ℕ) → not (isNone (draws ms ws)) ≡ leb (length ms) (length ws)
-enough = draws-enough
-
-pub enough-zeros : (ms : List ℕ) (w : ℕ) → not (isNone (draws ms (replicate w 0))) ≡ leb (length ms) w
-enough-zeros ms w = enough ms (replicate w 0) ∙ simp length-replicate
 
 -- ---- the step
 
@@ -202,9 +195,12 @@ module _ (h : Shape) (reach : Reachable h) (s : State) (k : reach .Holds s) wher
 
   number-request : (j b : ℕ) (bs : List ℕ) (m w n : ℕ) → numberR s (later-request j b bs) m w n ≡ numberP (hide s) (publicLater h (later-request j b bs)) m w n
   unfolding number questions bounds numberP questionsP
-  number-request j b bs m w n = rw (ready-in s m (reach .range s k), enough-zeros (s .shape .P ∷ s .shape .P ∷ []) w)
+  number-request j b bs m w n = rw (ready-in s m (reach .range s k), enough-zeros (s .shape .P ∷ s .shape .P ∷ []) (cons few (cons few nil)) w)
       (seven _ _ _ _ _ _ _ room ∙ go (formed h j b (length bs)) refl)
     where
+      few : Few (s .shape .P)
+      few = partitions-few (s .shape) (range-facts s (reach .range s k) .shape)
+
       room : ltb b (s .shape .N) ≡ true → (ltb (length (s .waiting)) (s .shape .E) || member b (s .waiting)) ≡ true
       room e = rw same-shape (reach .room s b k (ltb-true b (h .N) (rw same-shape at e)))
 
@@ -219,7 +215,7 @@ module _ (h : Shape) (reach : Reachable h) (s : State) (k : reach .Holds s) wher
   number-turn : (m w n : ℕ) → numberR s later-turn m w n ≡ numberP (hide s) later-turn m w n
   unfolding firstNo number questions bounds numberP questionsP
   number-turn m w n =
-      rw (ready-in s m (reach .range s k), enough-zeros (stepBounds (decide s)) w, reach .able s k, ← step-hide, slotless-sends (decide s), slotless-kind (decide s), slotless-bounds (decide s))
+      rw (ready-in s m (reach .range s k), enough-zeros (stepBounds (decide s)) (turn-few s (range-facts s (reach .range s k))) w, reach .able s k, ← step-hide, slotless-sends (decide s), slotless-kind (decide s), slotless-bounds (decide s))
 
   inHand-hide : (o : Option Request) → s .request ≡ o → inHand (finished (hide s)) (blank o) ≡ inHand (finished s) o
   unfolding inHand

@@ -9,11 +9,13 @@ use lib.Dec.{eqb, ltb}
 use Rattle.lists.specs.Tests.{if_then_else_}
 use Rattle.lists.specs.Search
 use Rattle.lists.specs.Search.{keep}
+use Rattle.lists.specs.All.{all-replicate}
 use Rattle.rules.specs.Laws.Answers.{accepted-passed}
-use Rattle.rules.specs.Questions.{bounds, number, questions}
+use Rattle.rules.specs.Questions.{bounds, firstNo, number, questions}
 use Rattle.rules.specs.Shape.{Shape, within}
 use Rattle.rules.specs.State.{State, closed}
 use Rattle.rules.specs.Draws.{Drew}
+use Rattle.rules.specs.Laws.Bounds.{Few, enough-zeros, partitions-few}
 use Rattle.rules.specs.Open.{fresh}
 use Rattle.matching.specs.Deferred.{Trade, full}
 use Rattle.matching.specs.Reads.{Arranges}
@@ -25,7 +27,7 @@ use Rattle.hiding.specs.Machines.Ideal.{seenIf, Seen}
 use Rattle.hiding.specs.Machines.Middle
 use Rattle.hiding.specs.Machines.Middle.{forget, Mid, nextM, itemsM, boundsOpen, mid, mid-legal, mid-next, mid-seen}
 use Rattle.hiding.specs.Orders.Trades.{HiddenOn, boundsIf, tradeIf}
-use Rattle.hiding.specs.Orders.Number.{bounds-hide, number-hide, enough-zeros}
+use Rattle.hiding.specs.Orders.Number.{bounds-hide, number-hide}
 use Rattle.hiding.specs.Machines.Rules.{Real, unopened, shut, on, real, real-legal, real-next, real-seen, numberR, boundsR, nextR, seenR, openCall, Orders, itemsIn, itemsOf, ordersOf, view, openR}
 use Rattle.hiding.specs.Machines.Public.{Later, Entry, first, later, publicLater, hide, openIn, numberP, numberOpen}
 use Rattle.hiding.specs.Orders.Follows.{call-follows, follows-view}
@@ -61,8 +63,12 @@ unfolding fresh
 fresh-hidden h js o = (λ a k. rw (open-none h _ k) (a k), λ a k. rw (open-none h _ k) at (a k))
 
 pub open-number : (h : Shape) (m w : ℕ) → number closed (openCall h m w) ≡ numberOpen h m w
-unfolding number questions bounds numberOpen
-open-number h m w = rw (enough-zeros (replicate (h .N) (h .P)) w) (simp length-replicate)
+unfolding number questions bounds numberOpen firstNo
+open-number h m w = go (within h) refl
+  where
+    go : (t : Bool) → within h ≡ t → number closed (openCall h m w) ≡ numberOpen h m w
+    go true e = rw (enough-zeros (replicate (h .N) (h .P)) (all-replicate Few (h .N) (h .P) (partitions-few h e)) w) (simp length-replicate)
+    go false e = rw e
 
 -- ---- the stage
 

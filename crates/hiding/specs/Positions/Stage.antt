@@ -34,8 +34,8 @@ use Rattle.hiding.specs.Machines.Middle.{Mid, unopened, shut, on, nextSt
 use Rattle.hiding.specs.Positions.Trades.{PlacedIn, askP, tradeP, next-shape, fresh-placed}
 use Rattle.hiding.specs.Machines.Release.{hide-release}
 use Rattle.hiding.specs.Machines.Ideal
-use Rattle.hiding.specs.Machines.Ideal.{seenIf, Seen, legalIf, rebuildP, nextStepI, collectedI, performI, nextI, Ideal, openI, ideal, ideal-legal, ideal-next, ideal-seen}
-use Rattle.hiding.specs.Machines.Public.{Later, later-request, later-turn, later-completion, later-collect, Entry, first, later, formed, publicAsk, publicLater, publicEntry, present, blank, hide, decideP, questionsP, numberP, numberOpen}
+use Rattle.hiding.specs.Machines.Ideal.{lacking, nothingSent, seenIf, Seen, legalIf, rebuildP, nextStepI, collectedI, performI, nextI, Ideal, openI, ideal, ideal-legal, ideal-next, ideal-seen}
+use Rattle.hiding.specs.Machines.Public.{Later, later-request, later-turn, later-completion, later-collect, Entry, first, later, formed, publicAsk, publicLater, publicEntry, present, blank, hide, decideP, boundsP, questionsP, numberP, numberOpen}
 
 -- ---- the public part of the next state is the ideal machine's next state
 
@@ -142,6 +142,17 @@ asked s k b bs m w n e = go (formed (s .shape) k b (length bs)) refl e
     go true f e = (blank-none (s .request) (firstNo-ask _ _ _ _ _ _ e .1), ltb-true b (s .shape .N) (formed-facts (s .shape) k b (length bs) f .1))
     go false f e = let r = firstNo-ask _ _ _ _ _ _ e in (blank-none (s .request) (r .1), ltb-true b (s .shape .N) (r .2))
 
+-- the bounds of the draws are those of the public part
+bounds-public : (h : Shape) (i : State) (l : Later) → boundsP i l ≡ boundsP i (publicLater h l)
+bounds-public h i (later-request k b bs) = go (formed h k b (length bs))
+  where
+    go : (t : Bool) → boundsP i (later-request k b bs) ≡ boundsP i (publicAsk t k b (length bs))
+    go true = refl
+    go false = refl
+bounds-public h i later-turn = refl
+bounds-public h i (later-completion c bs) = refl
+bounds-public h i later-collect = refl
+
 module _ (h : Shape) where
   abbrev pub outside : Machine Entry (List ℕ) Seen
   outside = along (publicEntry h) (ideal h)
@@ -229,7 +240,7 @@ module _ (h : Shape) where
     ask-shows k b bs false q i n p = absurd (true≢false (sym i))
 
     call-shows : (l : Later) (m w n j : ℕ) → numberP (hide s) (publicLater h l) m w n ≡ j → legalIf j (hide s) l e → Shows l j (tradeP h (hide s) j l .f (positions s, e))
-    call-shows l m w n (suc j) q p = (refl, (refl, refl))
+    call-shows l m w n (suc j) q p = (λ i. (suc j, lacking (suc j) (bounds-public h (hide s) l i), nothingSent), (refl, refl))
     call-shows (later-request k b bs) m w n zero q p =
         let r = asked s k b bs m w n (subst (λ h′. numberP (hide s) (publicLater h′ (later-request k b bs)) m w n ≡ 0) (sym same) q) in
         ask-shows k b bs (ltb b (s .shape .N)) refl (lt-ltb b (s .shape .N) (r .1)) (r .0) p

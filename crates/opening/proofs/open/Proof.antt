@@ -1,9 +1,9 @@
 use mathlib.Core.Path.{_≡_, refl, ap, sym, _∙_}
 use mathlib.Core.Bool.{true}
 use mathlib.Core.List.{[]}
-use Prim.Native.Nat.{ℕ, _≤_}
+use Prim.Native.Nat.{_≤_}
 use native.Mathlib.Omega.{arith}
-use lib.ListN.{length, replicate, length-replicate}
+use lib.ListN.{length}
 use Rattle.rules.specs.Shape.{within}
 use Rattle.rules.specs.State.{closed, foundNumber}
 use Rattle.rules.specs.Memory.{needed}
@@ -12,11 +12,10 @@ use Rattle.rules.specs.Questions.{opening, number, bounds}
 use Rattle.rules.specs.Run.{refuse, act, perform, sentCommand, handed, handedFound}
 use Rattle.memory.specs.Fits.{shapeOf}
 use Rattle.client.specs.View.{stateOf, view}
-use Rattle.rules.specs.Laws.Drawn.{taken-all}
 use Rattle.tape.specs.Tape.{wordsOf}
 use Rattle.contract.specs.Answers.{clearedClient}
 use Rattle.contract.specs.Meets.{callOf, meets-no, meets-yes, closed-is}
-use Rattle.opening.specs.Opening.{openNumber, open-number, open-passed, Filled, fresh-is, filled-tail, filled-from, cleared-tail}
+use Rattle.opening.specs.Opening.{drawn-taken, openNumber, open-number, open-passed, Filled, fresh-is, filled-tail, filled-from, cleared-tail}
 use Rattle.opening.proofs.open.Statement.{statement}
 use Rattle.opening.proofs.open.Tie as tie
 use Rattle.contract.proofs.accepted.Reads as accepted-reads
@@ -95,12 +94,11 @@ returns-2 c =
     let m₂ = d .draw-partitions .last .1 .0 in
     let f : Filled (a .h) (a .h .n) m₁ (a .tape .now) m₂ = d .draw-partitions .ensures in
     let s = fresh-is (a .h) (a .tape .now) (y .0) (y .2) m₁ m₂ f in
-    let words : length {A = ℕ} (replicate (a .h .n) (a .h .p)) ≤ length (wordsOf (a .tape .now)) = omega (arith, length-replicate {A = ℕ} (a .h .n) (a .h .p), y .2) in
     let tail = filled-tail (a .h) (a .tape .now) (y .0) (y .2) m₁ m₂ f ∙ cleared-tail (a .h) (a .tape .now) (a .m .now) m₁ (d .before .before .before .before .clear .ensures) in
     rw (c .accepted .ensures, c .before .fresh .ensures) (meets-yes clearedClient closed (opening (shapeOf (a .h))) (a .m .now) (a .tape .now) [] _ m₂ [] (record {
       yes = sym (asked n) ∙ e;
       number = refl;
-      taken = sym (taken-all (replicate (a .h .n) (a .h .p)) (wordsOf (a .tape .now)) words ∙ length-replicate (a .h .n) (a .h .p));
+      taken = sym (drawn-taken (a .h) (a .tape .now) (y .0) (y .2));
       command = refl;
       found = refl;
       state = s;

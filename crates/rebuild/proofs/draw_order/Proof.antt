@@ -1,17 +1,17 @@
 use mathlib.Core.Path.{_≡_, refl}
-use Prim.Native.Nat.{ℕ, _+_, _<_}
+use Prim.Native.Nat.{ℕ, _+_, _^_, _<_}
 use native.Mathlib.Omega.{arith}
 use lib.ListN.{length}
 use Rattle.lists.specs.Search.{below}
-use Rattle.rules.specs.Draws.{draws, orderBounds}
-use Rattle.rules.specs.Run.{numbersOf}
+use Rattle.rules.specs.Draws.{orderBounds}
+use Rattle.rules.specs.Laws.Draws.{Enough}
 use Rattle.memory.specs.Fits.{shapeOf}
 use Rattle.client.specs.View.{stateOf}
 use Rattle.client.specs.Moves.{Stands}
-use Rattle.tape.specs.Tape.{wordsOf}
+use Rattle.tape.specs.Tape.{wordsOf, length-words}
 use Rattle.rebuild.specs.Target.{Within, within-level}
 use Rattle.rebuild.specs.Steps.{ordered}
-use Rattle.rebuild.specs.Shuffle.{Drawing, drawing-start, drawing-step, drawing-done, drawn-at, length-drawn}
+use Rattle.rebuild.specs.Shuffle.{Drawing, drawing-start, drawing-step, drawing-done, drawn-word}
 use Rattle.rebuild.proofs.draw_order.Statement.{statement}
 use Rattle.rebuild.proofs.draw_order.Tie as tie
 use Rattle.bits.proofs.pow2.Reads as pow2-reads
@@ -19,12 +19,13 @@ use Rattle.rebuild.proofs.exchange.Reads as exchange-reads
 use Rattle.rebuild.proofs.level_start.Reads as level-start-reads
 use Rattle.rebuild.proofs.start_order.Reads as start-order-reads
 use Rattle.tape.proofs.draw.Reads as draw-reads
+use Rattle.tape.proofs.settle.Reads as settle-reads
 
 abbrev Inv-loop : tie.InvT-loop
-Inv-loop c m₀ q t tape n base i₀ m i = (i < n) × (length m ≡ length m₀) × Drawing c m₀ m base n i (numbersOf (draws (orderBounds n) (wordsOf tape)))
+Inv-loop c m₀ q t tape n base k₀ i₀ m k i = (i < n) × (length m ≡ length m₀) × Drawing c m₀ m base n i k (wordsOf tape)
 
 abbrev μ-loop : tie.MeasureT-loop
-μ-loop c m₀ q t tape n base i₀ m i = i
+μ-loop c m₀ q t tape n base k₀ i₀ m k i = i
 
 started : (c : tie.After-level-start Inv-loop μ-loop) →
     let d = c .before .before .before .before in
@@ -57,34 +58,52 @@ sub-i c = omega arith
 loop-holds : tie.Need-loop-holds Inv-loop μ-loop
 loop-holds c =
     let a = c .before .before .before .before .before .before .before .before in
-    (omega arith, refl, drawing-start (a .args .c) (a .args .m .now) _ (c .level-start .result) (c .before .pow2 .result) _ (started c))
+    let n = c .before .pow2 in
+    let e : Enough (orderBounds (n .result)) (wordsOf (a .args .tape .now)) = rw (n .ensures .0) (a .pre .3) in
+    (omega arith, refl, drawing-start (a .args .c) (a .args .m .now) _ (c .level-start .result) (n .result) (wordsOf (a .args .tape .now)) (started c) (omega arith) e)
 
-sub-draw : tie.Need-sub-draw Inv-loop μ-loop
-sub-draw c = omega arith
+add-settle : tie.Need-add-settle Inv-loop μ-loop
+add-settle c = omega arith
 
-sub-draw-2 : tie.Need-sub-draw-2 Inv-loop μ-loop
-sub-draw-2 c = omega arith
+settle-requires : tie.Need-settle-requires Inv-loop μ-loop
+settle-requires c κs = omega arith
+
+-- the word that settles the draw was lent
+word-lent : (c : tie.After-settle Inv-loop μ-loop) → c .settle .result < length (wordsOf (c .before .before .before .before .before .before .before .before .before .before .before .args .tape .now))
+word-lent c =
+    let l = c .before .before .loop in
+    let a = c .before .before .before .before .before .before .before .before .before .before .before .args in
+    drawn-word (a .c) _ (l .m) _ _ (l .i) (l .k) (wordsOf (a .tape .now)) (omega arith) (l .inv .2) (c .settle .result) (c .settle .ensures)
 
 add-draw : tie.Need-add-draw Inv-loop μ-loop
 add-draw c = omega arith
 
 draw-requires : tie.Need-draw-requires Inv-loop μ-loop
-draw-requires c κs = omega arith
+draw-requires c κs = (word-lent c, omega arith)
 
 add-exchange : tie.Need-add-exchange Inv-loop μ-loop
 add-exchange c =
-    let l = c .before .before .before in
+    let l = c .before .before .before .before in
     omega (arith, cell-at (l .before) (l .loop .i) (omega arith))
 
 add-exchange-2 : tie.Need-add-exchange-2 Inv-loop μ-loop
 add-exchange-2 c =
-    let l = c .before .before .before in
+    let l = c .before .before .before .before in
     omega (arith, cell-at (l .before) (c .before .draw .result) (omega arith))
 
 exchange-requires : tie.Need-exchange-requires Inv-loop μ-loop
 exchange-requires c κs =
-    let l = c .before .before .before in
+    let l = c .before .before .before .before in
     (omega arith, cell-at (l .before) (l .loop .i) (omega arith), cell-at (l .before) (c .before .draw .result) (omega arith))
+
+tape-short : (c : tie.After-shared-slice-known Inv-loop μ-loop) → length (c .before .before .args .tape .now) < 2 ^ 64
+tape-short c = omega arith
+
+add-k : tie.Need-add-k Inv-loop μ-loop
+add-k c =
+    let w = c .before .before .before .before .before in
+    let k = w .before .before .before .before .before .before .before .before .before in
+    omega (arith, word-lent w, length-words (k .before .before .args .tape .now), tape-short k)
 
 sub-i-2 : tie.Need-sub-i-2 Inv-loop μ-loop
 sub-i-2 c = omega arith
@@ -96,13 +115,13 @@ loop-again : tie.Need-loop-again Inv-loop μ-loop
 loop-again c =
     let d = c .before .before in
     let w = d .before .before in
-    let l = w .before .before in
+    let r = w .before in
+    let l = r .before .before in
     let s = l .before in
     let n = s .before .pow2 .result in
     let a = s .before .before .before .before .before .before .before .before in
-    let ws = wordsOf (a .args .tape .now) in
-    let e = drawn-at n ws (l .loop .i) (w .draw .result) _ _ (omega arith) (omega arith) (omega arith) (w .draw .ensures .0) (omega arith) (omega arith) in
-    let x = drawing-step (a .args .c) _ (l .loop .m) (d .exchange .last .1 .0) (s .level-start .result) n (l .loop .i) (w .draw .result) _ (length-drawn n ws (omega arith)) (omega arith) (omega arith) (omega arith) e (l .loop .inv .2) (d .exchange .ensures) in
+    let x = drawing-step (a .args .c) _ (l .loop .m) (s .level-start .result) n (l .loop .i) (l .loop .k) (wordsOf (a .args .tape .now)) (omega arith) (l .loop .inv .2) (r .settle .result) (r .settle .ensures)
+    (d .exchange .last .1 .0) (w .draw .result) (omega arith) (omega arith) (w .draw .ensures .0) (d .exchange .ensures) in
     (omega arith, omega arith, x)
 
 same-length : tie.Need-same-length Inv-loop μ-loop
@@ -114,7 +133,7 @@ returns c =
     let s = l .before in
     let a = s .before .before .before .before .before .before .before .before in
     rw (← s .level-start .ensures, ← s .before .pow2 .ensures .0)
-    (drawing-done (a .args .c) (a .args .m .now) _ (s .level-start .result) (s .before .pow2 .result) _ (started s) (l .loop .m) (l .loop .i) (omega arith) (l .loop .inv .2))
+    (drawing-done (a .args .c) (a .args .m .now) _ (s .level-start .result) (s .before .pow2 .result) (wordsOf (a .args .tape .now)) (started s) (l .loop .m) (l .loop .i) (l .loop .k) (omega arith) (l .loop .inv .2))
 
 pub draw-order-spec : {M : Type 1} → statement M
 draw-order-spec =
@@ -128,13 +147,14 @@ draw-order-spec =
     level-start-requires
     sub-i
     loop-holds
-    sub-draw
-    sub-draw-2
+    add-settle
+    settle-requires
     add-draw
     draw-requires
     add-exchange
     add-exchange-2
     exchange-requires
+    add-k
     sub-i-2
     loop-less
     loop-again

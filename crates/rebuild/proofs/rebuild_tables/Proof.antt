@@ -21,7 +21,7 @@ mark-written-requires : tie.Need-mark-written-requires
 mark-written-requires c κs = omega arith
 
 draw-order-requires : tie.Need-draw-order-requires
-draw-order-requires c κs = omega arith
+draw-order-requires c κs = let a = c .before .before .before .before .before .before .before .before .before .before .before .before in (omega arith, a .pre .1, a .pre .2, a .pre .8)
 
 place-blocks-requires : tie.Need-place-blocks-requires
 place-blocks-requires c κs =

@@ -1,15 +1,13 @@
 use mathlib.Core.Path.{_≡_, refl, ap, sym, _∙_}
-use mathlib.Core.List.{[], _∷_}
+use mathlib.Core.List.{[]}
 use native.Mathlib.Omega.{arith}
 use lib.ListN.{length}
 use Rattle.rules.specs.Questions.{request, number, bounds}
 use Rattle.rules.specs.Run.{refuse, act, perform, sentCommand, handed, handedFound}
 use Rattle.rules.specs.State.{foundNumber}
 use Rattle.client.specs.View.{stateOf, view}
-use Rattle.rules.specs.Laws.Drawn.{taken-all}
-use Rattle.tape.specs.Tape.{wordsOf}
 use Rattle.contract.specs.Meets.{callOf, meets-no, meets-yes}
-use Rattle.requesting.specs.Requesting.{requestNumber, request-number, Asked, request-passed, in-hand}
+use Rattle.requesting.specs.Requesting.{drawn-taken, requestNumber, request-number, Asked, request-passed, in-hand}
 use Rattle.requesting.proofs.request.Statement.{statement}
 use Rattle.requesting.proofs.request.Tie as tie
 
@@ -46,7 +44,7 @@ returns c =
     (meets-no (a .c) (stateOf (a .c) (a .m .now)) (request (a .kind) (a .block) (a .contents .now)) (a .m .now) (a .tape .now) [] (n .number .result) (asked n) (c .before .if1 .taken) refl)
 
 take-requires : tie.Need-take-requires
-take-requires c κs = let y = yes (c .before .before) (omega arith) in (y .usable .room, y .usable .jobs, omega (arith, y .usable .counts .waiting, y .usable .places), y .block, y .some, y .size, y .words)
+take-requires c κs = let y = yes (c .before .before) (omega arith) in (y .usable .room, y .usable .jobs, omega (arith, y .usable .counts .waiting, y .usable .places), y .block, y .shape, y .some, y .size, y .words)
 
 accepted-requires : tie.Need-accepted-requires
 accepted-requires c κs = omega arith
@@ -65,7 +63,7 @@ returns-2 c =
     rw (c .accepted .ensures) (meets-yes (a .c) (stateOf (a .c) (a .m .now)) (request (a .kind) (a .block) (a .contents .now)) (a .m .now) (a .tape .now) [] _ _ [] (record {
       yes = sym (asked n) ∙ e;
       number = refl;
-      taken = sym (taken-all (a .c .shape .p ∷ a .c .shape .p ∷ []) (wordsOf (a .tape .now)) (y .words));
+      taken = sym (drawn-taken (a .c) (a .tape .now) (y .shape) (y .words));
       command = refl;
       found = refl;
       state = d .take .ensures .state;

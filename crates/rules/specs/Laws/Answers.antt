@@ -2,10 +2,11 @@
 use mathlib.Core.Path.{_≡_, refl, ap, sym, _∙_}
 use mathlib.Core.Bool.{Bool, true, false, not, true≢false}
 use mathlib.Core.List.{List, [], _∷_}
-use Prim.Native.Nat.{ℕ, suc, _≤_}
+use Prim.Native.Nat.{ℕ, _≤_}
 use native.Mathlib.Omega.{arith}
-use mathlib.Core.Option.{Option, none, some}
-use lib.ListN.{length}
+use mathlib.Core.Option.{Option}
+use lib.ListN.{length, take}
+use lib.Seq.{take-at}
 use lib.Dec.{eqb, leb}
 use borrow.Author.Tests.{ne-eqb, eqb-true, eq-eqb}
 use Rattle.lists.specs.Search.{isNone}
@@ -14,9 +15,10 @@ use Rattle.rules.specs.Shape.{Shape, within}
 use Rattle.rules.specs.State.{State, closed}
 use Rattle.rules.specs.Ranges.{inRange, ranges}
 use Rattle.rules.specs.Memory.{needed}
-use Rattle.rules.specs.Draws.{Drawn, draw, draws, drawnFirst}
+use Rattle.rules.specs.Draws.{Drawn, draws}
+use Rattle.rules.specs.Laws.Draws.{Settles, Lent, settled, ended, lent, settles-draws}
 use Rattle.rules.specs.Questions.{Ask, opening, request, turn, completion, collect, Call, ready, questions, firstNo, number, bounds}
-use Rattle.rules.specs.Run.{Outcome, refuse, refused, accepted, step, takenOf}
+use Rattle.rules.specs.Run.{Outcome, act, perform, handedFound, refuse, refused, accepted, sentCommand, handed, step, takenOf, numbersOf}
 
 -- each number of a list of questions is at most m
 abbrev UpTo : ℕ → List (Bool × ℕ) → Type 0
@@ -74,6 +76,17 @@ refused-open s c h e n = ap (λ (r : State × Outcome). r .0) (step-refused s c 
 -- A refusal takes no word, sends no command and hands nothing out
 pub refused-outcome : (s : State) (c : Call) → (number s c ≡ 0 → ⊥) → step s c .1 ≡ refused (number s c)
 refused-outcome s c h = ap (λ (r : State × Outcome). r .1) (step-refused s c h)
+
+-- An open looks at no state before it
+open-same : (s : State) (h : Shape) (k : ℕ) (ws : List ℕ) (n : ℕ) → let c : Call = record { ask = opening h; memory = k; words = ws; buffer = n } in step s c ≡ step closed c
+unfolding step number questions bounds accepted act perform refuse sentCommand handed handedFound
+open-same s h k ws n = refl
+
+pub open-first : (s : State) (c : Call) (h : Shape) → c .ask ≡ opening h → step s c ≡ step closed c
+open-first s c h e = same (c .ask) h e
+  where
+    same : (a : Ask) (h : Shape) → a ≡ opening h → step s (record { ask = a; memory = c .memory; words = c .words; buffer = c .buffer }) ≡ step closed (record { ask = a; memory = c .memory; words = c .words; buffer = c .buffer })
+    same a h e = rw e (open-same s h (c .memory) (c .words) (c .buffer))
 
 -- "A closed state, to which the other four reply 2"
 pub closed-unready : (m : ℕ) → ready closed m ≡ false
@@ -133,24 +146,23 @@ pub step-accepted : (s : State) (c : Call) → number s c ≡ 0 → step s c ≡
 unfolding step
 step-accepted s c h = rw (eq-eqb (number s c) 0 h)
 
--- An accepted call takes one word for each of its bounds, as long as a draw takes one word
-draws-taken : (ms ws : List ℕ) → not (isNone (draws ms ws)) ≡ true → takenOf (draws ms ws) ≡ length ms
-unfolding draws drawnFirst takenOf isNone
-draws-taken [] ws e = refl
-draws-taken (m ∷ ms) [] e = absurd (true≢false (sym e))
-draws-taken (m ∷ ms) (w ∷ ws) e = go (draws ms ws) e (draws-taken ms ws)
+-- The words lent settle the draws: those that are taken do, and no fewer
+pub settled-taken : (ms ws : List ℕ) → not (isNone (draws ms ws)) ≡ true → Settles ms (take (takenOf (draws ms ws)) ws) (numbersOf (draws ms ws))
+unfolding takenOf numbersOf isNone
+settled-taken ms ws e = go (lent ms ws)
   where
-    go : (o : Option Drawn) → not (isNone (drawnFirst (draw m w) o)) ≡ true → (not (isNone o) ≡ true → takenOf o ≡ length ms) → takenOf (drawnFirst (draw m w) o) ≡ suc (length ms)
-    go none e k = absurd (true≢false (sym e))
-    go (some d) e k = ap suc (k refl)
+    go : Lent ms ws → Settles ms (take (takenOf (draws ms ws)) ws) (numbersOf (draws ms ws))
+    go (ended n) = absurd (true≢false (sym e ∙ ap (λ (o : Option Drawn). not (isNone o)) n))
+    go (settled ds us js p k) = rw (p, settles-draws k us, take-at ds us (length ds) refl) k
 
-passed-taken : (s : State) (a : Ask) (m : ℕ) (ws : List ℕ) (n : ℕ) → Passed (questions s a m ws n) → takenOf (draws (bounds s a) ws) ≡ length (bounds s a)
+passed-settled : (s : State) (a : Ask) (m : ℕ) (ws : List ℕ) (n : ℕ) → Passed (questions s a m ws n) → not (isNone (draws (bounds s a) ws)) ≡ true
 unfolding questions
-passed-taken s (opening h) m ws n p = draws-taken _ ws (p .1 .1 .0)
-passed-taken s (request k b bs) m ws n p = draws-taken _ ws (p .1 .1 .1 .1 .1 .1 .0)
-passed-taken s turn m ws n p = draws-taken _ ws (p .1 .1 .1 .1 .0)
-passed-taken s (completion c bs) m ws n p = unfold bounds draws takenOf in refl
-passed-taken s collect m ws n p = unfold bounds draws takenOf in refl
+passed-settled s (opening h) m ws n p = p .1 .1 .0
+passed-settled s (request k b bs) m ws n p = p .1 .1 .1 .1 .1 .1 .0
+passed-settled s turn m ws n p = p .1 .1 .1 .1 .0
+passed-settled s (completion c bs) m ws n p = unfold bounds draws isNone in refl
+passed-settled s collect m ws n p = unfold bounds draws isNone in refl
 
-pub accepted-taken : (s : State) (c : Call) → number s c ≡ 0 → step s c .1 .taken ≡ length (bounds s (c .ask))
-accepted-taken s c h = rw (step-accepted s c h) (unfold accepted in (passed-taken s (c .ask) (c .memory) (c .words) (c .buffer) (accepted-passed s c h)))
+-- An accepted call takes the words up to the one that settles its last draw, passed ones counted
+pub accepted-taken : (s : State) (c : Call) → number s c ≡ 0 → Settles (bounds s (c .ask)) (take (step s c .1 .taken) (c .words)) (numbersOf (draws (bounds s (c .ask)) (c .words)))
+accepted-taken s c h = rw (step-accepted s c h) (unfold accepted in (settled-taken (bounds s (c .ask)) (c .words) (passed-settled s (c .ask) (c .memory) (c .words) (c .buffer) (accepted-passed s c h))))

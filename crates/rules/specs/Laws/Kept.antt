@@ -1,10 +1,9 @@
 -- Every accepted call leaves each number of the state in its range.
-use mathlib.Core.Path.{_≡_, refl, sym}
-use mathlib.Core.Bool.{Bool, true, false, not, _&&_, true≢false}
+use mathlib.Core.Path.{_≡_, refl}
+use mathlib.Core.Bool.{Bool, true, false, not, _&&_}
 use mathlib.Core.List.{List, [], _∷_, _++_, map}
 use mathlib.Core.Option.{Option, none, some, Option·map}
 use Prim.Native.Nat.{ℕ, suc, _+_, _-_, _^_, _≤_, _<_}
-use native.Mathlib.Nat.{mod-lt}
 use native.Mathlib.Omega.{arith}
 use lib.ListN.{length, replicate, length-append}
 use lib.Dec.{eqb, leb}
@@ -35,7 +34,7 @@ use Rattle.rules.specs.State.{State, closed, Command, Place, nowhere, st
 use Rattle.rules.specs.Run
 use Rattle.rules.specs.Run.{act, step, after}
 use Rattle.rules.specs.Collect
-use Rattle.rules.specs.Laws.Answers.{Passed, accepted-passed, step-accepted, step-refused}
+use Rattle.rules.specs.Laws.Answers.{Passed, settled-taken, accepted-passed, step-accepted, step-refused}
 use Rattle.rules.specs.Laws.Waiting.{Waits, leave-waits, pass-waits, others-room, waits-le}
 use Rattle.rules.specs.Questions
 use Rattle.rules.specs.Questions.{Ask, opening, request, turn, completion, collect, Call, bounds, questions, number}
@@ -43,7 +42,8 @@ use Rattle.rules.specs.Turn
 use Rattle.rules.specs.Turn.{Step, idle, noDummy, readForRequest, readForJob, rebuild, writeNext, decide, doStep}
 use Rattle.rules.specs.Completion
 use Rattle.rules.specs.Ranges.{inRange, others, isKind}
-use Rattle.rules.specs.Draws.{newOrder, Drawn, draw, draws, drawnFirst, Drew}
+use Rattle.rules.specs.Draws.{newOrder, draws, Drew}
+use Rattle.rules.specs.Laws.Draws.{settles-drew}
 
 -- Commands sent
 pub kind-read : isKind 1 ≡ true
@@ -282,14 +282,7 @@ module _ (s : State) (f : InRange s) where
 
 -- The words lent give such numbers
 pub drew-of : (ms ws : List ℕ) → All (λ m. 0 < m) ms → not (Search.isNone (draws ms ws)) ≡ true → Drew ms (Run.numbersOf (draws ms ws))
-unfolding draws drawnFirst draw Run.numbersOf Search.isNone
-drew-of [] ws h e = tt
-drew-of (m ∷ ms) [] h e = absurd (true≢false (sym e))
-drew-of (m ∷ ms) (w ∷ ws) (cons h t) e = go (draws ms ws) e (drew-of ms ws t)
-  where
-    go : (o : Option Drawn) → not (Search.isNone (drawnFirst (draw m w) o)) ≡ true → (not (Search.isNone o) ≡ true → Drew ms (Run.numbersOf o)) → Drew (m ∷ ms) (Run.numbersOf (drawnFirst (draw m w) o))
-    go none e k = absurd (true≢false (sym e))
-    go (some d) e k = (mod-lt w h, k refl)
+drew-of ms ws h e = settles-drew h (settled-taken ms ws e)
 
 -- an accepted call that is no open was given a state in range
 pub given-in : (s : State) (m : ℕ) → Questions.ready s m ≡ true → InRange s

@@ -143,6 +143,18 @@ nodup-order (suc n) js p d =
     rw e (nodup-shuffle n js (below (suc n)) (omega (arith, length-below (suc n))) d (nodup-below (suc n)))
 
 -- an order of n slots takes n − 1 draws
+pub bounds-next : (n : ℕ) → 1 < n → orderBounds n ≡ n ∷ orderBounds (n - 1)
+unfolding orderBounds
+bounds-next zero l = absurd (omega arith)
+bounds-next (suc zero) l = absurd (omega arith)
+bounds-next (suc (suc i)) l = let e : suc (suc i) - 1 ≡ suc i = omega arith in rw e
+
+pub bounds-none : (n : ℕ) → n ≤ 1 → orderBounds n ≡ []
+unfolding orderBounds
+bounds-none zero l = refl
+bounds-none (suc zero) l = refl
+bounds-none (suc (suc i)) l = absurd (omega arith)
+
 pub length-bounds : (n : ℕ) → length (orderBounds n) ≡ n - 1
 unfolding orderBounds
 length-bounds zero = refl

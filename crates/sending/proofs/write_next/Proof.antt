@@ -6,6 +6,9 @@ use mathlib.Core.Path.{_≡_, refl, ap, _∙_}
 use mathlib.Core.List.{[]}
 use Rattle.rules.specs.Turn.{writeNext, command, stepBounds}
 use Rattle.rules.specs.Questions.{sends, possible}
+use Rattle.rules.specs.Draws.{draws}
+use Rattle.rules.specs.Run.{takenOf}
+use Rattle.lists.specs.Search.{isNone}
 use Rattle.sending.specs.Sent.{refuses, other-buffer, write-performs, write-sent}
 use native.Mathlib.Omega.{arith}
 use lib.ListN.{length}
@@ -64,7 +67,7 @@ same-length-2 : tie.Need-same-length-2
 same-length-2 c = omega arith
 
 returns-2 : tie.Need-returns-2
-unfolding command sends possible stepBounds
+unfolding command sends possible stepBounds draws isNone takenOf
 returns-2 c =
     let o = c .before .before .before .put-bytes in
     let s = c .before .before .before .before .before .before .before .before .send in
@@ -73,7 +76,7 @@ returns-2 c =
     let a = f .before .before .before .before in
     let r = a .args in
     let some : 1 ≤ r .c .shape .b = a .pre .usable .room .someBytes in
-    rw (c .sent .ensures) (λ tape. write-performs (r .c) (r .m .now) tape (r .buffer .now) (writeNext (r .q) (r .t) (r .i)) (a .pre) (r .q) (r .t) (r .i) refl refl _ _ _ 0 refl (f .if1 .left) refl (omega arith) (sent-length (c .before .before .before .before .before .before .before .before))
+    rw (c .sent .ensures) (λ tape. write-performs (r .c) (r .m .now) tape (r .buffer .now) (writeNext (r .q) (r .t) (r .i)) (a .pre) (r .q) (r .t) (r .i) refl refl _ _ _ 0 refl (f .if1 .left) refl refl (sent-length (c .before .before .before .before .before .before .before .before))
     (write-sent (r .c) (p .result) (s .result) (r .m .now) (s .last .1 .0) [] (r .q) (r .t) (r .i) (p .ensures) (s .ensures .0) (s .ensures .1) _) (omega arith) (o .ensures))
 
 pub write-next-spec : {M : Type 1} → statement M

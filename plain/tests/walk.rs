@@ -1,0 +1,157 @@
+//! The walk over all tapes of words: it counts what goes over them one after
+//! the other, and the pairs made for it tell what they are made for.
+
+use plain::calls::{Ask, Call, Store};
+use plain::lists::{Pair, drawn_again, layered, lent_again, pair, two_stored};
+use plain::mistakes::Mistake;
+use plain::shape::Shape;
+use plain::transcripts::{Event, Transcripts};
+use plain::walk::transcripts;
+use plain::words::{Caller, Words};
+use std::collections::HashMap;
+
+/// The tapes of a list, one after the other.
+struct Direct<'a> {
+    calls: &'a [Call],
+    width: u32,
+    events: Vec<Event>,
+    tapes: HashMap<Vec<Event>, u128>,
+}
+
+/// Each tape of a list of calls counts once, by what it tells.
+fn direct(calls: &[Call], width: u32, mistake: Mistake) -> HashMap<Vec<Event>, u128> {
+    let mut direct = Direct {
+        calls,
+        width,
+        events: Vec::new(),
+        tapes: HashMap::new(),
+    };
+    direct.go(&Store::of_width(width, mistake));
+    direct.tapes
+}
+
+impl Direct<'_> {
+    fn go(&mut self, store: &Store) {
+        let Some(call) = self.calls.get(self.events.len()) else {
+            *self.tapes.entry(self.events.clone()).or_default() += 1;
+            return;
+        };
+        let mut words = Some(vec![0; call.words.len()]);
+        while let Some(lent) = words {
+            let mut next = store.clone();
+            let call = Call {
+                words: lent,
+                ..call.clone()
+            };
+            let outcome = next.call(&call);
+            self.events
+                .push((outcome.number, outcome.taken, outcome.command));
+            self.go(&next);
+            self.events.pop();
+            let on_tape = match outcome.number {
+                3 if call.ask == Ask::Turn => call.words.len(),
+                _ => outcome.taken,
+            };
+            words = self.next_words(call.words, on_tape);
+        }
+    }
+
+    /// The words that come next, if of these only so many are on the tape.
+    fn next_words(&self, mut words: Vec<u16>, on_tape: usize) -> Option<Vec<u16>> {
+        let most = u16::MAX >> (16 - self.width);
+        let last = words[..on_tape].iter().rposition(|word| *word < most)?;
+        words[last] += 1;
+        words[last + 1..].fill(0);
+        Some(words)
+    }
+}
+
+fn walked(pair: &Pair, mistake: Mistake, caller: Caller) -> Transcripts {
+    let mut words = Words::new(pair.width, mistake, caller);
+    transcripts(pair, &mut words, usize::MAX)
+}
+
+/// The pair's first calls.
+fn cut(mut pair: Pair, calls: usize) -> Pair {
+    for side in &mut pair.sides {
+        side.truncate(calls);
+    }
+    pair
+}
+
+/// Hands back how many transcripts there are.
+fn compare(pair: &Pair, mistake: Mistake) -> usize {
+    let all = walked(pair, mistake, Caller::MovesOn).all();
+    let sides = [0, 1].map(|side| direct(&pair.sides[side], pair.width, mistake));
+    for (events, tapes) in &all {
+        let of = |side: usize| sides[side].get(events).copied().unwrap_or(0);
+        assert_eq!([of(0), of(1)], *tapes, "{events:?}");
+    }
+    let told = |side: &HashMap<_, _>| side.keys().all(|events| all.contains_key(events));
+    assert!(sides.iter().all(told));
+    all.len()
+}
+
+/// Up to the turn that draws an order of four slots, and a little further.
+#[test]
+fn made_pairs_have_the_tapes_that_are_counted() {
+    assert_eq!(lent_again().sides[0][11].words.len(), 4);
+    assert_eq!(layered(2).sides[0][11].words.len(), 3);
+    for mistake in [Mistake::None, Mistake::NothingPassed] {
+        assert!(compare(&cut(lent_again(), 13), mistake) > 1);
+        assert!(compare(&cut(layered(2), 15), mistake) > 1);
+    }
+}
+
+#[test]
+fn random_pairs_have_the_tapes_that_are_counted() {
+    let shapes = [
+        Shape::new(1, 1, 1, 1, 1, 1),
+        Shape::new(2, 2, 1, 1, 2, 1),
+        Shape::new(2, 2, 2, 1, 2, 1),
+        Shape::new(1, 1, 2, 1, 1, 2),
+    ];
+    let mut most = 0;
+    for seed in 0..16 {
+        let shape = shapes[seed % shapes.len()];
+        let some = |calls: usize| cut(pair(shape, shape.levels as u32, seed as u64), calls);
+        // As long as there are few enough tapes to go over.
+        let fits = |calls: &usize| {
+            let found = walked(&some(*calls), Mistake::None, Caller::MovesOn);
+            found.tapes().0 < 20_000.0
+        };
+        let lengths: Vec<usize> = (0..=some(usize::MAX).sides[0].len()).collect();
+        let calls = lengths.partition_point(fits) - 1;
+        most = most.max(compare(&some(calls), Mistake::None));
+    }
+    assert!(most > 20, "{most}");
+}
+
+/// Whether the pair is told apart with each wrong rule of draws.
+fn told(pair: &Pair) -> [bool; 3] {
+    Mistake::DRAWS.map(|mistake| !walked(pair, mistake, Caller::MovesOn).equal())
+}
+
+/// With the right rules none is told apart; that a draw is uneven shows in the
+/// slots of an order, and that words are drawn from twice in partitions.
+#[test]
+fn made_pairs_tell_what_they_are_made_for() {
+    let all = [two_stored(2), two_stored(3), lent_again(), drawn_again()];
+    for pair in &all {
+        let found = walked(pair, Mistake::None, Caller::MovesOn);
+        assert!(pair.is_compared() && found.equal() && found.equally_long);
+        assert!(found.passed && found.unsettled);
+        assert_eq!(found.places, pair.sides[0].len());
+    }
+    let wanted = [[true, false, true], [true, false, true], [false; 3]];
+    assert_eq!([&all[0], &all[1], &all[2]].map(told), wanted);
+    assert_eq!(told(&all[3]), [false, true, false]);
+}
+
+/// A caller who lends words again that were lent to a turn answered 3.
+#[test]
+fn words_lent_again_are_told() {
+    let again = |pair: &Pair| !walked(pair, Mistake::None, Caller::LendsAgain).equal();
+    assert!(again(&lent_again()));
+    assert!(!again(&two_stored(2)) && !again(&drawn_again()));
+}
