@@ -86,8 +86,9 @@ static inline size_t rinwolfedd_page_bytes(size_t p)
 
 /* Opens a store of N blocks, P partitions, L levels, B bytes a block, E places
  * in the eviction cache, W commands outstanding at most. The tape is random
- * words of two bytes, low byte first; N of them are taken, and none of them may
- * be lent again. Only E = N hides the block. */
+ * words of two bytes, low byte first; N of them are taken. No word that was taken
+ * may be lent again. A call looks at no more than 2^32 - 1 words. Only E = N
+ * hides the block. */
 uint64_t rinwolfedd_open(uint8_t *state, size_t state_len,
                          uint8_t *memory, size_t memory_len,
                          size_t n, size_t p, size_t l, size_t b, size_t e, size_t w,
@@ -102,8 +103,11 @@ uint64_t rinwolfedd_request(uint8_t *state, size_t state_len,
                             const uint8_t *tape, size_t tape_len);
 
 /* Sends one command; a write's bytes go into the buffer, which has exactly B. A
- * turn that begins to write a level of 2^k slots takes 2^k - 1 words, at most
- * 255; others take none. */
+ * turn that begins to write a level of 2^k slots draws 2^k - 1 numbers, at most
+ * 255; others take no word. A draw below m passes over words at or above the
+ * largest multiple of m that is at most 65536; they count as taken, so lend 64
+ * to spare. A turn that answers RINWOLFEDD_TOO_FEW_WORDS takes none; if the
+ * store is to hide, none of the words lent to it may be lent again. */
 uint64_t rinwolfedd_turn(uint8_t *state, size_t state_len,
                          uint8_t *memory, size_t memory_len,
                          const uint8_t *tape, size_t tape_len,

@@ -4,8 +4,9 @@ use crate::refusal::Refusal;
 use std::fmt;
 use std::io;
 
-/// Why a look-up came to nothing. Only [`Error::Host`] can come midway, with
-/// commands sent; after it a reader makes no more look-ups.
+/// Why a look-up came to nothing. Only [`Error::Host`] and
+/// [`Error::NotRandom`] can come midway, with commands sent; after either a
+/// reader makes no more look-ups.
 ///
 /// It prints what failed; why is in its [`source`](std::error::Error::source).
 #[derive(Debug)]
@@ -21,15 +22,18 @@ pub enum Error {
     /// The source of random words failed, or ended (`UnexpectedEof`). Nothing
     /// was sent, and the reader goes on if there are words again.
     Words(io::Error),
+    /// A look-up passed over so many words that they cannot be random: whoever
+    /// gives such words hides nothing.
+    NotRandom,
     /// An earlier look-up failed midway, and what the host has done of it is
     /// not known: the reader makes no more.
     Unfinished,
 }
 
 impl Error {
-    /// A refusal after commands were sent. The reader has asked for all that a
-    /// look-up needs before it, so what is left is a completion of something
-    /// that is not outstanding.
+    /// Another refusal after commands were sent. The reader has asked for all
+    /// that a look-up needs before it, so what is left is a completion of
+    /// something that is not outstanding.
     pub(crate) fn midway(refusal: Refusal) -> Error {
         Error::Host(io::Error::new(io::ErrorKind::InvalidData, refusal))
     }
@@ -41,6 +45,7 @@ impl fmt::Display for Error {
             Error::Refused(_) => "the store refused",
             Error::Host(_) => "the host failed",
             Error::Words(_) => "there are no random words",
+            Error::NotRandom => "too many words were passed over: they are not random",
             Error::Unfinished => "an earlier look-up failed midway",
         })
     }
@@ -51,7 +56,7 @@ impl std::error::Error for Error {
         match self {
             Error::Refused(refusal) => Some(refusal),
             Error::Host(error) | Error::Words(error) => Some(error),
-            Error::Unfinished => None,
+            Error::NotRandom | Error::Unfinished => None,
         }
     }
 }

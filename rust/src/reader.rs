@@ -18,6 +18,11 @@ use std::io::Read;
 /// Where the operating system hands out random bytes.
 const RANDOM: &str = "/dev/urandom";
 
+/// The words that a look-up may pass over. With eight levels it passes over less
+/// than half a word on average, and more than these less than once in 10^111
+/// look-ups.
+const SPARE: usize = 64;
+
 /// Reads and writes blocks by whole look-ups. Each is a request, its reads,
 /// the collect, and both its jobs to the end, with up to W commands
 /// outstanding; so the next look-up finds nothing in its way.
@@ -30,9 +35,11 @@ const RANDOM: &str = "/dev/urandom";
 /// cache, has been looked up, and its jobs have made room.
 ///
 /// Words come from `/dev/urandom`, or from any other source with
-/// [`with_words`](Reader::with_words). All that a look-up can take are there
-/// before it begins, so that only the host can fail midway. Then all later
-/// look-ups answer [`Error::Unfinished`].
+/// [`with_words`](Reader::with_words). All that a look-up takes are there before
+/// it begins, with some to spare for those that are [passed over](crate::Tape), so
+/// that of random words there are enough and only the host can fail midway. Then
+/// all later look-ups answer [`Error::Unfinished`]. No word is lent to a call that
+/// was taken before.
 ///
 /// Each look-up also tells the owner of the store where its block was
 /// [found](Found), and a [tally](Reader::tally) has how often it was where.
@@ -174,9 +181,11 @@ impl<H: Host, R: Read> Reader<H, R> {
     ///
     /// [`Error::Refused`] for a block that is none of the store's, or for want
     /// of a place in a cache with fewer than N; [`Error::Words`] if fewer words
-    /// are left than a look-up can take, 2^(L+1). Nothing was sent then, and the
-    /// reader goes on. [`Error::Host`] if the host fails or completes what it
-    /// was not sent, which ends the reader: [`Error::Unfinished`] from then on.
+    /// are left than a look-up asks for, 2^(L+1) and 64 to be passed over. Nothing
+    /// was sent then, and the reader goes on. [`Error::Host`] if the host fails or
+    /// completes what it was not sent, which ends the reader:
+    /// [`Error::Unfinished`] from then on. So does [`Error::NotRandom`], if so
+    /// many words are passed over that those ready end.
     pub fn read(&mut self, block: usize) -> Result<LookedUp, Error> {
         let mut contents = vec![0; self.shape().bytes()];
         let found = self.read_into(block, &mut contents)?;
@@ -290,7 +299,7 @@ impl<H: Host, R: Read> Reader<H, R> {
             return Err(Refusal::BufferLength.into());
         }
         // two for the request, and an order of at most 2^L slots for each job
-        let most = 2 << self.shape().levels();
+        let most = (2 << self.shape().levels()) + SPARE;
         self.words.ready(most).map_err(Error::Words)?;
         let mut tape = self.words.tape();
         self.store.request(request, &mut tape)?;
@@ -323,6 +332,7 @@ impl<H: Host, R: Read> Reader<H, R> {
                     self.complete()?;
                 }
                 Err(Refusal::NothingToSend) => return Ok(()),
+                Err(Refusal::TooFewWords) => return Err(Error::NotRandom),
                 Err(refusal) => return Err(Error::midway(refusal)),
             }
         }

@@ -14,7 +14,7 @@ pub enum Refusal {
     /// Is the memory long enough, is each number of the state, and the kind, in
     /// its range? In a closed state they are not.
     NotReady = 2,
-    /// Are enough words of the tape left?
+    /// Do the words that are left of the tape settle the call's draws?
     TooFewWords = 3,
     /// Request: is no request in hand?
     RequestInHand = 4,

@@ -132,18 +132,27 @@ impl Store {
     }
 
     /// Sends one command, with the bytes of a write; those of a read are
-    /// empty. A turn that draws an order takes up to 255 words. The bytes are
-    /// those of a block, or zeros: whoever seals them seals all of them, each
-    /// time anew ([`Host`](crate::Host#sealing)).
+    /// empty. A turn that draws an order takes a word for each of up to 255
+    /// draws, and those that it passes over ([`Tape`]): with 64 more than draws
+    /// it is refused less than once in 10^120 times, with none to spare one of
+    /// five of the longest orders is. The bytes are those of a
+    /// block, or zeros: whoever seals them seals all of them, each time anew
+    /// ([`Host`](crate::Host#sealing)).
     ///
     /// # Errors
     ///
     /// [`Refusal::WindowFull`], [`Refusal::NothingToSend`] or
-    /// [`Refusal::TooFewWords`].
+    /// [`Refusal::TooFewWords`]: then nothing is left of the tape, and the turn
+    /// may be asked for again with another.
     pub fn turn(&mut self, tape: &mut Tape<'_>) -> Result<(Command, &[u8]), Refusal> {
         let (state, memory) = (&mut self.state, &mut self.memory);
         let answer = calls::turn(state, memory, tape.rest(), &mut self.buffer);
-        answer.accepted()?;
+        if let Err(refusal) = answer.accepted() {
+            if refusal == Refusal::TooFewWords {
+                tape.spend();
+            }
+            return Err(refusal);
+        }
         tape.take(answer.taken());
         let command = answer.command().expect("an accepted turn has sent one");
         let bytes = match command.kind {

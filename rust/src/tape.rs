@@ -6,9 +6,47 @@ use std::io::{self, Read};
 /// Random words lent to a call: pairs of bytes, low byte first. A call takes
 /// words from the front, and the tape moves on, so that no word is drawn from
 /// twice. A refused call takes none.
+///
+/// A draw below m passes over words at or above the largest multiple of m that
+/// is at most 65,536, so that each number below m is as likely as the others.
+/// Passed words count as taken. m is a power of two for an open and a request,
+/// and then none is passed over. An order of n slots has draws below n, n - 1,
+/// .., 2; the longest, of 256 slots, passes over 0.22 words on average.
+///
+/// A turn that is refused for want of words has been lent all that were left,
+/// and what the host is told then depends on them: they are not lent again, and
+/// nothing is left of the tape.
+///
+/// ```
+/// # use rinwolfedd::{Refusal, Request, Shape, Store, Tape};
+/// // one that hides anything is random
+/// let mut tape = Tape::new(&[0; 8]);
+/// let mut store = Store::open(Shape::new(1, 1, 2, 1), &mut tape)?;
+/// store.request(Request::Read { block: 0 }, &mut tape)?;
+/// store.collect()?;
+/// let (write, _) = store.turn(&mut tape)?; // the order of two slots
+/// store.completion(write, &[])?;
+/// let (write, _) = store.turn(&mut tape)?;
+/// store.completion(write, &[])?;
+/// for _ in 0..2 {
+///     let (read, _) = store.turn(&mut tape)?;
+///     store.completion(read, &[0])?;
+/// }
+/// // the order of four: below 3 the word 65,535 is passed over
+/// let mut few = Tape::new(&[0, 0, 255, 255, 1, 0]);
+/// assert_eq!(store.turn(&mut few), Err(Refusal::TooFewWords));
+/// assert_eq!((few.taken(), few.left()), (0, 0));
+/// let mut more = Tape::new(&[0, 0, 255, 255, 1, 0, 0, 0]);
+/// store.turn(&mut more)?;
+/// assert_eq!(more.taken(), 4);
+/// # Ok::<(), Refusal>(())
+/// ```
 pub struct Tape<'a> {
     bytes: &'a [u8],
     taken: usize,
+    /// The words that are not lent again: those taken, and those lent to a
+    /// turn that found them too few.
+    used: usize,
 }
 
 /// How many words, and none of them: who knows them knows the blocks.
@@ -25,7 +63,11 @@ impl<'a> Tape<'a> {
     /// A tape of these bytes. An odd last byte is no word.
     #[must_use]
     pub const fn new(bytes: &'a [u8]) -> Tape<'a> {
-        Tape { bytes, taken: 0 }
+        Tape {
+            bytes,
+            taken: 0,
+            used: 0,
+        }
     }
 
     /// The words that calls have taken.
@@ -34,18 +76,24 @@ impl<'a> Tape<'a> {
         self.taken
     }
 
-    /// The words left.
+    /// The words left to lend.
     #[must_use]
     pub fn left(&self) -> usize {
         self.rest().len() / 2
     }
 
     pub(crate) fn rest(&self) -> &'a [u8] {
-        self.bytes.get(2 * self.taken..).unwrap_or(&[])
+        self.bytes.get(2 * self.used..).unwrap_or(&[])
     }
 
     pub(crate) fn take(&mut self, words: usize) {
         self.taken += words;
+        self.used += words;
+    }
+
+    /// None of the words left is lent again.
+    pub(crate) fn spend(&mut self) {
+        self.used += self.left();
     }
 }
 
@@ -114,6 +162,14 @@ mod tests {
             (tape.taken(), tape.left(), tape.rest()),
             (1, 1, &[3, 4, 5][..])
         );
+    }
+
+    #[test]
+    fn a_spent_tape_lends_no_word_again() {
+        let mut tape = Tape::new(&[1, 2, 3, 4, 5]);
+        tape.take(1);
+        tape.spend();
+        assert_eq!((tape.taken(), tape.left(), tape.rest()), (1, 0, &[5][..]));
     }
 
     /// A source that hands out few bytes at a time.

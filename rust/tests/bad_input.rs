@@ -120,13 +120,13 @@ fn words_kind<T>(result: Result<T, Error>) -> ErrorKind {
     }
 }
 
-/// The open takes 8 words and a look-up at most 16. Where there are fewer,
-/// nothing is sent, and the reader is not ended.
+/// The open takes 8 words, and a look-up asks for 16 and 64 to be passed over.
+/// Where there are fewer, nothing is sent, and the reader is not ended.
 #[test]
 fn words_that_end() {
     let ended = ErrorKind::UnexpectedEof;
     assert_eq!(words_kind(with_words(7, io::empty())), ended);
-    for words in 8..24 {
+    for words in 8..88 {
         let mut reader = with_words(words, io::empty()).unwrap();
         assert_eq!(words_kind(reader.read(0)), ended);
         assert_eq!(words_kind(reader.write(0, &[1; 4])), ended);
@@ -134,12 +134,28 @@ fn words_that_end() {
         assert_eq!(reader.tally().total(), 0);
     }
     // however the words fall, they never end midway
-    for words in 24..400 {
+    for words in 88..464 {
         let mut reader = with_words(words, io::empty()).unwrap();
         let ends = (0..8).cycle().find_map(|block| reader.read(block).err());
         assert_eq!(words_kind(ends.map_or(Ok(()), Err)), ended);
         assert!(!reader.is_unfinished() && !reader.host().commands().is_empty());
     }
+}
+
+/// Words that every draw below 3 passes over: an order of four slots is never
+/// drawn, and a reader that asked for more such words would ask forever.
+#[test]
+fn words_that_are_not_random() {
+    let host = MemoryHost::new(SHAPE, 1).unwrap();
+    let mut reader = Reader::with_words(SHAPE, host, io::repeat(255)).unwrap();
+    let failed = (0..8).find_map(|block| reader.read(block).err());
+    let Some(Error::NotRandom) = failed else {
+        panic!("{failed:?}");
+    };
+    assert!(reader.is_unfinished());
+    let Err(Error::Unfinished) = reader.read(0) else {
+        panic!("a look-up after one that failed midway");
+    };
 }
 
 /// A source that fails every other time that it is asked, and else has few

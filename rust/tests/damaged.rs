@@ -168,7 +168,7 @@ fn suited(view: &View, memory: usize, rng: &mut Rng) -> Call {
     Call {
         ask,
         memory,
-        words: rng.words((1 << shape.levels) - 1),
+        words: rng.tape(1 << shape.levels),
         buffer: bytes,
     }
 }

@@ -19,7 +19,7 @@ const WORDS: [&[u16]; 5] = [
     &[1, 0, 0, 0, 0, 0], // partition 0 is rebuilt twice: the block waits for 1
     &[1, 1, 0, 0, 0, 0], // partition 1, twice: the block goes to level 0, then 1
     &[1, 0, 0, 0],       // partition 1, then 0: level 0 each, the block in 1's
-    &[0; 16],            // whatever follows
+    &[0; 80],            // whatever follows, and what may be passed over
 ];
 
 fn bytes(words: &[u16]) -> Vec<u8> {

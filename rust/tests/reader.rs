@@ -183,9 +183,8 @@ fn the_order_of_completion_leaves_the_commands_alone() {
 fn a_recorded_host_has_all_commands_in_order() {
     let shape = shape(1, 1, 1, 1, 1);
     // the worked session of the document: its words, and what its host sees
-    let words = [0, 0, 0, 1, 0, 0, 0, 0, 0, 0, 0]
-        .map(u16::to_le_bytes)
-        .concat();
+    let mut words = [0; 160];
+    words[2 * 3] = 1;
     let host = Recorded::new(MemoryHost::new(shape, 1).unwrap());
     let mut reader = Reader::with_words(shape, host, &words[..]).unwrap();
     let before = reader.write(0, &[7]).unwrap();

@@ -141,7 +141,7 @@ impl Random {
         Call {
             ask,
             memory: self.shape.needed() + slack,
-            words: self.rng.words(words),
+            words: self.rng.tape(words),
             buffer,
         }
     }
@@ -219,8 +219,19 @@ impl Random {
         self.ask_for(kind, block, length, words)
     }
 
+    /// Words that settle an order's draws, the last one by the last word or
+    /// before it; now and then one too few.
     fn turn(&mut self) -> Call {
-        self.lend(Ask::Turn, (1 << self.shape.levels) - 1, self.shape.bytes)
+        let state = self.model.state.as_ref();
+        let bounds = state.map_or(Vec::new(), |state| state.turn_bounds());
+        let mut call = self.lend(Ask::Turn, 0, self.shape.bytes);
+        call.words = self.rng.settling(bounds);
+        match self.rng.below(10) {
+            0 => drop(call.words.pop()),
+            1..4 => call.words.extend(self.rng.tape(1)),
+            _ => {}
+        }
+        call
     }
 
     /// Too few words or a buffer too long or short, which a read accepts.

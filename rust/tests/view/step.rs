@@ -6,7 +6,7 @@ use plain::found::Found;
 use plain::mistakes::Mistake;
 use plain::shape::Shape;
 use plain::state::{Command, READ, WRITE};
-use plain::turn::order;
+use plain::turn::{order, order_bounds};
 
 /// What a turn does next.
 #[derive(Clone, Copy, Debug, PartialEq, Eq)]
@@ -245,7 +245,7 @@ impl View {
     }
 
     fn rebuild(&mut self, q: usize, target: usize, draws: &mut Draws) -> Result<(), u8> {
-        ask(draws.left() >= slots(target) - 1, 3)?;
+        ask(draws.settle(order_bounds(slots(target), Mistake::None)), 3)?;
         let sources = self.sources(q);
         let chosen = self.chosen(q);
         let mut gathered: Vec<usize> = self.held_in(q, sources).chain(chosen).collect();
