@@ -11,7 +11,7 @@ impl Store {
             return Answer::refused(15);
         }
         let target = self.job.target;
-        let Some(taken) = self.draw_order(words) else {
+        let Some(taken) = order_words(words, 2 << target) else {
             return Answer::refused(3);
         };
         let chosen = self.chosen();
@@ -22,6 +22,7 @@ impl Store {
             self.take(chosen);
         }
         self.gathered[..self.job.count].sort_unstable();
+        self.draw_order(&words[..taken]);
         self.place();
         self.job.phase = Phase::Write;
         self.job.left = 2 << target;
@@ -55,10 +56,8 @@ impl Store {
         self.job.room = room;
     }
 
-    /// Draws the target's order and hands back the words taken, if they
-    /// settle it. The order that the target had is read no more, so that it
-    /// may be lost even if they don't.
-    fn draw_order(&mut self, words: &[u16]) -> Option<usize> {
+    /// Draws the target's order from the words that settle it.
+    fn draw_order(&mut self, words: &[u16]) {
         let Job { base, target, .. } = self.job;
         let first = base + (2 << target);
         let slot_of = &mut self.slot_of[first..first + (2 << target)];
@@ -66,18 +65,17 @@ impl Store {
             *slot = item;
         }
         let inverse = &self.inverse[..=slot_of.len()];
-        let mut left = words.iter();
-        for i in (1..slot_of.len()).rev() {
+        let mut i = slot_of.len() - 1;
+        for word in words.iter().map(|word| u32::from(*word)) {
             let m = i as u32 + 1;
-            let mut word = u32::from(*left.next()?);
-            while is_passed(word, m) {
-                word = u32::from(*left.next()?);
+            if is_passed(word, m) {
+                continue;
             }
             let part = inverse[i + 1].wrapping_mul(word);
             let j = (u64::from(part) * u64::from(m)) >> 32;
             slot_of.swap(i, j as usize);
+            i -= 1;
         }
-        Some(words.len() - left.len())
     }
 
     /// Gives the gathered blocks their new place.
@@ -108,6 +106,15 @@ impl Store {
             _ => partition.unread[1 << (target - 5)..2 << (target - 5)].fill(!0),
         }
     }
+}
+
+/// How many words an order of so many slots takes, if they settle it.
+fn order_words(words: &[u16], slots: u32) -> Option<usize> {
+    let mut left = words.iter();
+    for m in (2..=slots).rev() {
+        while is_passed(u32::from(*left.next()?), m) {}
+    }
+    Some(words.len() - left.len())
 }
 
 /// Whether a draw below m passes the word over. The limit is above 2^16 - m,
