@@ -4,7 +4,7 @@ from pathlib import Path
 TOP = Path(__file__).resolve().parent.parent
 
 # the fields of InRange
-FACTS = 'shape partitions places counters orders marks holds waiting queue outstanding cursor sent free request jobs cache'.split()
+FACTS = 'shape partitions places counters orders marks holds waiting queue outstanding begun cursor sent free request jobs cache'.split()
 
 # what is said of each slot of the shape, x being the new table
 EACH_SLOT = '(q ℓ i : ℕ) → q < s .shape .P → ℓ < s .shape .L → i < slots ℓ → x (cell (s .shape) q ℓ i)'
@@ -37,6 +37,9 @@ SETTERS = {
     'Queue': ('List ℕ', {
         'queue': 'All (λ q. q < s .shape .P) x',
         'jobs': 'JobsIn x (s .request)',
+    }),
+    'Begun': ('ℕ', {
+        'begun': 'x ≤ 1',
     }),
     'Cursor': ('ℕ', {
         'cursor': 'x ≤ slots (s .shape .L) - 2',

@@ -14,6 +14,7 @@ FIELDS = {
     'mark': 'ℕ → ℕ',
     'holds': 'ℕ → ℕ',
     'queue': 'List ℕ',
+    'begun': 'ℕ',
     'cursor': 'ℕ',
     'sent': 'ℕ',
     'outstanding': 'List Command',

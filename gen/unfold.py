@@ -6,7 +6,7 @@ TOP = Path(__file__).resolve().parent.parent
 
 # crate: its files with definitions, and how the written file names their folder
 FILES = {
-    'lists': ('Rattle.lists.specs', 'Tests Search Tables'),
+    'lists': ('Rattle.lists.specs', 'Tests Search Tables Totals'),
     'rules': ('Rattle.rules.specs', '''
         Shape State Ranges Memory Draws Levels Blocks Open Request Rebuild Turn Completion Collect Questions Run Figures'''),
 }

@@ -19,7 +19,7 @@ struct Check {
     array: Vec<Vec<u8>>,
     /// The kind, block and contents of the request in hand.
     request: Option<(usize, usize, Vec<u8>)>,
-    /// Where its block was when no job for its partition was left.
+    /// Where its block was when nothing held it any longer.
     found: Option<Found>,
     /// How often each number was answered.
     numbers: [usize; 16],
@@ -50,6 +50,25 @@ pub fn check(
         check.random_call().map_err(|e| format!("{e} at {place}"))?;
     }
     Ok((check.numbers, check.collected))
+}
+
+/// Whether a request for this partition may be looked up: there is no job for
+/// it, or only one, at the front, that is not writing yet, and above its
+/// sources each filled level has fewer than 2^l slots read.
+fn looks_up(state: &State, p: usize) -> bool {
+    let jobs = (0..state.queue.len()).filter(|at| state.queue[*at] == p);
+    match jobs.collect::<Vec<usize>>()[..] {
+        [] => true,
+        [0] if state.writing.is_none() => {
+            let lowest_empty = (state.counter[p] as u32).trailing_ones() as usize;
+            let above = lowest_empty..state.shape.levels;
+            let marks = |level: usize| state.levels[p][level].read.iter();
+            above
+                .filter(|level| state.counter[p] & 1 << level != 0)
+                .all(|level| marks(level).filter(|read| **read).count() < 1 << level)
+        }
+        _ => false,
+    }
 }
 
 /// Where a block is by the tables of its partition's levels.
@@ -98,13 +117,12 @@ impl Check {
         }
     }
 
-    /// Notes where the block in hand is, once no job for its partition is
-    /// queued.
+    /// Notes where the block in hand is, once nothing holds it.
     fn watch(&mut self) {
         let (Some(state), Some((_, block, _))) = (&self.store.state, &self.request) else {
             return;
         };
-        if self.found.is_none() && !state.queue.contains(&state.partition[*block]) {
+        if self.found.is_none() && looks_up(state, state.partition[*block]) {
             self.found = Some(found(state, *block));
         }
     }

@@ -189,6 +189,7 @@ impl State {
             next: draws.below(self.shape.partitions),
             evict: evictions[draws.below(evictions.len())],
             level: 0,
+            awaits: Vec::new(),
             found: None,
             at_acceptance: self.look_up(block),
         });
@@ -218,6 +219,9 @@ impl State {
         let length = if reads { self.shape.bytes } else { 0 };
         ask(bytes.len() == length, 12)?;
         self.outstanding.remove(index);
+        if let Some(request) = &mut self.request {
+            request.awaits.retain(|awaited| *awaited != command);
+        }
         let q = command.partition;
         let level = &self.levels[q][command.level];
         if reads {

@@ -35,22 +35,19 @@ impl State {
         }
     }
 
-    /// Whether a job for the block's partition is queued or running; the one
-    /// that runs is the queue's front.
-    pub fn has_job(&self, block: usize) -> bool {
-        self.queue.contains(&self.partition[block])
-    }
-
     /// What comes after every accepted call: a held request is released once
-    /// no job for its partition is left. That may be its own acceptance, or
-    /// the completion that ends a job.
+    /// nothing holds it. That may be its own acceptance, or the completion
+    /// that ends a job.
     pub fn release(&mut self) {
         let Some(mut request) = self.request.take() else {
             return;
         };
-        let waits = self.has_job(request.block) && self.mistake != Mistake::ReleasedAtOnce;
-        if request.is_held() && !waits {
+        let held = self.holds(self.partition[request.block]);
+        if request.is_held() && !held {
             request.found = Some(self.found_at_release(&request));
+            request.awaits = self.awaited(request.block);
+        } else if held && self.mistake == Mistake::HeldAgain {
+            request.found = None;
         }
         self.request = Some(request);
     }
@@ -58,6 +55,7 @@ impl State {
     fn found_at_release(&self, request: &Request) -> Found {
         match self.mistake {
             Mistake::FoundAtAcceptance => request.at_acceptance,
+            Mistake::ReadCountsAsCache if self.was_read(request.block) => Found::Cache,
             _ => self.look_up(request.block),
         }
     }

@@ -1,18 +1,22 @@
 //! A plain implementation of document 01's block store and of document 02's
-//! page on its state (P1), where a block was found (P2) and even draws (P3). It
-//! is written from these documents alone and made to be read, so that other
-//! implementations and definitions can be compared with it. Beside it is a fast
-//! implementation of the same rules, for benchmarks.
+//! page on its state (P1), where a block was found (P2), even draws (P3) and
+//! look-ups while a partition is rebuilt (P4). It is written from these
+//! documents alone and made to be read, so that other implementations and
+//! definitions can be compared with it. Beside it is a fast implementation of
+//! the same rules, for benchmarks.
 
 pub mod antt;
 pub mod array;
+pub mod beside;
 pub mod calls;
 pub mod draws;
 pub mod fast;
 pub mod found;
 pub mod host;
+pub mod joined;
 pub mod lists;
 pub mod lookups;
+pub mod marks;
 pub mod mistakes;
 mod mixer;
 pub mod page;
@@ -21,6 +25,7 @@ pub mod rng;
 pub mod script;
 pub mod session;
 pub mod shape;
+pub mod situations;
 pub mod state;
 pub mod transcripts;
 pub mod turn;

@@ -5,8 +5,10 @@
 //! completion is put for every command that is outstanding in one of them.
 
 mod made;
+mod rebuilt;
 
 pub use made::{drawn_again, layered, lent_again, two_stored};
+pub use rebuilt::{above_sources, source_read, source_spent, source_unread};
 
 use crate::calls::{Ask, Call, Store};
 use crate::mistakes::Mistake;
@@ -106,6 +108,8 @@ struct Builder {
     sides: [Vec<Call>; 2],
     /// The words lent to turns until the next request.
     turn_words: usize,
+    /// In how many of a hundred cases an outstanding command is completed.
+    completes: usize,
 }
 
 fn builder(shape: Shape, width: u32, seed: u64) -> Builder {
@@ -121,6 +125,7 @@ fn builder(shape: Shape, width: u32, seed: u64) -> Builder {
         samples: [runs(), runs()],
         sides: [Vec::new(), Vec::new()],
         turn_words: 0,
+        completes: [90, 90, 50][seed as usize % 3],
     }
 }
 
@@ -259,7 +264,7 @@ impl Builder {
             if self.rng.chance(3) {
                 self.completion(command, length + 1);
             }
-            if self.rng.chance(90) {
+            if self.rng.chance(self.completes) {
                 self.completion(command, length);
             }
         }

@@ -1,6 +1,8 @@
 //! Wrong rules that can be switched on in the model. A test that compares
 //! outcomes or transcripts has to tell each of them from the right rules.
 
+use crate::joined::joined;
+
 #[derive(Clone, Copy, Debug, PartialEq, Eq, Hash)]
 pub enum Mistake {
     /// The right rules.
@@ -57,10 +59,62 @@ pub enum Mistake {
     PassedNotCounted,
     /// A draw takes the remainder of any word.
     NothingPassed,
+    /// Every job for its partition holds a request, as before look-ups beside
+    /// a rebuild.
+    HeldByEveryJob,
+    /// A request is released beside two jobs for its partition, the first of
+    /// them at the front and undrawn.
+    ReleasedBesideTwo,
+    /// A request is released beside its partition's only job though jobs of
+    /// other partitions are before it.
+    ReleasedBehindOthers,
+    /// A request is released beside a job that has drawn its order.
+    ReleasedBesideDrawn,
+    /// What holds a request is asked again after it was released: its own read
+    /// may be the last that a level can spare.
+    HeldAgain,
+    /// A source is read at its lowest unread slot, not at its lowest-numbered
+    /// unread item.
+    LowestUnreadSlot,
+    /// A source is read as other levels are, at its lowest-numbered unread
+    /// dummy.
+    SourceReadsDummy,
+    /// The slot of a block in a source is read though the job has read it.
+    SlotReadTwice,
+    /// A source with no slot unread costs a read, that of its item 0.
+    SpentSourceCostsRead,
+    /// A request's read of a source's slot does not count as read, so the job
+    /// reads the slot again.
+    SourceReadUnmarked,
+    /// Beside a rebuild, a request for a block that waits sends no reads.
+    WaitingSkipsRebuild,
+    /// Beside a rebuild, a request is finished once its block's own read has
+    /// completed.
+    FinishedByOwnRead,
+    /// A request awaits none of the reads that the job beside it has sent.
+    JobReadsNotAwaited,
+    /// A request awaits only that one of them which has its block.
+    OwnJobReadAwaited,
+    /// A request awaits the reads, too, that the job sends after its release.
+    LaterJobReadsAwaited,
+    /// The job beside a request draws its order before the collect.
+    DrawsWithRequest,
+    /// The job beside a request sends no reads before the collect.
+    JobStandsStill,
+    /// A block whose slot the job has read is told to be in the cache.
+    ReadCountsAsCache,
 }
 
 impl Mistake {
-    pub const ALL: [Mistake; 25] = [
+    pub const ALL: [Mistake; 43] = joined(&[
+        &Mistake::BASE,
+        &Mistake::FOUND,
+        &Mistake::DRAWS,
+        &Mistake::BESIDE,
+    ]);
+
+    /// Those in document 01's rules.
+    pub const BASE: [Mistake; 18] = [
         Mistake::LowestDummySlot,
         Mistake::WaitingSendsNothing,
         Mistake::FinishedEarly,
@@ -79,28 +133,32 @@ impl Mistake {
         Mistake::NewContentsHandedOut,
         Mistake::ZerosForever,
         Mistake::FullPartitionTakesBlock,
-        Mistake::FoundAtAcceptance,
-        Mistake::FoundAfterCollect,
-        Mistake::RefusalTells,
-        Mistake::ReleasedAtOnce,
-        Mistake::LimitTaken,
-        Mistake::PassedNotCounted,
-        Mistake::NothingPassed,
     ];
 
     /// Those of which only what a collect tells is wrong. A session doesn't
     /// print it, and the host is not told.
-    pub const UNPRINTED: [Mistake; 3] = [
+    pub const UNPRINTED: [Mistake; 4] = [
         Mistake::FoundAtAcceptance,
         Mistake::FoundAfterCollect,
         Mistake::RefusalTells,
+        Mistake::ReadCountsAsCache,
+    ];
+
+    /// Those that show only while commands are outstanding, as they are in no
+    /// session.
+    pub const OUTSTANDING: [Mistake; 3] = [
+        Mistake::JobReadsNotAwaited,
+        Mistake::OwnJobReadAwaited,
+        Mistake::LaterJobReadsAwaited,
     ];
 
     /// Those in where a block is found, and when (document 02, P2).
-    pub const FOUND: [Mistake; 4] = {
-        let [acceptance, collect, refusal] = Mistake::UNPRINTED;
-        [acceptance, collect, refusal, Mistake::ReleasedAtOnce]
-    };
+    pub const FOUND: [Mistake; 4] = [
+        Mistake::FoundAtAcceptance,
+        Mistake::FoundAfterCollect,
+        Mistake::RefusalTells,
+        Mistake::ReleasedAtOnce,
+    ];
 
     /// Those in which words a draw takes, and how it counts them (document
     /// 02, P3).
@@ -108,5 +166,27 @@ impl Mistake {
         Mistake::LimitTaken,
         Mistake::PassedNotCounted,
         Mistake::NothingPassed,
+    ];
+
+    /// Those in look-ups while a partition is rebuilt (document 02, P4).
+    pub const BESIDE: [Mistake; 18] = [
+        Mistake::HeldByEveryJob,
+        Mistake::ReleasedBesideTwo,
+        Mistake::ReleasedBehindOthers,
+        Mistake::ReleasedBesideDrawn,
+        Mistake::HeldAgain,
+        Mistake::LowestUnreadSlot,
+        Mistake::SourceReadsDummy,
+        Mistake::SlotReadTwice,
+        Mistake::SpentSourceCostsRead,
+        Mistake::SourceReadUnmarked,
+        Mistake::WaitingSkipsRebuild,
+        Mistake::FinishedByOwnRead,
+        Mistake::JobReadsNotAwaited,
+        Mistake::OwnJobReadAwaited,
+        Mistake::LaterJobReadsAwaited,
+        Mistake::DrawsWithRequest,
+        Mistake::JobStandsStill,
+        Mistake::ReadCountsAsCache,
     ];
 }

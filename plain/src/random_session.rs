@@ -159,12 +159,13 @@ impl Maker {
             return self.refused();
         };
         let finished = state.request.as_ref().map(|r| state.finished(r));
-        let queued = !state.queue.is_empty();
+        let (queued, beside) = (!state.queue.is_empty(), state.is_beside());
         match finished {
+            None if self.asks_beside(20) => self.request(),
             None if queued && !self.rng.chance(if self.eager { 98 } else { 30 }) => self.turns(),
             None => self.request(),
             Some(true) if self.rng.chance(if self.eager { 98 } else { 70 }) => self.push("C"),
-            Some(false) if self.rng.chance(5) => self.push("C"),
+            Some(false) if self.rng.chance(if beside { 20 } else { 5 }) => self.push("C"),
             Some(_) => self.turns(),
         }
     }
@@ -174,11 +175,18 @@ impl Maker {
         let most = if self.eager { 3 } else { 24 };
         for _ in 0..1 + self.rng.below(most) {
             let sends = self.session.state().is_some_and(|s| s.step().is_some());
-            if !sends && !self.rng.chance(10) {
+            if !sends && !self.rng.chance(10) || self.asks_beside(10) {
                 return;
             }
             self.push("t");
         }
+    }
+
+    /// Whether this is, in so many of a hundred cases, a time to ask for a block
+    /// whose partition is rebuilt.
+    fn asks_beside(&mut self, percent: usize) -> bool {
+        let ripe = |state: &State| state.request.is_none() && state.is_ripe();
+        self.session.state().is_some_and(ripe) && self.rng.chance(percent)
     }
 
     fn request(&mut self) {
@@ -186,10 +194,13 @@ impl Maker {
             return;
         };
         let (n, bytes) = (state.shape.blocks, state.shape.bytes);
-        let free = free_blocks(state);
-        let block = match self.eager && !free.is_empty() {
-            true => free[self.rng.below(free.len())],
-            false => self.rng.below(n),
+        let (free, rebuilt) = (free_blocks(state), state.rebuilt());
+        let block = if !rebuilt.is_empty() && self.asks_beside(60) {
+            rebuilt[self.rng.below(rebuilt.len())]
+        } else if self.eager && !free.is_empty() {
+            free[self.rng.below(free.len())]
+        } else {
+            self.rng.below(n)
         };
         if self.rng.chance(50) {
             return self.push(&format!("R {block}"));

@@ -15,6 +15,9 @@ pub struct Script {
     host: Host,
     /// The block asked for last: asking again soon finds it waiting.
     recent: usize,
+    /// If requests are mostly made while their partition is rebuilt, how much
+    /// one counts that comes before the rebuild is under way.
+    beside: Option<usize>,
     pub calls: Vec<Call>,
     pub outcomes: Vec<Outcome>,
 }
@@ -29,15 +32,7 @@ impl Script {
     /// A session of so many calls. With a second shape the store is opened
     /// anew in the middle.
     pub fn new(shape: Shape, second: Option<Shape>, seed: u64, length: usize) -> Script {
-        let mut script = Script {
-            shape,
-            rng: Rng::new(seed),
-            store: Store::new(Mistake::None),
-            host: Host::default(),
-            recent: 0,
-            calls: Vec::new(),
-            outcomes: Vec::new(),
-        };
+        let mut script = Script::fresh(shape, seed);
         script.open(seed.is_multiple_of(3));
         while script.calls.len() < length {
             match second {
@@ -49,6 +44,40 @@ impl Script {
             }
         }
         script
+    }
+
+    /// A session of so many calls with many look-ups while a partition is
+    /// rebuilt.
+    pub fn beside(shape: Shape, seed: u64, length: usize) -> Script {
+        Script::steered(shape, seed, length, 1)
+    }
+
+    /// The same, but hardly a request comes while it would be held.
+    pub fn amid(shape: Shape, seed: u64, length: usize) -> Script {
+        Script::steered(shape, seed, length, 0)
+    }
+
+    fn steered(shape: Shape, seed: u64, length: usize, early: usize) -> Script {
+        let mut script = Script::fresh(shape, seed);
+        script.beside = Some(early);
+        script.open(false);
+        while script.calls.len() < length {
+            script.step();
+        }
+        script
+    }
+
+    fn fresh(shape: Shape, seed: u64) -> Script {
+        Script {
+            shape,
+            rng: Rng::new(seed),
+            store: Store::new(Mistake::None),
+            host: Host::default(),
+            recent: 0,
+            beside: None,
+            calls: Vec::new(),
+            outcomes: Vec::new(),
+        }
     }
 
     fn make(&mut self, ask: Ask, words: usize, buffer: usize) {
@@ -137,11 +166,20 @@ impl Script {
         let collects = match &state.request {
             None => 0,
             Some(request) if state.finished(request) => 4,
-            Some(request) if request.level > 0 => 1,
+            Some(request) if request.level > 0 || self.beside.is_some() => 1,
             Some(_) => 0,
         };
-        let asks = if state.request.is_none() { 5 } else { 0 };
-        let turns = if sends { 5 } else { 0 };
+        let asks = match (&state.request, self.beside) {
+            (Some(_), _) => 0,
+            (None, Some(_)) if state.is_ripe() => 15,
+            (None, Some(early)) if !state.queue.is_empty() => early,
+            _ => 5,
+        };
+        let turns = match sends {
+            true => 5,
+            false if self.beside.is_some() && state.is_beside() => 1,
+            false => 0,
+        };
         let completes = 4 * pending.min(1);
         // With nothing else to do, a turn is refused with 10.
         let choice = self.rng.below((collects + asks + turns + completes).max(1));
@@ -157,13 +195,22 @@ impl Script {
     }
 
     fn request(&mut self) {
+        let rebuilt = self.rebuilt();
         let block = match self.rng.chance(35) {
             true => self.recent.min(self.shape.blocks - 1),
+            false if !rebuilt.is_empty() => rebuilt[self.rng.below(rebuilt.len())],
             false => self.rng.below(self.shape.blocks),
         };
         let more = self.rng.below(2);
         let ask = self.ask_for(block);
         self.make(ask, 2 + more, 0);
+    }
+
+    /// The blocks of the partition that is rebuilt, if requests are to be made
+    /// for these.
+    fn rebuilt(&self) -> Vec<usize> {
+        let state = self.store.state.as_ref().filter(|_| self.beside.is_some());
+        state.map_or(Vec::new(), State::rebuilt)
     }
 
     fn ask_for(&mut self, block: usize) -> Ask {

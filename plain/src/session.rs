@@ -6,6 +6,7 @@ use crate::host::Host;
 use crate::mistakes::Mistake;
 use crate::page::page;
 use crate::shape::Shape;
+use crate::situations::Watch;
 use crate::state::{READ, State, WRITE};
 use std::io::{BufRead, Read, Result, Write};
 
@@ -100,6 +101,8 @@ pub struct Session {
     taken: usize,
     store: Store,
     host: Host,
+    /// Notes what is met, if anyone wants to know.
+    pub watch: Option<Watch>,
 }
 
 impl Session {
@@ -111,6 +114,7 @@ impl Session {
             taken: 0,
             store: Store::new(mistake),
             host: Host::default(),
+            watch: None,
         }
     }
 
@@ -195,12 +199,16 @@ impl Session {
     /// of the tape.
     fn call(&mut self, ask: Ask) -> Outcome {
         let shape = self.state().map(|state| state.shape);
-        let outcome = self.store.call(&Call {
+        let call = Call {
             ask,
             memory: shape.map_or(0, |shape| shape.needed()),
             words: self.left().to_vec(),
             buffer: shape.map_or(0, |shape| shape.bytes),
-        });
+        };
+        let outcome = match &mut self.watch {
+            Some(watch) => watch.call(&mut self.store, &call),
+            None => self.store.call(&call),
+        };
         // A planted mistake may report more words than there are.
         self.taken = (self.taken + outcome.taken).min(self.tape.len());
         outcome

@@ -90,6 +90,9 @@ pub struct Request {
     pub evict: usize,
     /// Levels below this one need no further read.
     pub level: usize,
+    /// The reads it awaits: its own, and those of a job beside it that were
+    /// outstanding when it was released.
+    pub awaits: Vec<Command>,
     /// Where the block was found; none while the request is held.
     pub found: Option<Found>,
     /// Where the block was when the request was accepted; only a mistake
@@ -117,6 +120,9 @@ pub struct State {
     /// By partition, then by level.
     pub levels: Vec<Vec<Level>>,
     pub queue: VecDeque<usize>,
+    /// Whether a command of the front job has been sent. A request's read of a
+    /// slot that the job would read is one.
+    pub begun: bool,
     pub request: Option<Request>,
     /// The next slot the front job writes, once it has drawn its order.
     pub writing: Option<usize>,
@@ -149,6 +155,7 @@ impl State {
             counter: vec![0; shape.partitions],
             levels: vec![(0..shape.levels).map(Level::empty).collect(); shape.partitions],
             queue: VecDeque::new(),
+            begun: false,
             request: None,
             writing: None,
             outstanding: Vec::new(),
@@ -190,28 +197,34 @@ impl State {
     pub fn request_read(&self) -> Option<usize> {
         let request = self.request.as_ref()?;
         let p = self.partition[request.block];
-        let skips = self.mistake == Mistake::WaitingSendsNothing && self.is_waiting(request.block);
+        let skips = match self.mistake {
+            Mistake::WaitingSendsNothing => self.is_waiting(request.block),
+            Mistake::WaitingSkipsRebuild => self.is_undrawn(p) && self.is_waiting(request.block),
+            _ => false,
+        };
         if request.is_held() || skips {
             return None;
         }
-        (request.level..self.shape.levels).find(|level| self.filled(p, *level))
+        (request.level..self.shape.levels).find(|level| self.costs_a_read(p, *level))
     }
 
-    /// Not held, and all reads sent and completed. While the request isn't
-    /// held no job touches p, so what is outstanding there is the request's.
+    /// Not held, all reads sent, and all that it awaits completed.
     pub fn finished(&self, request: &Request) -> bool {
         if request.is_held() {
             return false;
         }
         let p = self.partition[request.block];
-        if self.mistake == Mistake::FinishedEarly
-            && let Place::Stored { level, item } = self.place[request.block]
-        {
-            let slot = self.levels[p][level].slot_of[item];
+        let early = match self.mistake {
+            Mistake::FinishedEarly => true,
+            Mistake::FinishedByOwnRead => self.is_undrawn(p),
+            _ => false,
+        };
+        if early && let Some((level, slot)) = self.own_slot(request.block) {
             let own = |c: &Command| (c.partition, c.level, c.slot) == (p, level, slot);
-            return request.level > level && !self.outstanding.iter().any(own);
+            return self.levels[p][level].read[slot] && !self.outstanding.iter().any(own);
         }
-        self.request_read().is_none() && !self.busy(p)
+        let later = self.mistake == Mistake::LaterJobReadsAwaited && self.busy(p);
+        self.request_read().is_none() && request.awaits.is_empty() && !later
     }
 
     /// The command the next turn sends, if there is one to send.
@@ -224,12 +237,18 @@ impl State {
             let slots = self.levels[q][self.target(q)].slots();
             return (slot < slots).then_some(Step::Write(slot));
         }
+        let in_hand = self.released_for(q).is_some();
+        if in_hand && self.mistake == Mistake::JobStandsStill {
+            return None;
+        }
         for level in 0..self.sources(q) {
             if let Some(slot) = self.levels[q][level].read.iter().position(|read| !read) {
                 return Some(Step::JobRead(level, slot));
             }
         }
-        (!self.busy(q)).then_some(Step::FirstWrite)
+        // The order is drawn only after the request is collected.
+        let waits = in_hand && self.mistake != Mistake::DrawsWithRequest;
+        (!waits && !self.busy(q)).then_some(Step::FirstWrite)
     }
 
     /// The blocks a partition's levels name, below a level.

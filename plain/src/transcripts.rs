@@ -3,8 +3,9 @@
 
 use crate::calls::Outcome;
 use crate::mixer::Mixer;
+use crate::situations::Situation;
 use crate::state::Command;
-use std::collections::HashMap;
+use std::collections::{BTreeSet, HashMap};
 use std::hash::BuildHasherDefault;
 
 /// What is compared at each place: number, count of words, command. Where a
@@ -31,6 +32,11 @@ pub struct Transcripts {
     /// Whether with some tape a turn was answered 3 though it was lent as many
     /// words as it makes draws.
     pub unsettled: bool,
+    /// What was met with some tape when a request was released while its
+    /// partition is rebuilt.
+    pub met: BTreeSet<Situation>,
+    /// Whether with some tape such a request was collected.
+    pub collected: bool,
 }
 
 impl Transcripts {
@@ -45,6 +51,8 @@ impl Transcripts {
             places: 0,
             passed: false,
             unsettled: false,
+            met: BTreeSet::new(),
+            collected: false,
         }
     }
 

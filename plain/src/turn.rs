@@ -47,7 +47,10 @@ impl State {
         ask(!writes || buffer == self.shape.bytes, 15)?;
         match step {
             Step::RequestRead(level) => self.send_request_read(level),
-            Step::JobRead(level, slot) => Ok(self.send_read(self.queue[0], level, slot)),
+            Step::JobRead(level, slot) => {
+                self.begun = true;
+                Ok(self.send_read(self.queue[0], level, slot))
+            }
             Step::FirstWrite => {
                 ask(draws.settle(self.turn_bounds()), 3)?;
                 self.rebuild(draws)?;
@@ -57,16 +60,23 @@ impl State {
         }
     }
 
+    /// A read of a source's slot is a read of the job, too, and may be its
+    /// first command.
     fn send_request_read(&mut self, level: usize) -> Result<(Command, Vec<u8>), u8> {
+        let block = self.request.as_ref().ok_or(2)?.block;
+        let p = self.partition[block];
+        let slot = self.slot_to_read(block, level).ok_or(2)?;
+        let of_job = self.is_source(p, level);
+        let was_read = self.levels[p][level].read[slot];
+        let sent = self.send_read(p, level, slot);
+        if of_job && self.mistake == Mistake::SourceReadUnmarked {
+            self.levels[p][level].read[slot] = was_read;
+        }
+        self.begun |= of_job;
         let request = self.request.as_mut().ok_or(2)?;
-        let p = self.partition[request.block];
-        let table = &self.levels[p][level];
-        let slot = match self.place[request.block] {
-            Place::Stored { level: own, item } if own == level => table.slot_of[item],
-            _ => table.dummy(self.mistake).ok_or(2)?,
-        };
         request.level = level + 1;
-        Ok(self.send_read(p, level, slot))
+        request.awaits.push(sent.0);
+        Ok(sent)
     }
 
     fn send_read(&mut self, partition: usize, level: usize, slot: usize) -> (Command, Vec<u8>) {
@@ -84,9 +94,11 @@ impl State {
     fn send_write(&mut self, slot: usize) -> (Command, Vec<u8>) {
         let partition = self.queue[0];
         let level = self.target(partition);
+        // What is written is the host's to keep.
+        let zeros = vec![0; self.shape.bytes];
         let bytes = match self.levels[partition][level].block_at[slot] {
-            Some(block) => self.contents[block].clone(),
-            None => vec![0; self.shape.bytes],
+            Some(block) => std::mem::replace(&mut self.contents[block], zeros),
+            None => zeros,
         };
         let command = Command {
             kind: WRITE,
@@ -94,6 +106,7 @@ impl State {
             level,
             slot,
         };
+        self.begun = true;
         self.writing = Some(slot + 1);
         self.outstanding.push(command);
         (command, bytes)
@@ -146,6 +159,7 @@ impl State {
         let Some(q) = self.queue.pop_front() else {
             return;
         };
+        self.begun = false;
         self.writing = None;
         let full = (1 << self.shape.levels) - 1;
         self.counter[q] = match self.counter[q] {

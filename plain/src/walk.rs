@@ -10,6 +10,7 @@ use crate::calls::{Ask, Call, Store};
 use crate::lists::Pair;
 use crate::mistakes::Mistake;
 use crate::mixer::Mixer;
+use crate::situations::is_released;
 use crate::state::State;
 use crate::transcripts::Transcripts;
 use crate::words::{Caller, Way, Words};
@@ -140,8 +141,17 @@ impl Walk<'_> {
     }
 
     fn make(&mut self, run: &mut Run, call: &Call) -> u8 {
+        let released = is_released(&run.store);
+        let beside = released && run.store.state.as_ref().is_some_and(State::is_beside);
         let outcome = run.store.call(call);
         run.node = self.found.after(run.node, &outcome);
+        self.found.collected |= beside && call.ask == Ask::Collect && outcome.number == 0;
+        if let Some(state) = run.store.state.as_ref()
+            && !released
+            && is_released(&run.store)
+        {
+            self.found.met.extend(state.met_at_release());
+        }
         outcome.number
     }
 

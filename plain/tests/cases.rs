@@ -90,12 +90,14 @@ fn cases_print_every_number() {
     assert_eq!(numbers, [0, 1, 2, 3, 4, 5, 6, 7, 8, 10, 13, 14]);
 }
 
-/// What a collect tells beside the contents is not printed.
+/// What a collect tells beside the contents is not printed, and no command
+/// stays outstanding.
 #[test]
 fn cases_tell_every_mistake() {
     let cases = cases();
-    let printed_ones = |mistake: &Mistake| !Mistake::UNPRINTED.contains(mistake);
-    for mistake in Mistake::ALL.into_iter().filter(printed_ones) {
+    let hidden = [&Mistake::UNPRINTED[..], &Mistake::OUTSTANDING].concat();
+    let shown = |mistake: &Mistake| !hidden.contains(mistake);
+    for mistake in Mistake::ALL.into_iter().filter(shown) {
         let tells = |case: &Case| {
             let input = case.input.clone();
             let output = catch_unwind(move || printed(&input, mistake));

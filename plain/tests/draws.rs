@@ -268,7 +268,7 @@ fn words_may_have_fewer_bits() {
 fn words_that_are_not_taken_change_nothing() {
     let mut rng = Rng::new(1);
     let (mut passed, mut unsettled) = (0, 0);
-    for seed in 0..300 {
+    for seed in 0..400 {
         let Script {
             mut calls,
             outcomes,

@@ -2,14 +2,28 @@
 //! words taken, the commands, the bytes in the lent buffers and where blocks
 //! were found are equal.
 
+#[path = "fast/counts.rs"]
+mod counts;
+
+use counts::{ALL_MET, Before, Counts};
 use plain::calls::{Ask, Call, Outcome, Store as Model};
 use plain::fast::{self, Answer, Store};
-use plain::found::Found;
 use plain::host::Host;
 use plain::mistakes::Mistake;
 use plain::rng::Rng;
 use plain::shape::Shape;
 use plain::state::{Command, READ, State, Step, WRITE};
+
+/// When requests are made.
+#[derive(Clone, Copy, PartialEq, Eq)]
+enum Mode {
+    Always,
+    /// Jobs are left alone, so that they fill the queue.
+    Hoards,
+    /// Once the front job, if there is one, has begun to read and is its
+    /// partition's only one.
+    Beside,
+}
 
 struct Pair {
     shape: Shape,
@@ -17,25 +31,8 @@ struct Pair {
     model: Model,
     fast: Store,
     host: Host,
-    /// Whether jobs are left alone, so that they fill the queue.
-    hoards: bool,
-    /// How often each number was answered.
-    numbers: [usize; 16],
-    /// The most jobs queued, the rebuilds of a partition that stores all it
-    /// may, and those of a partition with all levels filled.
-    most_jobs: usize,
-    full: usize,
-    wraps: usize,
-    /// The orders that passed words over, and the turns answered 3 though
-    /// they were lent as many words as they make draws.
-    passed: usize,
-    unsettled: usize,
-    /// Where the block in hand was at acceptance, how often a block was found
-    /// nowhere, in the cache and in each level, and how often elsewhere than
-    /// at acceptance.
-    accepted: Found,
-    found: [usize; 10],
-    moved: usize,
+    mode: Mode,
+    counts: Counts,
 }
 
 fn narrow(command: Command) -> fast::Command {
@@ -47,8 +44,18 @@ fn narrow(command: Command) -> fast::Command {
     }
 }
 
+/// Whether no job is queued, or the front one has begun, has not drawn and is
+/// the only one of its partition.
+fn reads_alone(state: &State) -> bool {
+    let Some(q) = state.queue.front() else {
+        return true;
+    };
+    let jobs = state.queue.iter().filter(|p| *p == q).count();
+    jobs == 1 && state.begun && state.is_undrawn(*q)
+}
+
 impl Pair {
-    fn open(shape: Shape, seed: u64) -> Pair {
+    fn open(shape: Shape, seed: u64, counts: Counts) -> Pair {
         let mut rng = Rng::new(seed);
         let words = rng.tape(shape.blocks + seed as usize % 2);
         let mut model = Model::new(Mistake::None);
@@ -66,16 +73,8 @@ impl Pair {
             model,
             fast,
             host: Host::default(),
-            hoards: false,
-            numbers: [0; 16],
-            most_jobs: 0,
-            full: 0,
-            wraps: 0,
-            passed: 0,
-            unsettled: 0,
-            accepted: Found::Nowhere,
-            found: [0; 10],
-            moved: 0,
+            mode: Mode::Always,
+            counts,
         }
     }
 
@@ -99,6 +98,7 @@ impl Pair {
             words,
             buffer,
         };
+        let before = Before::look(self.state());
         let outcome = self.model.call(&call);
         if !outcome.bytes.is_empty() {
             after.copy_from_slice(&outcome.bytes);
@@ -108,23 +108,9 @@ impl Pair {
         assert_eq!(usize::from(answer.taken), outcome.taken);
         assert_eq!(answer.command, narrow(outcome.command));
         assert_eq!(usize::from(answer.found), outcome.found.number());
-        if outcome.number == 0 {
-            self.count_found(&call.ask, outcome.found);
-        }
-        self.numbers[usize::from(outcome.number)] += 1;
-        self.most_jobs = self.most_jobs.max(self.state().queue.len());
+        let state = self.model.state.as_ref().expect("the store is open");
+        self.counts.call(&before, &call.ask, &outcome, state);
         outcome
-    }
-
-    fn count_found(&mut self, ask: &Ask, found: Found) {
-        match ask {
-            Ask::Request { block, .. } => self.accepted = self.state().look_up(*block),
-            Ask::Collect => {
-                self.found[found.number()] += 1;
-                self.moved += usize::from(found != self.accepted);
-            }
-            _ => {}
-        }
     }
 
     fn call_fast(&mut self, ask: &Ask, words: &[u16], buffer: &mut [u8]) -> Answer {
@@ -148,7 +134,7 @@ impl Pair {
     /// A random call; refused ones are among them.
     fn step(&mut self) {
         if self.rng.below(500) == 0 {
-            self.hoards = self.rng.chance(40);
+            self.mode = [Mode::Always, Mode::Hoards, Mode::Beside][self.rng.below(3)];
         }
         match self.rng.below(100) {
             0..4 => self.odd_request(),
@@ -163,14 +149,25 @@ impl Pair {
     }
 
     fn request(&mut self) {
-        let mut block = self.rng.below(self.shape.blocks);
+        let (n, any) = (self.shape.blocks, self.rng.chance(50));
+        let block = self.rng.below(n);
         let state = self.state();
-        if self.hoards {
-            // A block that no job holds back, if there is one.
-            let n = self.shape.blocks;
-            let free = |b: &usize| !state.queue.contains(&state.partition[*b]);
-            block = (block..n).chain(0..block).find(free).unwrap_or(block);
+        if self.mode == Mode::Beside && !reads_alone(state) {
+            return;
         }
+        let fits = |b: &usize| match self.mode {
+            Mode::Always => true,
+            // No job of its partition is queued.
+            Mode::Hoards => !state.queue.contains(&state.partition[*b]),
+            // The front job is of its partition, and may have to read it.
+            Mode::Beside => {
+                let own = state.own_slot(*b);
+                let q = state.partition[*b];
+                let stored = own.is_some_and(|(level, _)| state.is_source(q, level));
+                state.queue.front() == Some(&q) && (any || stored)
+            }
+        };
+        let block = (block..n).chain(0..block).find(fits).unwrap_or(block);
         let ask = self.ask_for(block);
         let words = 2 + self.rng.below(2);
         self.make(ask, words, 0);
@@ -192,15 +189,15 @@ impl Pair {
     fn turn(&mut self) {
         let state = self.state();
         let step = state.step();
-        if self.hoards && !matches!(step, None | Some(Step::RequestRead(_))) {
+        if self.mode == Mode::Hoards && !matches!(step, None | Some(Step::RequestRead(_))) {
             return;
         }
         if step == Some(Step::FirstWrite) && self.host.pending.len() < self.shape.window {
             let q = state.queue[0];
             let stored = state.stored(q, self.shape.levels).count();
             let wraps = state.sources(q) == self.shape.levels;
-            self.full += usize::from(stored == self.shape.capacity());
-            self.wraps += usize::from(wraps);
+            self.counts.full += usize::from(stored == self.shape.capacity());
+            self.counts.wraps += usize::from(wraps);
         }
         let bounds = self.state().turn_bounds();
         let mut words = self.rng.settling(bounds);
@@ -218,8 +215,8 @@ impl Pair {
         if outcome.number == 0 {
             self.host.send(outcome.command, outcome.bytes);
         }
-        self.passed += usize::from(outcome.taken > draws);
-        self.unsettled += usize::from(outcome.number == 3 && lent >= draws);
+        self.counts.passed += usize::from(outcome.taken > draws);
+        self.counts.unsettled += usize::from(outcome.number == 3 && lent >= draws);
     }
 
     /// Completes a command, now and then with false bytes.
@@ -259,7 +256,7 @@ impl Pair {
 
     /// Too few words or a buffer too long or short, which a read accepts.
     fn odd_turn(&mut self) {
-        if self.hoards {
+        if self.mode == Mode::Hoards {
             return;
         }
         let words = self.rng.below(1 << self.shape.levels);
@@ -306,54 +303,43 @@ const PLANS: [(Shape, usize); 14] = [
     (Shape::new(1, 1, 1, 1, 1, 1), 10_000),
     (Shape::new(1, 64, 1, 2, 1, 3), 10_000),
     (Shape::new(2, 2, 1, 2, 1, 2), 10_000),
-    (Shape::new(4, 1, 3, 1, 3, 3), 20_000),
-    (Shape::new(8, 2, 3, 3, 8, 4), 40_000),
-    (Shape::new(8, 2, 3, 3, 2, 4), 20_000),
-    (Shape::new(64, 4, 5, 64, 64, 32), 60_000),
-    (Shape::new(64, 4, 5, 17, 10, 7), 40_000),
-    (Shape::new(64, 1, 7, 5, 64, 32), 40_000),
-    (Shape::new(128, 1, 8, 4, 128, 32), 100_000),
-    (Shape::new(256, 2, 8, 9, 100, 31), 100_000),
+    (Shape::new(4, 1, 3, 1, 3, 3), 40_000),
+    (Shape::new(8, 2, 3, 3, 8, 4), 80_000),
+    (Shape::new(8, 2, 3, 3, 2, 4), 40_000),
+    (Shape::new(64, 4, 5, 64, 64, 32), 120_000),
+    (Shape::new(64, 4, 5, 17, 10, 7), 80_000),
+    (Shape::new(64, 1, 7, 5, 64, 32), 80_000),
+    (Shape::new(128, 1, 8, 4, 128, 32), 200_000),
+    (Shape::new(256, 2, 8, 9, 100, 31), 200_000),
     (Shape::new(64, 64, 8, 16, 64, 32), 40_000),
-    (Shape::new(1024, 16, 7, 32, 1024, 32), 100_000),
+    (Shape::new(1024, 16, 7, 32, 1024, 32), 200_000),
     (Shape::new(4096, 64, 8, 512, 4096, 32), 100_000),
 ];
 
 #[test]
 fn random_calls_answer_as_the_model_does() {
-    let mut numbers = [0; 16];
-    let (mut most_jobs, mut full, mut wraps, mut calls) = (0, 0, 0, 0);
-    let (mut passed, mut unsettled) = (0, 0);
-    let (mut found, mut moved) = ([0; 10], 0);
+    let mut counts = Counts::default();
     for (seed, (shape, steps)) in PLANS.iter().enumerate() {
-        let mut pair = Pair::open(*shape, seed as u64);
+        let mut pair = Pair::open(*shape, seed as u64, counts.go_on());
         for _ in 0..*steps {
             pair.step();
         }
-        calls += pair.numbers.iter().sum::<usize>();
-        most_jobs = most_jobs.max(pair.most_jobs);
-        full += pair.full;
-        wraps += pair.wraps;
-        passed += pair.passed;
-        unsettled += pair.unsettled;
-        moved += pair.moved;
-        for (all, number) in numbers.iter_mut().zip(pair.numbers) {
-            *all += number;
-        }
-        for (all, times) in found.iter_mut().zip(pair.found) {
-            *all += times;
-        }
+        counts = pair.counts;
     }
-    println!("{calls} calls, {numbers:?}, {full} full, {wraps} wraps");
-    println!("found {found:?}, {moved} moved");
-    println!("words passed over in {passed} orders, {unsettled} not settled");
-    assert!(calls > 200_000);
+    counts.print();
+    assert!(counts.numbers.iter().sum::<usize>() > 200_000);
     for number in (0..16).filter(|n| *n != 1) {
-        assert!(numbers[number] > 100, "{number} is answered too rarely");
+        assert!(
+            counts.numbers[number] > 100,
+            "{number} is answered too rarely"
+        );
     }
-    assert!(most_jobs == 64 && full > 100 && wraps > 100);
-    assert!(passed > 1000 && unsettled > 100);
-    assert!(found.iter().all(|times| *times > 50) && moved > 100);
+    assert!(counts.most_jobs == 64 && counts.full > 100 && counts.wraps > 100);
+    assert!(counts.passed > 1000 && counts.unsettled > 100);
+    assert!(counts.found.iter().all(|times| *times > 50) && counts.moved > 100);
+    for met in ALL_MET {
+        assert!(counts.met[&met] > 100, "{met:?} is met too rarely");
+    }
 }
 
 #[test]

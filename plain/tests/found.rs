@@ -9,7 +9,7 @@ use plain::found::Found;
 use plain::mistakes::Mistake;
 use plain::script::{Script, replay};
 use plain::shape::Shape;
-use plain::state::Request;
+use plain::state::{Request, State};
 use run::{Run, read, write};
 
 impl Run {
@@ -34,9 +34,9 @@ impl Run {
         assert_eq!(self.refused(), 14);
     }
 
-    /// Runs the jobs that hold the request in hand, all that are queued.
-    fn wait(&mut self) {
-        while self.queued() > 0 {
+    /// Runs so many jobs, which hold the request in hand.
+    fn wait(&mut self, jobs: usize) {
+        for _ in 0..jobs {
             assert!(self.request().is_held());
             self.job();
         }
@@ -92,23 +92,38 @@ fn each_case_without_a_job() {
     assert_eq!(run.serve(read(0), [1, 1]).found, Found::Level(1));
 }
 
+/// Both jobs hold the request, and with the first one's end the second does no
+/// longer: it is the only one and has drawn no order.
 #[test]
-fn jobs_move_a_block_from_the_cache_to_a_level() {
+fn a_job_moves_a_block_from_the_cache_to_a_level() {
     let mut run = Run::new(Shape::new(1, 1, 2, 1, 1, 1), &[0]);
     run.serve(write(0, &[5]), [0, 0]);
     run.held(read(0), Found::Cache);
-    // The first job puts the block in level 0, the second one in level 1.
-    run.wait();
+    run.wait(1);
+    assert_eq!(run.collect(1), (vec![5], Found::Level(0)));
+}
+
+/// The jobs are for partitions 0, 0, 1 and 0. The first puts block 0 in level
+/// 0, the second in level 1, and the third keeps the last from the front.
+#[test]
+fn jobs_move_a_block_from_the_cache_to_a_higher_level() {
+    let mut run = Run::new(Shape::new(2, 2, 2, 1, 2, 1), &[0, 1]);
+    run.serve(write(0, &[5]), [0, 0]);
+    run.serve(read(1), [1, 0]);
+    run.held(read(0), Found::Cache);
+    run.wait(3);
     assert_eq!(run.collect(1), (vec![5], Found::Level(1)));
 }
 
+/// The same jobs, but the request comes after the first of them.
 #[test]
 fn a_job_moves_a_block_from_a_level_to_another() {
-    let mut run = Run::new(Shape::new(1, 1, 2, 1, 1, 1), &[0]);
+    let mut run = Run::new(Shape::new(2, 2, 2, 1, 2, 1), &[0, 1]);
     run.serve(write(0, &[5]), [0, 0]);
+    run.serve(read(1), [1, 0]);
     run.job();
     run.held(write(0, &[6]), Found::Level(0));
-    run.wait();
+    run.wait(2);
     assert_eq!(run.collect(1), (vec![5], Found::Level(1)));
 }
 
@@ -121,7 +136,7 @@ fn a_block_that_no_job_takes_is_found_in_the_cache() {
     run.job();
     run.serve(write(1, &[9]), [0, 0]);
     run.held(read(1), Found::Cache);
-    run.wait();
+    run.wait(1);
     assert_eq!(run.collect(1), (vec![9], Found::Cache));
 }
 
@@ -130,7 +145,7 @@ fn a_held_block_may_be_nowhere() {
     let mut run = Run::new(Shape::new(2, 1, 2, 1, 2, 1), &[0, 0]);
     run.serve(write(0, &[7]), [0, 0]);
     run.held(read(1), Found::Nowhere);
-    run.wait();
+    run.wait(1);
     assert_eq!(run.collect(1), (vec![0], Found::Nowhere));
 }
 
@@ -157,7 +172,7 @@ fn refusals_tell_nothing() {
     assert_eq!(run.refused(), 13);
     run.serve(write(0, &[5, 6]), [0, 0]);
     run.held(read(0), Found::Cache);
-    run.wait();
+    run.wait(1);
     assert_eq!(run.request().found, Some(Found::Level(0)));
     assert_eq!(run.refused(), 14);
     let command = run.call(Ask::Turn, &[]).command;
@@ -188,15 +203,25 @@ const SHAPES: [Shape; 4] = [
 ];
 
 fn scripts() -> impl Iterator<Item = Script> {
-    let seeds = |shape| (0..100).map(move |seed| Script::new(shape, None, seed, 300));
-    SHAPES.into_iter().flat_map(seeds)
+    let any = |shape| (0..100).map(move |seed| Script::new(shape, None, seed, 300));
+    let beside = |shape| (0..100).map(move |seed| Script::beside(shape, seed, 300));
+    let any = SHAPES.into_iter().flat_map(any);
+    any.chain(SHAPES.into_iter().flat_map(beside))
 }
 
-/// After every call a request is held exactly while a job for its partition is
-/// queued, what was found is in its range and stays, and a collect tells it.
+/// Whether the only job for a partition is at the front and draws later. No
+/// level that it does not read is ever read too often.
+fn is_let_pass(state: &State, p: usize) -> bool {
+    let mut jobs = state.queue.iter();
+    jobs.next() == Some(&p) && !jobs.any(|q| *q == p) && state.writing.is_none()
+}
+
+/// After every call a request that was never released is held exactly while a
+/// job for its partition is queued that does not let it pass; what was found
+/// is in its range and stays, and a collect tells it.
 #[test]
 fn what_is_found_stays_until_the_collect() {
-    let mut held = 0;
+    let (mut held, mut beside) = (0, 0);
     for script in scripts() {
         let mut store = Store::new(Mistake::None);
         let mut carried = None;
@@ -214,16 +239,19 @@ fn what_is_found_stays_until_the_collect() {
             let Some((state, request)) = request else {
                 continue;
             };
-            let queued = state.queue.contains(&state.partition[request.block]);
-            assert_eq!(request.is_held(), queued);
+            let p = state.partition[request.block];
+            let (queued, passes) = (state.queue.contains(&p), is_let_pass(state, p));
+            let holds = carried.is_none() && queued && !passes;
+            assert_eq!(request.is_held(), holds);
             assert!(carried.is_none() || carried == request.found);
             carried = request.found;
             let number = carried.map_or(0, Found::number);
             assert!(number < 2 + state.shape.levels);
-            held += usize::from(queued);
+            held += usize::from(holds);
+            beside += usize::from(queued && !holds);
         }
     }
-    assert!(held > 1000);
+    assert!(held > 1000 && beside > 1000, "{held} {beside}");
 }
 
 /// A wrong look-up shows in what is found, and in nothing that the host gets.

@@ -8,10 +8,18 @@ use plain::script::{Script, replay};
 use plain::shape::Shape;
 use plain::state::Command;
 
+/// Every second session has many look-ups while a partition is rebuilt.
+fn script(shape: Shape, seed: u64, length: usize) -> Script {
+    match seed % 2 {
+        0 => Script::new(shape, None, seed / 2, length),
+        _ => Script::beside(shape, seed / 2, length),
+    }
+}
+
 #[test]
 fn refusals_leave_the_state() {
-    for seed in 0..200 {
-        let script = Script::new(Shape::new(4, 2, 2, 1, 2, 2), None, seed, 80);
+    for seed in 0..400 {
+        let script = script(Shape::new(4, 2, 2, 1, 2, 2), seed, 80);
         let mut store = Store::new(Mistake::None);
         for (call, outcome) in script.calls.iter().zip(&script.outcomes) {
             let before = format!("{:?}", store.state);
@@ -29,8 +37,8 @@ fn refusals_leave_the_state() {
 #[test]
 fn a_smaller_cache_differs_only_from_its_first_8() {
     let mut eights = 0;
-    for seed in 0..300 {
-        let script = Script::new(Shape::new(4, 2, 2, 1, 4, 2), None, seed, 86);
+    for seed in 0..600 {
+        let script = script(Shape::new(4, 2, 2, 1, 4, 2), seed, 86);
         let mut calls = script.calls;
         for call in &mut calls {
             if let Ask::Open(shape) = &mut call.ask
@@ -47,7 +55,7 @@ fn a_smaller_cache_differs_only_from_its_first_8() {
             assert_eq!(*large, small);
         }
     }
-    assert!(eights > 50);
+    assert!(eights > 100, "{eights}");
 }
 
 #[test]

@@ -2,9 +2,12 @@
 //! the other, and the pairs made for it tell what they are made for.
 
 use plain::calls::{Ask, Call, Store};
-use plain::lists::{Pair, drawn_again, layered, lent_again, pair, two_stored};
+use plain::lists::{Pair, pair};
+use plain::lists::{above_sources, source_read, source_spent, source_unread};
+use plain::lists::{drawn_again, layered, lent_again, two_stored};
 use plain::mistakes::Mistake;
 use plain::shape::Shape;
+use plain::situations::Situation;
 use plain::transcripts::{Event, Transcripts};
 use plain::walk::transcripts;
 use plain::words::{Caller, Words};
@@ -103,6 +106,15 @@ fn made_pairs_have_the_tapes_that_are_counted() {
     }
 }
 
+/// Up to the collect; with the right rules one slot is all that is read of the
+/// second pair.
+#[test]
+fn tapes_are_counted_beside_a_rebuild() {
+    assert_eq!(compare(&cut(source_unread(2), 12), Mistake::None), 2);
+    assert_eq!(compare(&cut(source_read(2), 15), Mistake::None), 1);
+    assert!(compare(&cut(source_read(2), 15), Mistake::OwnJobReadAwaited) > 1);
+}
+
 #[test]
 fn random_pairs_have_the_tapes_that_are_counted() {
     let shapes = [
@@ -133,7 +145,9 @@ fn told(pair: &Pair) -> [bool; 3] {
 }
 
 /// With the right rules none is told apart; that a draw is uneven shows in the
-/// slots of an order, and that words are drawn from twice in partitions.
+/// slots of an order, and that words are drawn from twice in partitions. The
+/// last look-up of the last pair may be made while its partition is rebuilt,
+/// and then an uneven order shows there, too.
 #[test]
 fn made_pairs_tell_what_they_are_made_for() {
     let all = [two_stored(2), two_stored(3), lent_again(), drawn_again()];
@@ -145,7 +159,37 @@ fn made_pairs_tell_what_they_are_made_for() {
     }
     let wanted = [[true, false, true], [true, false, true], [false; 3]];
     assert_eq!([&all[0], &all[1], &all[2]].map(told), wanted);
-    assert_eq!(told(&all[3]), [false, true, false]);
+    assert_eq!(told(&all[3]), [true; 3]);
+}
+
+/// The wrong rules of look-ups while a partition is rebuilt that each of these
+/// pairs tells, and what is met there.
+#[test]
+fn made_pairs_tell_wrong_look_ups_beside_a_rebuild() {
+    use Mistake::{FinishedByOwnRead, LowestUnreadSlot, OwnJobReadAwaited};
+    use Mistake::{SlotReadTwice, SourceReadsDummy, WaitingSkipsRebuild};
+    use Situation::{Higher, OwnOutstanding, OwnUnread, SpentSource};
+    let read = [
+        SourceReadsDummy,
+        SlotReadTwice,
+        FinishedByOwnRead,
+        OwnJobReadAwaited,
+    ];
+    let all: [(Pair, &[Mistake], Situation); 4] = [
+        (source_unread(2), &[LowestUnreadSlot], OwnUnread),
+        (source_read(2), &read, OwnOutstanding),
+        (source_spent(2), &read[2..], SpentSource),
+        (above_sources(2), &[WaitingSkipsRebuild], Higher),
+    ];
+    for (pair, wanted, situation) in &all {
+        let found = walked(pair, Mistake::None, Caller::MovesOn);
+        assert!(pair.is_compared() && found.equal() && found.equally_long);
+        assert!(found.met.contains(situation) && found.collected);
+        assert_eq!(found.places, pair.sides[0].len());
+        let told = |mistake: &Mistake| !walked(pair, *mistake, Caller::MovesOn).equal();
+        let told: Vec<Mistake> = Mistake::BESIDE.into_iter().filter(told).collect();
+        assert_eq!(told, *wanted);
+    }
 }
 
 /// A caller who lends words again that were lent to a turn answered 3.

@@ -199,11 +199,13 @@ fn held_request_waits_for_its_partition() {
     run.serve(write(0, &[5]), [0, 0]);
     assert_eq!(run.number(read(0), &[0, 0]), 0);
     assert_eq!(run.number(Ask::Collect, &[]), 14);
-    assert_eq!((run.job().before, run.job().before), (0, 1));
-    // The second job put the block in level 1, so its slot is read there.
+    assert_eq!(run.job().before, 0);
+    // The first job put the block in level 0, and the second, which is the
+    // only one now, has not drawn its order: the block's slot is read there.
     assert_eq!(run.number(Ask::Collect, &[]), 14);
-    assert_eq!(run.t(&[]).command.level, 1);
+    assert_eq!(run.t(&[]).command.level, 0);
     assert_eq!(run.call(Ask::Collect, &[]).bytes, [5]);
+    assert_eq!(run.job().before, 1);
 }
 
 #[test]

@@ -19,7 +19,7 @@ extern "C" {
 #endif
 
 /* The bytes of a state, and the kinds of requests and commands. */
-enum { RINWOLFEDD_STATE = 68, RINWOLFEDD_READ = 1, RINWOLFEDD_WRITE = 2 };
+enum { RINWOLFEDD_STATE = 76, RINWOLFEDD_READ = 1, RINWOLFEDD_WRITE = 2 };
 
 /* The bytes of a line of a page, its newline among them, and of the longest
  * page: of 64 partitions. */
@@ -43,7 +43,8 @@ enum {
     RINWOLFEDD_NOT_OUTSTANDING = 11,    /* completion: no such command */
     RINWOLFEDD_COMPLETION_LENGTH = 12,  /* completion: B for a read, 0 for a write */
     RINWOLFEDD_NO_REQUEST = 13,         /* collect */
-    RINWOLFEDD_NOT_FINISHED = 14,       /* collect: reads have not completed */
+    RINWOLFEDD_NOT_FINISHED = 14,       /* collect: jobs hold the request, or reads
+                                           have not completed */
     RINWOLFEDD_BUFFER_LENGTH = 15       /* turn that writes, collect: exactly B;
                                            page: as long as the page, or longer */
 };

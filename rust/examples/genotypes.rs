@@ -4,8 +4,9 @@
 //! Each block is the record of one fish: who it is, and its genotypes at 1,904
 //! SNPs, two bits each. The example stores them, looks two fish up, and shows
 //! side by side the commands that the host saw of either look-up. Then it shows
-//! the page of the store, and where its look-ups found the fish; both are for the
-//! owner alone.
+//! for how many commands look-ups wait if jobs are run at once, and if they are
+//! left for when nobody waits. In the end it shows the page of the store, and
+//! where its look-ups found the fish; both are for the owner alone.
 //!
 //! The commands hide the fish; the bytes do not. This example does not seal
 //! them, so whoever reads the file sees the records, and where each one goes. A
@@ -17,7 +18,8 @@
 //! cargo run --offline --example genotypes -- PATH    in a new file, which stays
 //! ```
 
-use rinwolfedd::{Command, FileHost, Kind, Progress, Reader, Recorded, Shape, Summary, Tally};
+use rinwolfedd::{Command, FileHost, Kind, Progress, Reader, Recorded};
+use rinwolfedd::{Shape, Summary, Tally, Wait};
 use std::error::Error;
 use std::io::{self, Write};
 use std::path::{Path, PathBuf};
@@ -130,6 +132,36 @@ fn show(out: &mut impl Write, fish: [usize; 2], seen: &[Vec<Command>; 2]) -> io:
     )
 }
 
+/// Looks some fish up, each of which is looked at for a while, with so many jobs
+/// left to be run meanwhile; tells for how many commands a look-up waits.
+fn look_at(reader: &mut Store, fish: &[usize], left: usize) -> Result<Wait, Box<dyn Error>> {
+    reader.leave_jobs(left);
+    reader.take_waits();
+    for &fish in fish {
+        let contents = reader.read(fish)?.contents;
+        assert_eq!(contents, record(fish), "the host brings what was written");
+        reader.settle()?;
+    }
+    Ok(reader.waits().returned())
+}
+
+/// Shows for how many commands look-ups wait, with their jobs run at once and with
+/// jobs left for when nobody waits.
+fn show_waits(out: &mut impl Write, reader: &mut Store) -> Result<(), Box<dyn Error>> {
+    let whole = look_at(reader, &[77, 1234, 2048, 5, 4001, 903, 17, 3210], 0)?;
+    let left = look_at(reader, &[3, 2999, 512, 1234, 40, 3333, 1601, 77], 2)?;
+    writeln!(
+        out,
+        "\nEight fish, one after the other. For each the reader waits\n"
+    )?;
+    let (now, later) = (
+        "if it runs jobs at once:",
+        "if they run while the fish is looked at:",
+    );
+    writeln!(out, "  {now:<40} {whole}\n  {later:<40} {left}")?;
+    Ok(())
+}
+
 /// Shows the page of the store with its partitions cut, and says what its last
 /// line does.
 fn show_page(out: &mut impl Write, summary: &Summary) -> io::Result<()> {
@@ -161,7 +193,10 @@ fn show_tally(out: &mut impl Write, tally: &Tally) -> io::Result<()> {
     )
 }
 
-/// Stores the fish in a new file and looks two of them up.
+/// A store whose host is a file, and what that sees is noted.
+type Store = Reader<Recorded<FileHost>>;
+
+/// Stores the fish in a new file and looks some of them up.
 pub fn run(path: &Path, out: &mut impl Write) -> Result<(), Box<dyn Error>> {
     let shape = Shape::hiding(FISH, BYTES)?;
     let host = FileHost::create(path, shape).map_err(|e| format!("{}: {e}", path.display()))?;
@@ -180,6 +215,7 @@ pub fn run(path: &Path, out: &mut impl Write) -> Result<(), Box<dyn Error>> {
         *seen = reader.host_mut().take();
     }
     show(out, fish, &seen)?;
+    show_waits(out, &mut reader)?;
     show_page(out, &reader.summary())?;
     show_tally(out, reader.tally())?;
     Ok(())

@@ -34,7 +34,7 @@ pub use crate::answer::Answer;
 use crate::command::Kind;
 
 /// The bytes of a client's state.
-pub const STATE: usize = 68;
+pub const STATE: usize = 76;
 
 /// The bytes of a line of a page: 28 characters and a newline.
 pub const LINE: usize = 29;

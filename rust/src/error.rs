@@ -13,7 +13,7 @@ use std::io;
 #[non_exhaustive]
 pub enum Error {
     /// A call was refused, such as one for a block or a length that is none of
-    /// the store's. Nothing was sent, and the reader goes on.
+    /// the store's. Nothing was sent for it, and the reader goes on.
     Refused(Refusal),
     /// The host failed, or does not fit the store's shape, or completed what it
     /// was not sent: then its kind is `InvalidData`, with the [`Refusal`]
@@ -22,11 +22,11 @@ pub enum Error {
     /// The source of random words failed, or ended (`UnexpectedEof`). Nothing
     /// was sent, and the reader goes on if there are words again.
     Words(io::Error),
-    /// A look-up passed over so many words that they cannot be random: whoever
-    /// gives such words hides nothing.
+    /// A look-up, or jobs that were left, passed over so many words that they
+    /// cannot be random: whoever gives such words hides nothing.
     NotRandom,
-    /// An earlier look-up failed midway, and what the host has done of it is
-    /// not known: the reader makes no more.
+    /// An earlier look-up failed midway, or jobs that it left did, and what the
+    /// host has done of it is not known: the reader makes no more.
     Unfinished,
 }
 
@@ -46,7 +46,7 @@ impl fmt::Display for Error {
             Error::Host(_) => "the host failed",
             Error::Words(_) => "there are no random words",
             Error::NotRandom => "too many words were passed over: they are not random",
-            Error::Unfinished => "an earlier look-up failed midway",
+            Error::Unfinished => "an earlier look-up, or jobs that it left, failed midway",
         })
     }
 }

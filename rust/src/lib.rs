@@ -65,6 +65,32 @@
 //! # Ok::<(), Error>(())
 //! ```
 //!
+//! # Jobs that are left for later
+//!
+//! A look-up queues two jobs, which rebuild parts of the store and are most of
+//! what it sends. A reader runs them before it returns, or leaves some for later
+//! ([`Reader::leave_jobs`]): then it returns as soon as it has the contents, and
+//! jobs are run while nobody waits ([`Reader::settle`], [`Reader::advance`]). For
+//! how many commands look-ups waited is told by [`Reader::waits`].
+//!
+//! ```
+//! use rinwolfedd::{Error, MemoryHost, Reader, Shape};
+//!
+//! let shape = Shape::hiding(64, 8)?;
+//! let mut reader = Reader::open(shape, MemoryHost::new(shape, 1)?)?;
+//! reader.write_all([[7; 8]; 64])?;
+//! let whole = reader.take_waits().returned();
+//!
+//! reader.leave_jobs(6);
+//! for fish in [3, 17, 42] {
+//!     assert_eq!(reader.read(fish)?.contents, [7; 8]);
+//! }
+//! println!("{whole}"); // such as "16.9 commands on average, 65 at most"
+//! println!("{}", reader.waits().returned()); // such as "3.0 commands on average, 4 at most"
+//! reader.settle()?; // now nobody waits
+//! # Ok::<(), Error>(())
+//! ```
+//!
 //! # Linking
 //!
 //! The calls are in the library `librinwolfedd.a`, which `scripts/library`
@@ -100,6 +126,7 @@ mod store;
 mod summary;
 mod tally;
 mod tape;
+mod waits;
 
 pub use command::{Command, Kind};
 pub use error::Error;
@@ -117,3 +144,4 @@ pub use store::{Request, Store};
 pub use summary::{Figures, Summary};
 pub use tally::Tally;
 pub use tape::Tape;
+pub use waits::{Wait, Waits};

@@ -1,6 +1,9 @@
 //! Whole look-ups: a store, its host and its tape.
 
-use crate::command::Kind;
+mod left;
+mod many;
+mod turns;
+
 use crate::error::Error;
 use crate::found::Found;
 use crate::host::Host;
@@ -11,6 +14,7 @@ use crate::store::{Request, Store};
 use crate::summary::Summary;
 use crate::tally::Tally;
 use crate::tape::Supply;
+use crate::waits::Waits;
 use std::fmt;
 use std::fs::File;
 use std::io::Read;
@@ -18,28 +22,27 @@ use std::io::Read;
 /// Where the operating system hands out random bytes.
 const RANDOM: &str = "/dev/urandom";
 
-/// The words that a look-up may pass over. With eight levels it passes over less
-/// than half a word on average, and more than these less than once in 10^111
-/// look-ups.
-const SPARE: usize = 64;
-
 /// Reads and writes blocks by whole look-ups. Each is a request, its reads,
 /// the collect, and both its jobs to the end, with up to W commands
-/// outstanding; so the next look-up finds nothing in its way.
+/// outstanding; so the next look-up finds nothing in its way. A reader that is
+/// told to [leave jobs](Reader::leave_jobs) returns as soon as it has the
+/// contents, and the next look-up is asked while jobs of earlier ones are still
+/// to be done.
 ///
 /// With E = N the commands do not tell which block was looked up, nor whether
 /// it was read or written; the bytes beside them do, unless the host
 /// [seals](Host#sealing) them. With a smaller cache a look-up may be refused with
 /// [`Refusal::CacheFull`], and that does depend on the blocks. To ask again is
 /// of no use: the same block is refused until another one, which waits in the
-/// cache, has been looked up, and its jobs have made room.
+/// cache, has been looked up, and its jobs have made room. Jobs that are left are
+/// done first.
 ///
 /// Words come from `/dev/urandom`, or from any other source with
-/// [`with_words`](Reader::with_words). All that a look-up takes are there before
-/// it begins, with some to spare for those that are [passed over](crate::Tape), so
-/// that of random words there are enough and only the host can fail midway. Then
-/// all later look-ups answer [`Error::Unfinished`]. No word is lent to a call that
-/// was taken before.
+/// [`with_words`](Reader::with_words). All that a look-up takes, with every job
+/// that it may have to run, are there before it begins, with some to spare for
+/// those that are [passed over](crate::Tape), so that of random words there are
+/// enough and only the host can fail midway. Then all later look-ups answer
+/// [`Error::Unfinished`]. No word is lent to a call that was taken before.
 ///
 /// Each look-up also tells the owner of the store where its block was
 /// [found](Found), and a [tally](Reader::tally) has how often it was where.
@@ -50,9 +53,15 @@ pub struct Reader<H, R = File> {
     /// What a completed read brought.
     arrived: Vec<u8>,
     outstanding: usize,
-    /// Whether a look-up has begun and not come to its end.
+    /// All commands so far.
+    sent: u64,
+    /// Whether a look-up, or a run of jobs that were left, has begun and not come
+    /// to its end.
     unfinished: bool,
+    /// How many jobs a look-up may leave.
+    most_left: usize,
     tally: Tally,
+    waits: Waits,
 }
 
 /// The store's shape and the host.
@@ -106,8 +115,11 @@ impl<H: Host, R: Read> Reader<H, R> {
             words,
             arrived: vec![0; shape.bytes()],
             outstanding: 0,
+            sent: 0,
             unfinished: false,
+            most_left: 0,
             tally: Tally::new(shape.levels()),
+            waits: Waits::default(),
         })
     }
 
@@ -130,22 +142,25 @@ impl<H: Host, R: Read> Reader<H, R> {
         &mut self.host
     }
 
-    /// Gives the host back; the store is lost.
+    /// Gives the host back; the store is lost. While jobs are left, commands may
+    /// be outstanding at the host: [`settle`](Reader::settle) waits for all.
     #[must_use]
     pub fn into_host(self) -> H {
         self.host
     }
 
-    /// Whether a look-up failed midway, so that every later one answers
-    /// [`Error::Unfinished`]. If not, the reader goes on after an error.
+    /// Whether a look-up failed midway, or jobs that were left, so that every
+    /// later one answers [`Error::Unfinished`]. If not, the reader goes on after
+    /// an error.
     #[must_use]
     pub fn is_unfinished(&self) -> bool {
         self.unfinished
     }
 
     /// The [page](Store::page) on the state of the store, a text for its owner
-    /// and not for its host. Between look-ups no job is queued; after one that
-    /// failed midway the page tells how far it came.
+    /// and not for its host. Between look-ups no job is queued but those that are
+    /// [left](Reader::leave_jobs); after one that failed midway the page tells how
+    /// far it came.
     #[must_use]
     pub fn page(&self) -> String {
         self.store.page()
@@ -165,6 +180,19 @@ impl<H: Host, R: Read> Reader<H, R> {
         &self.tally
     }
 
+    /// For how many commands look-ups waited, since the reader was opened or
+    /// since [`take_waits`](Reader::take_waits). Only look-ups that returned
+    /// contents count.
+    #[must_use]
+    pub fn waits(&self) -> &Waits {
+        &self.waits
+    }
+
+    /// Hands out for how many commands look-ups waited so far, and begins anew.
+    pub fn take_waits(&mut self) -> Waits {
+        std::mem::take(&mut self.waits)
+    }
+
     /// Looks a block up: hands out its contents, and tells where it was found.
     ///
     /// ```
@@ -180,10 +208,12 @@ impl<H: Host, R: Read> Reader<H, R> {
     /// # Errors
     ///
     /// [`Error::Refused`] for a block that is none of the store's, or for want
-    /// of a place in a cache with fewer than N; [`Error::Words`] if fewer words
-    /// are left than a look-up asks for, 2^(L+1) and 64 to be passed over. Nothing
-    /// was sent then, and the reader goes on. [`Error::Host`] if the host fails or
-    /// completes what it was not sent, which ends the reader:
+    /// of a place in a cache with fewer than N, once jobs that were
+    /// [left](Reader::leave_jobs) are done; [`Error::Words`] if fewer words
+    /// are left than a look-up asks for: 2, and for each of its two jobs and of
+    /// those that are left 2^L − 1, and 32 that may be passed over. Nothing
+    /// was sent for it then, and the reader goes on. [`Error::Host`] if the host
+    /// fails or completes what it was not sent, which ends the reader:
     /// [`Error::Unfinished`] from then on. So does [`Error::NotRandom`], if so
     /// many words are passed over that those ready end.
     pub fn read(&mut self, block: usize) -> Result<LookedUp, Error> {
@@ -215,139 +245,5 @@ impl<H: Host, R: Read> Reader<H, R> {
         let found = self.look_up(Request::Write { block, contents }, &mut before)?;
         let contents = before;
         Ok(LookedUp { contents, found })
-    }
-
-    /// Writes block 0, 1, 2, .. as long as there are contents, and hands back
-    /// how many are stored.
-    ///
-    /// # Errors
-    ///
-    /// Those of [`write_from`](Reader::write_from).
-    pub fn write_all<C: AsRef<[u8]>>(
-        &mut self,
-        contents: impl IntoIterator<Item = C>,
-    ) -> Result<usize, Error> {
-        self.write_from(0, contents)
-    }
-
-    /// As [`write_all`](Reader::write_all), and says after each block how many
-    /// are stored. [`Progress`](crate::Progress) makes a line of it:
-    ///
-    /// ```
-    /// # use rinwolfedd::{Error, MemoryHost, Progress, Reader, Shape};
-    /// # let shape = Shape::hiding(64, 8)?;
-    /// # let mut reader = Reader::open(shape, MemoryHost::new(shape, 1)?)?;
-    /// let progress = Progress::to_stderr("storing blocks", 64);
-    /// reader.write_all_with([[7; 8]; 64], progress.into_callback())?;
-    /// # Ok::<(), Error>(())
-    /// ```
-    ///
-    /// # Errors
-    ///
-    /// Those of [`write_from`](Reader::write_from).
-    pub fn write_all_with<C: AsRef<[u8]>>(
-        &mut self,
-        contents: impl IntoIterator<Item = C>,
-        stored: impl FnMut(usize),
-    ) -> Result<usize, Error> {
-        self.write_from_with(0, contents, stored)
-    }
-
-    /// As [`write_all`](Reader::write_all), from block `first` on: to go on
-    /// after an error, or to store in parts.
-    ///
-    /// # Errors
-    ///
-    /// Those of [`write`](Reader::write) at the first block that has one; the
-    /// blocks before it are stored.
-    pub fn write_from<C: AsRef<[u8]>>(
-        &mut self,
-        first: usize,
-        contents: impl IntoIterator<Item = C>,
-    ) -> Result<usize, Error> {
-        self.write_from_with(first, contents, |_| ())
-    }
-
-    /// As [`write_from`](Reader::write_from), and says after each block how many
-    /// are stored, the first one as 1.
-    ///
-    /// # Errors
-    ///
-    /// Those of [`write_from`](Reader::write_from).
-    pub fn write_from_with<C: AsRef<[u8]>>(
-        &mut self,
-        first: usize,
-        contents: impl IntoIterator<Item = C>,
-        mut stored: impl FnMut(usize),
-    ) -> Result<usize, Error> {
-        let mut count = 0;
-        for contents in contents {
-            // no overflow: a first block of N or more is refused at once
-            self.write(first + count, contents.as_ref())?;
-            count += 1;
-            stored(count);
-        }
-        Ok(count)
-    }
-
-    /// One whole look-up; the contents before it go into the buffer.
-    fn look_up(&mut self, request: Request<'_>, before: &mut [u8]) -> Result<Found, Error> {
-        if self.unfinished {
-            return Err(Error::Unfinished);
-        }
-        if before.len() != self.shape().bytes() {
-            return Err(Refusal::BufferLength.into());
-        }
-        // two for the request, and an order of at most 2^L slots for each job
-        let most = (2 << self.shape().levels()) + SPARE;
-        self.words.ready(most).map_err(Error::Words)?;
-        let mut tape = self.words.tape();
-        self.store.request(request, &mut tape)?;
-        let taken = tape.taken();
-        self.words.take(taken);
-        self.unfinished = true;
-        self.run()?;
-        let (contents, found) = self.store.collect().map_err(Error::midway)?;
-        before.copy_from_slice(contents);
-        self.tally.count(found);
-        self.run()?;
-        self.unfinished = false;
-        Ok(found)
-    }
-
-    /// Turns and completions until nothing is left to send or to complete. It
-    /// waits for the host only where no command can be sent.
-    fn run(&mut self) -> Result<(), Error> {
-        loop {
-            let mut tape = self.words.tape();
-            let sent = self.store.turn(&mut tape);
-            let taken = tape.taken();
-            self.words.take(taken);
-            match sent {
-                Ok((command, bytes)) => {
-                    self.host.submit(command, bytes).map_err(Error::Host)?;
-                    self.outstanding += 1;
-                }
-                Err(Refusal::WindowFull | Refusal::NothingToSend) if self.outstanding > 0 => {
-                    self.complete()?;
-                }
-                Err(Refusal::NothingToSend) => return Ok(()),
-                Err(Refusal::TooFewWords) => return Err(Error::NotRandom),
-                Err(refusal) => return Err(Error::midway(refusal)),
-            }
-        }
-    }
-
-    fn complete(&mut self) -> Result<(), Error> {
-        let command = self.host.next_completed(&mut self.arrived);
-        let command = command.map_err(Error::Host)?;
-        let bytes = match command.kind {
-            Kind::Read => &self.arrived[..],
-            Kind::Write => &[],
-        };
-        let completed = self.store.completion(command, bytes);
-        completed.map_err(Error::midway)?;
-        self.outstanding -= 1;
-        Ok(())
     }
 }

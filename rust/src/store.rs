@@ -83,6 +83,9 @@ impl fmt::Debug for Store {
     }
 }
 
+/// Where the state has how many jobs are queued (docs/MEMORY.md).
+const JOBS: usize = 13;
+
 impl Store {
     /// Opens a store of the shape: all blocks are zeros. Takes N words.
     ///
@@ -179,8 +182,10 @@ impl Store {
         calls::completion(state, memory, kind, slot, bytes).accepted()
     }
 
-    /// Hands out the block's contents before the request, once all its reads
-    /// have completed, with where the block was found, and queues its two jobs.
+    /// Hands out the block's contents before the request, once it is finished,
+    /// with where the block was found, and queues its two jobs. It is finished
+    /// when it is not held, its reads have completed, and so have those of a
+    /// job for its partition that were outstanding when it ceased to be held.
     /// Where it was found is for the owner of the store, not for its host
     /// ([`Found`]).
     ///
@@ -191,6 +196,20 @@ impl Store {
         let answer = calls::collect(&mut self.state, &mut self.memory, &mut self.buffer);
         answer.accepted()?;
         Ok((&self.buffer, answer.found()))
+    }
+
+    /// How many jobs are queued, one that has begun among them: at most 64, and
+    /// with more than 62 no request is accepted. The host can count them, too: a
+    /// collect queues two, and a job leaves with its last write.
+    #[must_use]
+    pub fn queued(&self) -> usize {
+        self.number(JOBS)
+    }
+
+    /// A number of the state.
+    fn number(&self, index: usize) -> usize {
+        let at = 4 * index;
+        u16::from_le_bytes([self.state[at], self.state[at + 1]]).into()
     }
 
     /// The page on the state of the store, a text of P + 1 lines of 28

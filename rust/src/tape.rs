@@ -82,6 +82,11 @@ impl<'a> Tape<'a> {
         self.rest().len() / 2
     }
 
+    /// The words that are not lent again.
+    pub(crate) fn used(&self) -> usize {
+        self.used
+    }
+
     pub(crate) fn rest(&self) -> &'a [u8] {
         self.bytes.get(2 * self.used..).unwrap_or(&[])
     }
@@ -97,14 +102,14 @@ impl<'a> Tape<'a> {
     }
 }
 
-/// The bytes read from a source at a time.
+/// The bytes read from a source at a time, beside those that are asked for.
 const AHEAD: usize = 8192;
 
 /// A tape that goes on: bytes of a source, read many at a time.
 pub(crate) struct Supply<R> {
     source: R,
     bytes: Vec<u8>,
-    /// Where the words begin that are not taken.
+    /// Where the words begin that may be lent.
     at: usize,
 }
 
@@ -126,7 +131,7 @@ impl<R: Read> Supply<R> {
         }
         self.bytes.drain(..self.at);
         self.at = 0;
-        let more = AHEAD.max(2 * words) - self.bytes.len();
+        let more = 2 * words + AHEAD - self.bytes.len();
         let mut some = self.source.by_ref().take(more as u64);
         let read = some.read_to_end(&mut self.bytes);
         if self.tape().left() >= words {

@@ -158,6 +158,29 @@ fn words_that_are_not_random() {
     };
 }
 
+/// So it is where a look-up left its jobs, whatever does them then.
+#[test]
+fn words_of_jobs_left_that_are_not_random() {
+    type Does = fn(&mut Reader<MemoryHost, io::Repeat>) -> Result<(), Error>;
+    let ways: [Does; 3] = [
+        |reader| reader.settle(),
+        |reader| reader.advance(1).map(|_| ()),
+        |reader| reader.read(0).map(|_| ()),
+    ];
+    for does in ways {
+        let host = MemoryHost::new(SHAPE, 1).unwrap();
+        let mut reader = Reader::with_words(SHAPE, host, io::repeat(255)).unwrap();
+        reader.leave_jobs(62);
+        reader.read(0).unwrap();
+        let failed = (0..1000).find_map(|_| does(&mut reader).and(reader.advance(0)).err());
+        let Some(Error::NotRandom) = failed else {
+            panic!("{failed:?}");
+        };
+        assert!(reader.is_unfinished());
+        assert!(matches!(reader.settle(), Err(Error::Unfinished)));
+    }
+}
+
 /// A source that fails every other time that it is asked, and else has few
 /// bytes.
 #[derive(Default)]

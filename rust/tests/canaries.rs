@@ -18,11 +18,13 @@ fn state(rng: &mut Rng, len: usize) -> Vec<u8> {
     if len != STATE || rng.chance(20) {
         return rng.bytes(len);
     }
-    let mut words = [3, 2, 2, 4, 3, 2, 0, 0, 0, 0, 0, 0, 0, 0, 0, 0, 0u16];
+    let mut words = [0; STATE / 4];
+    words[..6].copy_from_slice(&[3, 2, 2, 4, 3, 2u16]);
     for word in &mut words[6..] {
         *word = rng.below(4) as u16;
     }
     words[11] = rng.below(6) as u16; // where a block was found; in range below 5
+    words[14] = rng.below(3) as u16; // whether the front job has begun; below 2
     if rng.chance(30) {
         words[rng.below(words.len())] = rng.step() as u16;
     }
@@ -102,8 +104,9 @@ fn between(state: &[u8]) -> Vec<&[u8]> {
 }
 
 /// The numbers of a request in a state: kind, block, next partition, eviction
-/// partition, level, and where its block was found.
-fn request_numbers(state: &[u8]) -> [u16; 6] {
+/// partition, level, where its block was found, and for how many of the
+/// outstanding commands it waits.
+fn request_numbers(state: &[u8]) -> [u16; 7] {
     std::array::from_fn(|k| u16::from_le_bytes([state[24 + 4 * k], state[25 + 4 * k]]))
 }
 
@@ -149,7 +152,7 @@ fn check_accepted(which: usize, before: &[Vec<u8>; 3], answer: Answer, after: &[
     let [asked, left] = [before, after].map(|lent| request_numbers(&lent[0]));
     if kind_of_request(&after[0]) == 0 {
         let wanted = match which {
-            OPEN | COLLECT => [0; 6],
+            OPEN | COLLECT => [0; 7],
             _ => asked,
         };
         assert_eq!(left, wanted, "call {which}");

@@ -9,6 +9,8 @@
 
 #[path = "common/convert.rs"]
 mod convert;
+#[path = "common/damage.rs"]
+mod damage;
 #[path = "common/lent.rs"]
 mod lent;
 #[path = "common/linked.rs"]
@@ -19,6 +21,7 @@ mod paged;
 mod random;
 mod view;
 
+use damage::{damage_memory, damage_state};
 use linked::Linked;
 use plain::calls::{Ask, Call, Outcome};
 use plain::mistakes::Mistake;
@@ -28,7 +31,9 @@ use plain::shape::Shape;
 use plain::state::{READ, WRITE};
 use random::{Random, SLACK};
 use std::time::Instant;
-use view::{NUMBERS, View, cells, decode, step};
+use view::met::{Counts as Beside, Watch};
+use view::step::step;
+use view::{View, decode};
 
 /// Shapes with their share of the calls in a thousand.
 const SHAPES: [(Shape, usize); 10] = [
@@ -60,11 +65,15 @@ struct Counts {
     /// Pages shown, and those of a state that lists a block too often.
     pages: usize,
     too_often: usize,
-    /// States in range whose request is held though no job holds it, or the
-    /// other way round.
+    /// States in range whose request is held though nothing holds it, or
+    /// released beside a job that would hold it.
     odd: usize,
     /// Collects that told nowhere, the cache and a level.
     told: [usize; 3],
+    /// Look-ups while a partition is rebuilt, in states that calls left and in
+    /// damaged ones.
+    left: Beside,
+    beside: Beside,
 }
 
 fn copy(of: &Linked) -> Linked {
@@ -74,90 +83,31 @@ fn copy(of: &Linked) -> Linked {
     copy
 }
 
-/// A number that is small, near a bound, or any.
-fn number(rng: &mut Rng, bound: usize) -> u16 {
-    let any = match rng.below(8) {
-        0 => rng.step() as usize,
-        1 => bound,
-        2 => bound + 1,
-        3 => rng.below(4),
-        _ => rng.below(bound + 1),
-    };
-    any as u16
-}
-
-/// Puts numbers into some of the state's; the shape's are seldom touched, as
-/// little is in range after that.
-fn damage_state(state: &mut [u8], shape: Shape, rng: &mut Rng) {
-    let (p, cursor) = (shape.partitions, (2 << shape.levels) - 2);
-    let jobs = [4, 62, 64][rng.below(3)];
-    let last = [jobs, cursor, 1 << shape.levels, shape.places, shape.window];
-    let bounds = [2, shape.blocks, p, p, shape.levels, shape.levels + 2];
-    for _ in 0..1 + rng.below(3) {
-        let k = if rng.chance(5) {
-            rng.below(6)
-        } else {
-            6 + rng.below(NUMBERS - 6)
-        };
-        let bound = match k {
-            0..6 => [4096, 64, 8, 512, shape.blocks, 32][k],
-            6..12 => bounds[k - 6],
-            _ => last[k - 12],
-        };
-        let value = number(rng, bound).to_le_bytes();
-        state[4 * k..4 * k + 2].copy_from_slice(&value);
-    }
-}
-
-/// Puts numbers into some entries of one table or another, or any bytes
-/// anywhere.
-fn damage_memory(memory: &mut [u8], shape: Shape, rng: &mut Rng) {
-    let (n, c) = (shape.blocks, cells(shape));
-    let (p, slots) = (shape.partitions, 2 << shape.levels);
-    let tables = [
-        (0, 64, p),
-        (64, 32, 64 + p),
-        (96, 32, slots),
-        (128, p, slots / 2),
-        (192, n, p),
-        (192 + n, n, slots),
-        (192 + 2 * n, n, n),
-        (192 + 3 * n, c, slots / 2),
-        (192 + 3 * n + c, c, n),
-        (192 + 3 * n + 2 * c, c, 1),
-    ];
-    if rng.chance(4) {
-        let bytes = rng.bytes(memory.len());
-        return memory.copy_from_slice(&bytes);
-    }
-    for _ in 0..rng.below(10) {
-        let (first, count, bound) = tables[rng.below(tables.len())];
-        for _ in 0..1 + rng.below(4) {
-            let at = 2 * (first + rng.below(count));
-            memory[at..at + 2].copy_from_slice(&number(rng, bound).to_le_bytes());
-        }
-    }
-    for _ in 0..rng.below(4) {
-        memory[rng.below(memory.len())] = rng.step() as u8;
-    }
+/// A block, mostly of the partition that is rebuilt.
+fn block(view: &View, rng: &mut Rng) -> usize {
+    let any = rng.below(view.shape.blocks);
+    let mut all = (any..view.shape.blocks).chain(0..any);
+    let rebuilt = all.find(|b| view.queue.first() == Some(&view.partition[*b]));
+    rebuilt.filter(|_| rng.chance(70)).unwrap_or(any)
 }
 
 /// A call that suits the state, so that it comes as far as it can.
 fn suited(view: &View, memory: usize, rng: &mut Rng) -> Call {
     let (shape, bytes) = (view.shape, view.shape.bytes);
+    let asks = view.request.is_none() || rng.chance(20);
     let ask = match rng.below(8) {
-        0 => Ask::Request {
+        0..2 if asks => Ask::Request {
             kind: READ,
-            block: rng.below(shape.blocks),
+            block: block(view, rng),
             contents: Vec::new(),
         },
-        1 => Ask::Request {
+        2 if asks => Ask::Request {
             kind: WRITE,
-            block: rng.below(shape.blocks),
+            block: block(view, rng),
             contents: rng.bytes(bytes),
         },
-        2 => Ask::Collect,
-        3..5 if !view.outstanding.is_empty() => {
+        2..4 => Ask::Collect,
+        4..6 if !view.outstanding.is_empty() => {
             let command = view.outstanding[rng.below(view.outstanding.len())];
             let length = if command.kind == READ { bytes } else { 0 };
             let bytes = rng.bytes(length);
@@ -184,55 +134,53 @@ fn compare_page(linked: &Linked, view: Option<&View>) -> Option<String> {
     wanted
 }
 
-/// Makes a call to both and compares outcome, bytes and the state after it.
-/// Says whether the state was in range and lent its memory.
-fn compare(linked: &mut Linked, call: &Call) -> (bool, Outcome) {
-    let mut view = decode(linked.state.bytes(), linked.memory.bytes());
-    let in_range = view.is_some();
-    let lent = view
+/// Makes a call to both and compares outcome, bytes and the state after it. Says
+/// whether the state was in range and lent its memory, and counts what was met.
+fn compare(
+    linked: &mut Linked,
+    call: &Call,
+    watch: &mut Watch,
+    beside: &mut Beside,
+) -> (bool, Outcome) {
+    let before = decode(linked.state.bytes(), linked.memory.bytes());
+    let lent = before
         .as_ref()
         .is_some_and(|v| v.shape.needed() <= call.memory);
+    let mut view = before.clone();
     let outcome = step(&mut view, call);
     let told = linked.compare(call, &outcome);
     told.unwrap_or_else(|told| panic!("{told}"));
     let after = decode(linked.state.bytes(), linked.memory.bytes());
     // what is out of range stands for no state, before and after
-    if in_range || matches!(call.ask, Ask::Open(_)) {
+    if before.is_some() || matches!(call.ask, Ask::Open(_)) {
         assert!(after == view, "the state after {call:?}: {outcome:?}");
     } else {
-        assert_eq!((outcome.number, after), (2, None));
+        assert_eq!((outcome.number, &after), (2, &None));
+    }
+    if let (Some(before), Some(after)) = (before, after) {
+        beside.add(watch.call(&before, call, &outcome, &after));
     }
     (lent, outcome)
 }
 
 /// Damages a copy of the state that calls left, and makes some calls to it.
 fn damaged(honest: &Linked, random: &mut Random, shape: Shape, counts: &mut Counts) {
-    let mut linked = copy(honest);
+    let (mut linked, mut watch) = (copy(honest), Watch::default());
     if random.rng.chance(60) {
         damage_state(linked.state.lend(), shape, &mut random.rng);
     }
     damage_memory(linked.memory.lend(), shape, &mut random.rng);
     for _ in 0..CALLS {
         let view = decode(linked.state.bytes(), linked.memory.bytes());
-        counts.pages += usize::from(compare_page(&linked, view.as_ref()).is_some());
-        let too_often = view.as_ref().is_some_and(View::lists_a_block_too_often);
-        counts.too_often += usize::from(too_often);
-        let odd = view.as_ref().is_some_and(View::is_held_oddly);
-        counts.odd += usize::from(odd);
+        counts.state(&linked, view.as_ref());
         let call = match view {
             Some(view) if random.rng.chance(65) => {
                 suited(&view, linked.memory.bytes().len(), &mut random.rng)
             }
             _ => random.call(),
         };
-        let (in_range, outcome) = compare(&mut linked, &call);
-        counts.numbers[usize::from(outcome.number)] += 1;
-        counts.out_of_range += usize::from(!in_range);
-        let late = in_range && outcome.number == 2 && matches!(call.ask, Ask::Turn);
-        counts.late += usize::from(late);
-        if outcome.number == 0 && call.ask == Ask::Collect {
-            counts.told[outcome.found.number().min(2)] += 1;
-        }
+        let (in_range, outcome) = compare(&mut linked, &call, &mut watch, &mut counts.beside);
+        counts.call(in_range, &call, &outcome);
     }
 }
 
@@ -242,11 +190,11 @@ fn damaged_states_are_answered_as_the_rules_say() {
     let mut counts = Counts::default();
     for (seed, (shape, share)) in SHAPES.into_iter().enumerate() {
         let mut random = Random::new(shape, Mistake::None, 100 + seed as u64);
-        let mut linked = Linked::new(shape.needed() + SLACK);
+        let (mut linked, mut watch) = (Linked::new(shape.needed() + SLACK), Watch::default());
         for _ in 0..(calls * share / 1000).div_ceil(CALLS) {
             for _ in 0..random.rng.below(12) {
                 let (call, outcome) = random.next();
-                let (_, by_view) = compare(&mut linked, &call);
+                let (_, by_view) = compare(&mut linked, &call, &mut watch, &mut counts.left);
                 assert_eq!(by_view, outcome, "the view and the model");
                 let view = decode(linked.state.bytes(), linked.memory.bytes());
                 let by_model = random.model.state.as_ref().map(page::page);
@@ -260,6 +208,24 @@ fn damaged_states_are_answered_as_the_rules_say() {
 }
 
 impl Counts {
+    /// The page of a state to which a call is made, and what is odd in it.
+    fn state(&mut self, linked: &Linked, view: Option<&View>) {
+        self.pages += usize::from(compare_page(linked, view).is_some());
+        let too_often = view.is_some_and(View::lists_a_block_too_often);
+        self.too_often += usize::from(too_often);
+        self.odd += usize::from(view.is_some_and(View::is_held_oddly));
+    }
+
+    fn call(&mut self, in_range: bool, call: &Call, outcome: &Outcome) {
+        self.numbers[usize::from(outcome.number)] += 1;
+        self.out_of_range += usize::from(!in_range);
+        let late = in_range && outcome.number == 2 && matches!(call.ask, Ask::Turn);
+        self.late += usize::from(late);
+        if outcome.number == 0 && call.ask == Ask::Collect {
+            self.told[outcome.found.number().min(2)] += 1;
+        }
+    }
+
     /// Prints them, and asks that nothing was met too rarely in so many calls.
     fn check(&self, calls: usize, seconds: f64) {
         let Counts {
@@ -270,6 +236,8 @@ impl Counts {
             too_often,
             odd,
             told,
+            left,
+            beside,
         } = self;
         let made: usize = numbers.iter().sum();
         println!("{made} calls to damaged states in {seconds:.1} s");
@@ -277,11 +245,15 @@ impl Counts {
         println!("  {out_of_range} out of range, {late} turns without a dummy or room");
         println!("  {pages} pages, {too_often} of a state that lists a block too often");
         println!("  {odd} requests held oddly; found nowhere, in the cache, in a level: {told:?}");
+        println!("  beside a rebuild, before the damage: {left:?}");
+        println!("  and after it: {beside:?}");
         for (number, count) in numbers.iter().enumerate() {
             assert!(*count > calls / 10_000, "{number} is answered too rarely");
         }
         assert!(made >= calls && *out_of_range > calls / 20 && *late > calls / 1000);
         assert!(*pages > calls / 4 && *too_often > calls / 100 && *odd > calls / 100);
         assert!(told.iter().all(|count| *count > calls / 2000));
+        assert!(left.least()[0] > calls / 10_000 && left.damaged_only() == [0; 2]);
+        assert!(beside.least().iter().all(|count| *count > calls / 10_000));
     }
 }

@@ -28,6 +28,7 @@ fn the_example_stores_fish_and_shows_two_look_ups() {
         .find(|line| line.contains("partition"))
         .unwrap();
     assert_eq!(first.matches("read  partition").count(), 2, "{first}");
+    check_waits(seen);
     let (page, tally) = text
         .split("The page of the store")
         .nth(1)
@@ -35,6 +36,19 @@ fn the_example_stores_fish_and_shows_two_look_ups() {
         .unwrap();
     check_page(page);
     check_tally(tally);
+}
+
+/// Where jobs run meanwhile, a look-up waits for a read to each filled level and
+/// for nothing else.
+fn check_waits(told: &str) {
+    let [whole, left] = ["at once: ", "looked at: "].map(|name| {
+        let line = told.split(name).nth(1).unwrap().trim_start();
+        let (mean, rest) = line.split_once(" commands on average, ").unwrap();
+        let (most, _) = rest.split_once(" at most").unwrap();
+        [mean, most].map(|number| number.parse::<f64>().unwrap())
+    });
+    assert!(left[0] <= left[1] && left[1] <= 8.0, "{told}");
+    assert!(whole[0] <= whole[1] && whole[0] > 4.0, "{told}");
 }
 
 /// The page is cut after four partitions. By its last line no fish is nowhere,
@@ -53,19 +67,19 @@ fn check_page(page: &str) {
     assert!(page.contains(&said), "{page}");
 }
 
-/// The look-ups are those that stored each fish, which was nowhere then, and two
+/// The look-ups are those that stored each fish, which was nowhere then, and 18
 /// more; where these found theirs adds up.
 fn check_tally(told: &str) {
     let tally = told.lines().last().unwrap();
     let places = tally
-        .strip_prefix("  4098 look-ups: 4096 found nowhere, ")
+        .strip_prefix("  4114 look-ups: 4096 found nowhere, ")
         .unwrap();
     let found = places.split(", ").map(|place| {
         let (count, place) = place.split_once(" in ").unwrap();
         assert!(place == "the cache" || place.starts_with("level "));
         count.parse::<usize>().unwrap()
     });
-    assert_eq!(found.sum::<usize>(), 2, "{told}");
+    assert_eq!(found.sum::<usize>(), 18, "{told}");
 }
 
 #[test]

@@ -4,7 +4,7 @@
 use rinwolfedd::calls::Answer;
 use rinwolfedd::{Command, Error, Figures, FileHost, Found, Host, Kind, LookedUp, MemoryHost};
 use rinwolfedd::{Progress, Reader, Recorded, Refusal, Request, Shape, Slots, Store};
-use rinwolfedd::{Summary, Tally, Tape, UnknownNumber, calls};
+use rinwolfedd::{Summary, Tally, Tape, UnknownNumber, Wait, Waits, calls};
 use std::fs::File;
 use std::io::{self, Write};
 
@@ -30,6 +30,8 @@ const _: () = {
     both::<Found>();
     both::<LookedUp>();
     both::<Tally>();
+    both::<Wait>();
+    both::<Waits>();
     both::<MemoryHost>();
     both::<FileHost>();
     both::<Progress>();

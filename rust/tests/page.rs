@@ -253,7 +253,7 @@ const COUNTER: usize = 128;
 const PARTITION: usize = 192;
 const PLACE: usize = PARTITION + SHAPE.blocks;
 const WAITING: usize = PLACE + SHAPE.blocks;
-const WAIT: usize = 4 * 15;
+const WAIT: usize = 4 * 17;
 
 /// A number put somewhere into the tables of the used store, how many blocks
 /// wait, and the figures then: of partition 0, of partition 1, and of all.

@@ -13,6 +13,8 @@ mod lent;
 mod linked;
 #[path = "common/random.rs"]
 mod random;
+#[allow(dead_code)] // what it says of a call is for damaged.rs
+mod view;
 
 use linked::Linked;
 use plain::calls::Ask;
@@ -20,6 +22,8 @@ use plain::mistakes::Mistake;
 use plain::shape::Shape;
 use random::{Random, SLACK};
 use std::time::Instant;
+use view::decode;
+use view::met::{Counts, Watch};
 
 /// Shapes small and large, each with its share of the calls in a hundred.
 const SHAPES: [(Shape, usize); 16] = [
@@ -44,9 +48,14 @@ const SHAPES: [(Shape, usize); 16] = [
 /// The calls made where nothing else is said.
 const FEW: usize = 200_000;
 
+/// The memory of a shape whose states are looked at after each call, which
+/// takes as long as it is large.
+const WATCHED: usize = 8192;
+
 /// What was met: how often each number was answered, and a block found at each
 /// place, by its number; the most jobs queued, the rebuilds of a full partition,
-/// and those with all levels filled.
+/// and those with all levels filled; look-ups while a partition is rebuilt, in
+/// stores of the smaller shapes.
 #[derive(Default)]
 struct Met {
     numbers: [usize; 16],
@@ -54,6 +63,7 @@ struct Met {
     most_jobs: usize,
     full: usize,
     wraps: usize,
+    beside: Counts,
 }
 
 /// Makes so many calls and says where the linked calls first depart from the
@@ -67,11 +77,19 @@ fn compare(
 ) -> Result<(), String> {
     let mut random = Random::new(shape, mistake, seed);
     let mut linked = Linked::new(shape.needed() + SLACK);
+    let (mut watch, mut before) = (Watch::default(), None);
     for index in 0..calls {
         let (call, outcome) = random.next();
         let told = linked.compare(&call, &outcome);
         told.map_err(|told| format!("{shape:?}, seed {seed}, call {index}: {told}"))?;
         met.numbers[usize::from(outcome.number)] += 1;
+        if shape.needed() <= WATCHED {
+            let after = decode(linked.state.bytes(), linked.memory.bytes());
+            if let (Some(before), Some(after)) = (&before, &after) {
+                met.beside.add(watch.call(before, &call, &outcome, after));
+            }
+            before = after;
+        }
         if outcome.number == 0 && call.ask == Ask::Collect {
             met.found[outcome.found.number()] += 1;
         }
@@ -97,6 +115,7 @@ fn random_calls_answer_as_the_model_does() {
         most_jobs,
         full,
         wraps,
+        beside,
     } = met;
     let made: usize = numbers.iter().sum();
     let seconds = start.elapsed().as_secs_f64();
@@ -104,9 +123,11 @@ fn random_calls_answer_as_the_model_does() {
     println!("  numbers 0 to 15: {numbers:?}");
     println!("  found nowhere, in the cache, in level 0 to 7: {found:?}");
     println!("  rebuilds: {full} of a full partition, {wraps} with all levels filled");
+    println!("  beside a rebuild: {beside:?}");
     assert!(made >= calls && most_jobs == 64);
     assert!(found[..5].iter().all(|count| *count > calls / 2000));
     assert!(full > calls / 2000 && wraps > calls / 2000);
+    assert!(beside.least()[0] > calls / 4000 && beside.damaged_only() == [0; 2]);
     for (number, count) in numbers.iter().enumerate() {
         assert!(*count > calls / 20_000, "{number} is answered too rarely");
     }

@@ -2,6 +2,11 @@
 //! complete in any order, W commands outstanding, and the commands that a
 //! plain client sends from the same words.
 
+#[path = "common/hosts.rs"]
+#[allow(dead_code)] // the order of completion is for jobs_left.rs
+mod hosts;
+
+use hosts::Watched;
 use plain::rng::Rng;
 use rinwolfedd::{Command, Error, FileHost, Found, Host, Kind, LookedUp, MemoryHost};
 use rinwolfedd::{Progress, Reader, Recorded, Refusal, Shape, Tally};
@@ -80,49 +85,6 @@ fn an_array_with_a_host_in_memory() {
     for (seed, shape) in SHAPES.into_iter().enumerate() {
         let seed = seed as u64;
         look_ups(shape, MemoryHost::new(shape, seed).unwrap(), seed, 700);
-    }
-}
-
-/// A host that watches what is outstanding at the host below.
-struct Watched<H> {
-    host: H,
-    outstanding: HashSet<(u8, u8, u16)>,
-    most: usize,
-    /// Completions that were not of the command submitted first.
-    overtook: usize,
-    submitted: Vec<Command>,
-}
-
-impl<H> Watched<H> {
-    fn new(host: H) -> Watched<H> {
-        Watched {
-            host,
-            outstanding: HashSet::new(),
-            most: 0,
-            overtook: 0,
-            submitted: Vec::new(),
-        }
-    }
-}
-
-fn place(command: Command) -> (u8, u8, u16) {
-    (command.partition, command.level, command.slot)
-}
-
-impl<H: Host> Host for Watched<H> {
-    fn submit(&mut self, command: Command, bytes: &[u8]) -> io::Result<()> {
-        assert!(self.outstanding.insert(place(command)), "two in one slot");
-        self.most = self.most.max(self.outstanding.len());
-        self.submitted.push(command);
-        self.host.submit(command, bytes)
-    }
-
-    fn next_completed(&mut self, buffer: &mut [u8]) -> io::Result<Command> {
-        let command = self.host.next_completed(buffer)?;
-        assert!(self.outstanding.remove(&place(command)));
-        self.overtook += usize::from(self.submitted[0] != command);
-        self.submitted.retain(|submitted| *submitted != command);
-        Ok(command)
     }
 }
 

@@ -121,6 +121,7 @@ fn a_store_has_the_page_of_the_model() {
             let (text, summary) = (store.page(), store.summary());
             assert_eq!(text, page::page(state));
             assert_eq!(summary.to_string(), text, "it prints as the page");
+            assert_eq!(store.queued(), summary.queued());
             check(&summary, state);
         }
     }

@@ -74,11 +74,11 @@ fn pages() {
     };
     let shown = page(&state);
     assert_eq!(shown.0, 0);
-    for number in 0..17 {
+    for number in 0..STATE / 4 {
         let mut wide = state;
         wide[4 * number + 1] += 2; // 2^9 more
         let wanted = match number {
-            7..12 => shown.clone(),
+            7..13 => shown.clone(),
             _ => (2, vec![1; 87]),
         };
         assert_eq!(page(&wide), wanted, "number {number}");
@@ -110,6 +110,45 @@ fn places_of_blocks() {
         assert_eq!([wide, wider], [2; 2], "{number}");
     }
     assert_eq!([6, 7, 16, 17, 65535].map(collected), [2; 5]);
+}
+
+/// The number of outstanding commands for which a request in hand waits is in
+/// its range up to W, whatever is outstanding.
+#[test]
+fn commands_awaited() {
+    const AWAITS: usize = 4 * 12;
+    let (mut state, mut memory) = opened();
+    let asked = calls::request(&mut state, &mut memory, READ, 3, &[], &[0; 4]);
+    assert_eq!((asked.number(), state[AWAITS]), (0, 0)); // nothing is outstanding
+    let collected = |number: usize| {
+        let (mut state, mut memory, mut buffer) = (state, memory.clone(), [1; 4]);
+        state[AWAITS..AWAITS + 2].copy_from_slice(&(number as u16).to_le_bytes());
+        let answer = calls::collect(&mut state, &mut memory, &mut buffer);
+        assert_eq!(buffer == [0; 4], answer.number() == 0);
+        assert!(answer.number() != 0 || state[AWAITS..AWAITS + 2] == [0; 2]);
+        answer.bits()
+    };
+    let [_, _, _, _, _, window] = NUMBERS;
+    for number in 0..=window {
+        assert_eq!(collected(number), 0, "{number}");
+        let [wide, wider] = [8, 15].map(|bit| collected(number + (1 << bit)));
+        assert_eq!([wide, wider], [2; 2], "{number}");
+    }
+    assert_eq!([window + 1, 32, 255, 65535].map(collected), [2; 4]);
+}
+
+/// Whether the front job has begun is 0 or 1, whatever is queued.
+#[test]
+fn a_job_that_has_begun() {
+    const BEGUN: usize = 4 * 14;
+    let (state, memory) = opened();
+    let page = |number: u16| {
+        let mut state = state;
+        state[BEGUN..BEGUN + 2].copy_from_slice(&number.to_le_bytes());
+        calls::page(&state, &memory, &mut [0; 87]).number()
+    };
+    assert_eq!([0, 1].map(page), [0; 2]);
+    assert_eq!([2, 3, 255, 256, 257, 65535].map(page), [2; 6]);
 }
 
 #[test]

@@ -9,7 +9,7 @@ use native.Mathlib.Omega.{arith}
 use native.Mathlib.Decide.{ℕ-discrete}
 use lib.ListN.{replicate}
 use lib.Dec.{eqb}
-use borrow.Author.Tests.{eqb-false, ne-eqb}
+use borrow.Author.Tests.{ne-eqb}
 use Rattle.lists.specs.All.{any-all}
 use Rattle.lists.specs.Distinct.{Mem}
 use Rattle.lists.specs.Members.{append-mem, member-append, append-right, keep-mem, mem-keep, member-mem, not-member}
@@ -24,7 +24,7 @@ use Rattle.rules.specs.Ranges.{others}
 use Rattle.rules.specs.Shape.{Shape, cell}
 use Rattle.rules.specs.State.{State, cmd, read, write, Place, nowhere, stored, Request}
 use Rattle.reachable.specs.Blocks.{not-nowhere}
-use Rattle.reachable.specs.Consequences.{block-lt, finished-read, finished-quiet}
+use Rattle.reachable.specs.Consequences.{block-lt, finished-read, finished-aside}
 use Rattle.reachable.specs.Invariant.{Reached}
 use Rattle.reachable.specs.Kept.Collect.{other-block, place-other, partition-other}
 use Rattle.reachable.specs.Live.{Target}
@@ -47,12 +47,16 @@ module _ (s : State) (f : Reached s) (last has : Slots) (array : ℕ → List �
   unfolding Blocks.contents Blocks.isNowhere
   collected-has = go (s .place b) refl (Search.member b (s .waiting)) refl
     where
+      same : (ℓ m i j : ℕ) → ℓ ≡ m → i ≡ j → stored ℓ i ≡ stored m j
+      same ℓ m i j v w = rw (v, w)
+
       go : (x : Place) → s .place b ≡ x → (t : Bool) → Search.member b (s .waiting) ≡ t → (if Blocks.isNowhere x && not t then Blocks.zeros s else s .bytes b) ≡ array b
       go nowhere e true m = k .waiting b hb (member-mem b (s .waiting) m)
       go nowhere e false m = k .absent b hb e (not-member b (s .waiting) m)
       go (stored ℓ i) e t m = k .known b ℓ i hb e (λ z. omega (arith, z, finished-read s f r ℓ i inHand done e))
-          (λ z. let x = any-all (isCommand (cmd read (s .partition b) ℓ i)) (finished-quiet s f r done) z in
-          eqb-false (x .0 .partition) (s .partition b) (x .1 .1) (sym (command-is (cmd read (s .partition b) ℓ i) (x .0) (x .1 .0) .1 .0)))
+          (λ z. let x = any-all (isCommand (cmd read (s .partition b) ℓ i)) (finished-aside s f r inHand done) z in
+          let w = command-is (cmd read (s .partition b) ℓ i) (x .0) (x .1 .0) .1 in
+          x .1 .1 (sym (w .0)) .1 (e ∙ same ℓ (x .0 .level) i (x .0 .slot) (w .1) (w .2)))
 
   abbrev asked : Asked
   asked = record { kind = r .kind; block = r .block; bytes = r .bytes }

@@ -23,7 +23,8 @@ use Rattle.rules.specs.State.{State, Command, cmd, read, write, stored}
 use Rattle.reachable.specs.Blocks.{not-nowhere, place-lt}
 use Rattle.reachable.specs.Consequences.{holder-place, place-holder, reading-away}
 use Rattle.reachable.specs.Invariant.{Reached, Reading}
-use Rattle.reachable.specs.Live.{Target, isFront, front-eq}
+use Rattle.rules.specs.Request.{isFront}
+use Rattle.reachable.specs.Live.{Target, front-eq}
 use Rattle.reachable.specs.Outstanding.{command-is, same-command, decOne}
 use Rattle.reachable.specs.Terms.{One}
 use Rattle.array.specs.Claim.{Slots}

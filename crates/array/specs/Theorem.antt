@@ -2,10 +2,11 @@
 use mathlib.Core.Path.{_≡_, refl, ap, sym, _∙_}
 use mathlib.Core.Bool.{Bool, true, false, true≢false}
 use mathlib.Core.List.{List, [], _∷_}
-use mathlib.Core.Option.{Option, none, some}
-use Prim.Native.Nat.{ℕ}
+use mathlib.Core.Option.{Option, none, some, Option·map}
+use Prim.Native.Nat.{ℕ, suc}
 use native.Mathlib.Omega.{arith}
 use lib.Dec.{eqb, leb}
+use lib.ListN.{length}
 use borrow.Author.Tests.{eqb-true, eqb-false, eq-eqb, ne-eqb, leb-true}
 use Rattle.lists.specs.Search
 use Rattle.lists.specs.Tests
@@ -101,7 +102,7 @@ step-asked s idle js = refl
 step-asked s noDummy js = refl
 step-asked s (readForRequest q ℓ i) js = go (s .request)
   where
-    go : (o : Option Request) → askedOf (Request.passLevel ℓ o) ≡ askedOf o
+    go : (o : Option Request) → askedOf (Request.passLevel ℓ (suc (length (s .outstanding))) o) ≡ askedOf o
     go none = unfold askedOf Request.passLevel in refl
     go (some r) = unfold askedOf Request.passLevel in refl
 step-asked s (readForJob q ℓ i) js = refl
@@ -110,20 +111,24 @@ step-asked s (writeNext q t i) js = refl
 
 release-asked : (s : State) → askedOf (Request.release s .request) ≡ askedOf (s .request)
 unfolding askedOf
-release-asked s = released-same askedOf (λ r x. refl) s (s .request)
+release-asked s = released-same askedOf (λ r x n. refl) s (s .request)
 
-complete-asked : (s : State) (c : Command) (bs : List ℕ) → complete c bs s .request ≡ s .request
+complete-asked : (s : State) (c : Command) (bs : List ℕ) → askedOf (complete c bs s .request) ≡ askedOf (s .request)
 unfolding complete Completion.completeRead Completion.completeWrite Completion.completed Completion.gatherBytes Completion.finishJob Completion.endJob
-complete-asked s c bs = go (eqb (c .kind) 1) (Blocks.holder s (c .partition) (c .level) (c .slot)) (s .queue)
+complete-asked s c bs = go (eqb (c .kind) 1) (Blocks.holder s (c .partition) (c .level) (c .slot)) (s .queue) ∙ less (s .request)
   where
     s′ : State
     s′ = Completion.completed c s
 
-    ended : (q : ℕ) (qs : List ℕ) (t : Bool) → (if t then Completion.endJob q qs s′ else s′) .request ≡ s .request
+    less : (o : Option Request) → askedOf (Option·map (Completion.awaitsLess c (s .outstanding)) o) ≡ askedOf o
+    less none = unfold askedOf in refl
+    less (some r) = unfold askedOf in refl
+
+    ended : (q : ℕ) (qs : List ℕ) (t : Bool) → askedOf ((if t then Completion.endJob q qs s′ else s′) .request) ≡ askedOf (s′ .request)
     ended q qs true = refl
     ended q qs false = refl
 
-    go : (t : Bool) (b : Option ℕ) (qs : List ℕ) → (if t then Completion.gatherBytes b bs s′ else Completion.finishJob qs s′) .request ≡ s .request
+    go : (t : Bool) (b : Option ℕ) (qs : List ℕ) → askedOf ((if t then Completion.gatherBytes b bs s′ else Completion.finishJob qs s′) .request) ≡ askedOf (s′ .request)
     go true none qs = refl
     go true (some b) qs = refl
     go false b [] = refl
@@ -201,7 +206,7 @@ module _ (s : State) (host : Host) (m : Expected) (memory : ℕ) (ws : List ℕ)
         tt,
         record {
           reached = performed-kept s (completion c bs) memory ws n (kept-was s host m l) p;
-          asked = ap askedOf (complete-asked s c bs) ∙ t .asked;
+          asked = complete-asked s c bs ∙ t .asked;
           contents = complete-contents s (host .last) (host .has) (m .array) (t .reached) (t .contents) c bs (and-r (Questions.ready s memory) (isKind (c .kind)) (p .0)) (p .1 .0) w;
         },
       )

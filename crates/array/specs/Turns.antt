@@ -31,7 +31,8 @@ use Rattle.reachable.specs.Decided.{Writes}
 use Rattle.reachable.specs.Invariant.{Reached}
 use Rattle.reachable.specs.Kept.Rebuild.Drawing.{Drawing, partition-in, place-in, place-out, above-target, leave-mem}
 use Rattle.reachable.specs.Kept.Rebuild.Marks.{mark-here, mark-else}
-use Rattle.reachable.specs.Live.{Target, front-eq, isFront, front-is}
+use Rattle.rules.specs.Request.{isFront}
+use Rattle.reachable.specs.Live.{Target, front-eq, front-is}
 use Rattle.reachable.specs.Outstanding.{command-is, is-command, decOne}
 use Rattle.reachable.specs.Slots.{gathered-why, front-in, why-gathered}
 use Rattle.reachable.specs.Terms.{One}

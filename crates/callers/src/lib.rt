@@ -66,7 +66,7 @@ pub fn collect(state: &mut [u8], memory: &mut [u8], buffer: &mut [u8]) -> u64
 pub fn accepted_run()
     ensures { λ _. ⌜ Accepted ⌝ }
 {
-    let mut state = [0u8; 68];
+    let mut state = [0u8; 76];
     let mut memory = [0u8; 416];
     let tape = [0u8; 4];
     let contents = [7u8; 1];

@@ -1,8 +1,8 @@
--- Demands 2 and 3 for exported calls, as a host program makes them: an open, then any calls. Each is handed the 68 bytes of state and the memory
+-- Demands 2 and 3 for exported calls, as a host program makes them: an open, then any calls. Each is handed the 76 bytes of state and the memory
 -- that the last one left, or a part of that memory from its start. All that is known of a call is its contract.
 -- To believe the claims, read this file, `Exported` and `Opened` of crate `exports`, `foundAs` of crate `client`, the claims of crates `array` and
--- `hiding`, and of crate `rules` the runs of Run.antt and Before.antt and `firstFound` of Laws/Found.antt. They are proved in Theorem.antt, one of them in
--- Found.antt, the last in Words.antt.
+-- `hiding`, and of crate `rules` the runs of Run.antt and Silent.antt and `firstFound` of Laws/Found.antt. They are proved in Theorem.antt, one
+-- each in Found.antt and Tapes.antt, the last in Words.antt.
 use mathlib.Core.Path.{_≡_}
 use mathlib.Core.Logic.{_⊎_}
 use mathlib.Core.Bool.{false, _&&_}
@@ -12,7 +12,7 @@ use lib.ListN.{length}
 use lib.Dec.{eqb}
 use Rattle.lists.specs.All.{All}
 use Rattle.lists.specs.Tests.{if_then_else_}
-use Rattle.rules.specs.Before.{untold, before}
+use Rattle.rules.specs.Silent.{untold, runUnseen}
 use Rattle.rules.specs.Shape.{Shape}
 use Rattle.rules.specs.State.{closed, write}
 use Rattle.rules.specs.Questions.{Ask, opening, request, turn, completion, collect, Call}
@@ -113,13 +113,14 @@ outcomeOf x =
 abbrev pub RulesClaim : Type 0
 RulesClaim = (xs : List Made) → FromOpen xs → map outcomeOf xs ≡ run closed (map callMade xs)
 
--- Document 02, P2: "Nothing the host is sent may change by it": but for where blocks were found, a run's outcomes are those of document 01's rules
-abbrev pub BeforeClaim : Type 0
-BeforeClaim = (xs : List Made) → FromOpen xs → map untold (map outcomeOf xs) ≡ before closed (map callMade xs)
+-- Document 02, P2: "Nothing the host is sent may change by it": but for where blocks were found, a run's outcomes are those of calls that look no
+-- block's place up to tell it
+abbrev pub UnseenClaim : Type 0
+UnseenClaim = (xs : List Made) → FromOpen xs → map untold (map outcomeOf xs) ≡ runUnseen closed (map callMade xs)
 
 -- Document 02, P2: "as found when the request ceased to be held (at acceptance if it never was)". In a run x is an accepted request for block b and y the
 -- accepted collect of it: no call between them opens a store, or is an accepted collect. What y tells is where b was in the first state, from the one that
--- x left on, in which no job for its partition was queued or running
+-- x left on, in which no job held requests for its partition
 abbrev pub FoundClaim : Type 0
 FoundClaim = (xs ys : List Made) (x y : Made) (k b : ℕ) (bs : List ℕ) → FromOpen (xs ++ (x ∷ (ys ++ (y ∷ []))))
     → x .ask ≡ request k b bs → outcomeOf x .number ≡ 0

@@ -4,7 +4,8 @@ use mathlib.Core.List.{List, [], _∷_, _++_, map}
 use Prim.Native.Nat.{ℕ}
 use lib.ListN.{length, length-map}
 use Rattle.lists.specs.All.{nil, cons}
-use Rattle.rules.specs.Before.{untold}
+use Rattle.rules.specs.Silent.{untold}
+use Rattle.rules.specs.Laws.Silent.{opened-unseen}
 use Rattle.rules.specs.Questions.{request, number}
 use Rattle.rules.specs.Run.{Outcome, run}
 use Rattle.rules.specs.Shape.{Shape}
@@ -15,7 +16,6 @@ use Rattle.contract.specs.Meets.{callOf}
 use Rattle.codec.specs.Codec.{stateLength}
 use Rattle.exports.specs.Exported.{clientIn, lookedAt}
 use Rattle.rules.specs.Laws.Answers.{open-first, step-number}
-use Rattle.reachable.specs.Theorems.{as-before}
 use Rattle.array.specs.Claim.{Honest, Plain}
 use Rattle.array.specs.Hosts.{at-once}
 use Rattle.array.specs.Served.{served, served-at-once}
@@ -24,7 +24,7 @@ use Rattle.hiding.specs.Claim.{Lent, first, Lends, Short, tapeOf, Gives, told}
 use Rattle.hiding.specs.Chosen.{Choice, opened, Chosen, Plays, chosen-hidden}
 use Rattle.hiding.specs.Names.{only-eight}
 use Rattle.hiding.specs.Theorem.{hidden}
-use Rattle.claims.specs.Claim.{Made, Contract, Called, Runs, Opens, FromOpen, callMade, outcomeOf, usedUp, Chooses, RulesClaim, BeforeClaim, ArrayClaim, ServedClaim, HidingClaim, HonestClaim, ChosenExported, CacheClaim, CacheBytesClaim, NamesClaim}
+use Rattle.claims.specs.Claim.{Made, Contract, Called, Runs, Opens, FromOpen, callMade, outcomeOf, usedUp, Chooses, RulesClaim, UnseenClaim, ArrayClaim, ServedClaim, HidingClaim, HonestClaim, ChosenExported, CacheClaim, CacheBytesClaim, NamesClaim}
 use Rattle.claims.specs.Steps.{made-step}
 
 -- from any bytes of state and memory: each call finds the state that the last one left
@@ -45,9 +45,9 @@ from-closed s (x ∷ xs) o = ap (λ (y : State × Outcome). y .1 ∷ run (y .0) 
 pub exported-run : RulesClaim
 exported-run xs r = runs-are (r .state) (r .memory) xs (r .runs) ∙ from-closed (stateOf (clientIn (r .state)) (r .memory)) xs (r .opens)
 
-pub exported-before : BeforeClaim
-exported-before [] r = absurd (r .opens)
-exported-before (x ∷ xs) r = ap (map untold) (exported-run (x ∷ xs) r) ∙ as-before closed (callMade x) (r .opens .0) (r .opens .1) (map callMade xs)
+pub exported-unseen : UnseenClaim
+exported-unseen [] r = absurd (r .opens)
+exported-unseen (x ∷ xs) r = ap (map untold) (exported-run (x ∷ xs) r) ∙ opened-unseen closed (callMade x) (r .opens .0) (r .opens .1) (map callMade xs)
 
 -- Demand 2
 pub exported-array : ArrayClaim

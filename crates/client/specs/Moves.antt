@@ -11,35 +11,42 @@ use Rattle.client.specs.declared.Client.{Client}
 use Rattle.client.specs.declared.Request.{Request}
 use Rattle.client.specs.View.{view, stateOf}
 
--- the same request, to go on from level n
-abbrev pub atLevel : ℕ → Request → Request
-atLevel n r = record { kind = r .kind; block = r .block; next = r .next; evict = r .evict; level = n; found = r .found }
+-- the same request, to go on from level n; with k commands that it awaits
+abbrev pub atLevel : ℕ → ℕ → Request → Request
+atLevel n k r = record { kind = r .kind; block = r .block; next = r .next; evict = r .evict; level = n; found = r .found; awaits = k }
 
--- the same request, whose block was found where the number n says
-abbrev pub atFound : ℕ → Request → Request
-atFound n r = record { kind = r .kind; block = r .block; next = r .next; evict = r .evict; level = r .level; found = n }
+-- the same request, whose block was found where the number n says; with k commands that it awaits
+abbrev pub atFound : ℕ → ℕ → Request → Request
+atFound n k r = record { kind = r .kind; block = r .block; next = r .next; evict = r .evict; level = r .level; found = n; awaits = k }
+
+-- the same request, which awaits k commands
+abbrev pub awaiting : ℕ → Request → Request
+awaiting k r = record { kind = r .kind; block = r .block; next = r .next; evict = r .evict; level = r .level; found = r .found; awaits = k }
 
 -- no request in hand
 abbrev pub noRequest : Request
-noRequest = record { kind = 0; block = 0; next = 0; evict = 0; level = 0; found = 0 }
+noRequest = record { kind = 0; block = 0; next = 0; evict = 0; level = 0; found = 0; awaits = 0 }
 
 abbrev pub withRequest : Request → Client → Client
-withRequest x c = record { shape = c .shape; request = x; jobs = c .jobs; cursor = c .cursor; sent = c .sent; waiting = c .waiting; out = c .out }
+withRequest x c = record { shape = c .shape; request = x; jobs = c .jobs; begun = c .begun; cursor = c .cursor; sent = c .sent; waiting = c .waiting; out = c .out }
 
 abbrev pub withJobs : ℕ → Client → Client
-withJobs x c = record { shape = c .shape; request = c .request; jobs = x; cursor = c .cursor; sent = c .sent; waiting = c .waiting; out = c .out }
+withJobs x c = record { shape = c .shape; request = c .request; jobs = x; begun = c .begun; cursor = c .cursor; sent = c .sent; waiting = c .waiting; out = c .out }
+
+abbrev pub withBegun : ℕ → Client → Client
+withBegun x c = record { shape = c .shape; request = c .request; jobs = c .jobs; begun = x; cursor = c .cursor; sent = c .sent; waiting = c .waiting; out = c .out }
 
 abbrev pub withCursor : ℕ → Client → Client
-withCursor x c = record { shape = c .shape; request = c .request; jobs = c .jobs; cursor = x; sent = c .sent; waiting = c .waiting; out = c .out }
+withCursor x c = record { shape = c .shape; request = c .request; jobs = c .jobs; begun = c .begun; cursor = x; sent = c .sent; waiting = c .waiting; out = c .out }
 
 abbrev pub withSent : ℕ → Client → Client
-withSent x c = record { shape = c .shape; request = c .request; jobs = c .jobs; cursor = c .cursor; sent = x; waiting = c .waiting; out = c .out }
+withSent x c = record { shape = c .shape; request = c .request; jobs = c .jobs; begun = c .begun; cursor = c .cursor; sent = x; waiting = c .waiting; out = c .out }
 
 abbrev pub withWaiting : ℕ → Client → Client
-withWaiting x c = record { shape = c .shape; request = c .request; jobs = c .jobs; cursor = c .cursor; sent = c .sent; waiting = x; out = c .out }
+withWaiting x c = record { shape = c .shape; request = c .request; jobs = c .jobs; begun = c .begun; cursor = c .cursor; sent = c .sent; waiting = x; out = c .out }
 
 abbrev pub withOut : ℕ → Client → Client
-withOut x c = record { shape = c .shape; request = c .request; jobs = c .jobs; cursor = c .cursor; sent = c .sent; waiting = c .waiting; out = x }
+withOut x c = record { shape = c .shape; request = c .request; jobs = c .jobs; begun = c .begun; cursor = c .cursor; sent = c .sent; waiting = c .waiting; out = x }
 
 -- the memory m is long enough for the client's shape, whose numbers are within bounds
 abbrev pub Room : Client → List ℕ → Type 0

@@ -43,7 +43,7 @@ number-by (suc n) = ap suc (number-as n)
 pub same-found : (n k : ℕ) → foundBy n ≡ foundBy k → n ≡ k
 same-found n k e = sym (number-by n) ∙ ap numberBy e ∙ number-by k
 
--- how many jobs are queued, and blocks wait
+-- how many jobs are queued, blocks wait and commands are outstanding
 module _ (c : Client) (t : Tables) where
   pub jobs-are : length (view c t .queue) ≡ c .jobs
   unfolding view
@@ -53,6 +53,10 @@ module _ (c : Client) (t : Tables) where
   unfolding view
   waiting-are = length-rows _ (c .waiting)
 
+  pub out-are : length (view c t .outstanding) ≡ c .out
+  unfolding view
+  out-are = length-rows _ (c .out)
+
 module _ (c : Client) (m : List ℕ) where
   pub jobs-count : length (stateOf c m .queue) ≡ c .jobs
   unfolding stateOf
@@ -61,6 +65,10 @@ module _ (c : Client) (m : List ℕ) where
   pub waiting-count : length (stateOf c m .waiting) ≡ c .waiting
   unfolding stateOf
   waiting-count = waiting-are c (tablesOf (shapeOf (c .shape)) m)
+
+  pub out-count : length (stateOf c m .outstanding) ≡ c .out
+  unfolding stateOf
+  out-count = out-are c (tablesOf (shapeOf (c .shape)) m)
 
   -- the request in hand
   abbrev pub handOf : R.Request

@@ -26,21 +26,22 @@ use Rattle.memory.specs.Fits.{shapeOf, fit, fit-lt}
 use Rattle.client.specs.declared.Client.{Client}
 use Rattle.client.specs.declared.Request.{Request}
 use Rattle.client.specs.View.{levelOf, placeOf, spotOf, commandBy, foundAs, foundBy, handBy, requestOf, rows, view, writeFrom}
-use Rattle.client.specs.Rows.{length-rows}
-use Rattle.client.specs.Readings.{jobs-are, waiting-are}
+use Rattle.client.specs.Readings.{jobs-are, waiting-are, out-are}
 use Rattle.client.specs.Changes.{cell-level}
 
 -- the numbers of a request in hand
 unfoldable pub requestFits : Shape → Request → Bool
 requestFits h r =
-    (((((leb 1 (r .kind) && leb (r .kind) 2) && ltb (r .block) (h .N)) && ltb (r .next) (h .P)) && ltb (r .evict) (h .P)) && leb (r .level) (h .L)) && ltb (r .found) (h .L + 3)
+    ((((((leb 1 (r .kind) && leb (r .kind) 2) && ltb (r .block) (h .N)) && ltb (r .next) (h .P)) && ltb (r .evict) (h .P)) && leb (r .level) (h .L)) && ltb (r .found) (h .L + 3))
+    && leb (r .awaits) (h .W)
 
 -- with a request in hand at most 62 jobs, and fewer than E blocks besides its own; `waits`: its own is among them
 unfoldable pub handFits : Client → Bool → Bool
 handFits c waits = if eqb (c .request .kind) 0 then leb (c .jobs) 64 else ((requestFits (shapeOf (c .shape)) (c .request) && leb (c .jobs) 62) && (ltb (c .waiting) (c .shape .e) || waits))
 
 unfoldable pub countsFit : Client → Bool
-countsFit c = ((leb (c .cursor) (slots (c .shape .l) - 2) && leb (c .sent) (2 ^ c .shape .l)) && leb (c .out) (c .shape .w)) && leb (c .waiting) (c .shape .e)
+countsFit c =
+    (((leb (c .begun) 1 && leb (c .cursor) (slots (c .shape .l) - 2)) && leb (c .sent) (2 ^ c .shape .l)) && leb (c .out) (c .shape .w)) && leb (c .waiting) (c .shape .e)
 
 -- the request's block is among those that wait
 unfoldable pub ownWaits : Client → Tables → Bool
@@ -116,6 +117,7 @@ rows-all P g n h = go (below n)
 -- ---- The client's numbers, as facts
 
 pub record Counts (c : Client) : Type 0 where
+  pub begun : c .begun ≤ 1
   pub cursor : c .cursor ≤ slots (c .shape .l) - 2
   pub sent : c .sent ≤ 2 ^ c .shape .l
   pub out : c .out ≤ c .shape .w
@@ -124,18 +126,23 @@ pub record Counts (c : Client) : Type 0 where
 pub counts-facts : (c : Client) → countsFit c ≡ true → Counts c
 unfolding countsFit
 counts-facts c e =
+    let j = leb (c .begun) 1 in
+    let k = leb (c .cursor) (slots (c .shape .l) - 2) in
     let a = and-l _ (leb (c .waiting) (c .shape .e)) e in
     let b = and-l _ (leb (c .out) (c .shape .w)) a in
+    let d = and-l (j && k) (leb (c .sent) (2 ^ c .shape .l)) b in
     record {
-      cursor = leb-true _ _ (and-l (leb (c .cursor) (slots (c .shape .l) - 2)) (leb (c .sent) (2 ^ c .shape .l)) b);
-      sent = leb-true _ _ (and-r (leb (c .cursor) (slots (c .shape .l) - 2)) (leb (c .sent) (2 ^ c .shape .l)) b);
-      out = leb-true _ _ (and-r (leb (c .cursor) (slots (c .shape .l) - 2) && leb (c .sent) (2 ^ c .shape .l)) (leb (c .out) (c .shape .w)) a);
-      waiting = leb-true _ _ (and-r ((leb (c .cursor) (slots (c .shape .l) - 2) && leb (c .sent) (2 ^ c .shape .l)) && leb (c .out) (c .shape .w)) (leb (c .waiting) (c .shape .e)) e);
+      begun = leb-true _ _ (and-l j k d);
+      cursor = leb-true _ _ (and-r j k d);
+      sent = leb-true _ _ (and-r (j && k) (leb (c .sent) (2 ^ c .shape .l)) b);
+      out = leb-true _ _ (and-r ((j && k) && leb (c .sent) (2 ^ c .shape .l)) (leb (c .out) (c .shape .w)) a);
+      waiting = leb-true _ _ (and-r (((j && k) && leb (c .sent) (2 ^ c .shape .l)) && leb (c .out) (c .shape .w)) (leb (c .waiting) (c .shape .e)) e);
     }
 
 facts-counts : (c : Client) → Counts c → countsFit c ≡ true
 unfolding countsFit
-facts-counts c f = and-true (and-true (and-true (le-leb _ _ (f .cursor)) (le-leb _ _ (f .sent))) (le-leb _ _ (f .out))) (le-leb _ _ (f .waiting))
+facts-counts c f =
+    and-true (and-true (and-true (and-true (le-leb _ _ (f .begun)) (le-leb _ _ (f .cursor))) (le-leb _ _ (f .sent))) (le-leb _ _ (f .out))) (le-leb _ _ (f .waiting))
 
 pub record Asked (h : Shape) (r : Request) : Type 0 where
   pub some : 1 ≤ r .kind
@@ -145,12 +152,15 @@ pub record Asked (h : Shape) (r : Request) : Type 0 where
   pub evict : r .evict < h .P
   pub level : r .level ≤ h .L
   pub found : r .found < h .L + 3
+  pub awaits : r .awaits ≤ h .W
 
 pub asked-facts : (h : Shape) (r : Request) → requestFits h r ≡ true → Asked h r
 unfolding requestFits
 asked-facts h r e =
     let k = leb 1 (r .kind) && leb (r .kind) 2 in
-    let g = and-l ((((k && ltb (r .block) (h .N)) && ltb (r .next) (h .P)) && ltb (r .evict) (h .P)) && leb (r .level) (h .L)) (ltb (r .found) (h .L + 3)) e in
+    let x = (((k && ltb (r .block) (h .N)) && ltb (r .next) (h .P)) && ltb (r .evict) (h .P)) && leb (r .level) (h .L) in
+    let y = and-l (x && ltb (r .found) (h .L + 3)) (leb (r .awaits) (h .W)) e in
+    let g = and-l x (ltb (r .found) (h .L + 3)) y in
     let a = and-l (((k && ltb (r .block) (h .N)) && ltb (r .next) (h .P)) && ltb (r .evict) (h .P)) (leb (r .level) (h .L)) g in
     let b = and-l ((k && ltb (r .block) (h .N)) && ltb (r .next) (h .P)) (ltb (r .evict) (h .P)) a in
     let d = and-l (k && ltb (r .block) (h .N)) (ltb (r .next) (h .P)) b in
@@ -162,14 +172,16 @@ asked-facts h r e =
       next = ltb-true _ _ (and-r (k && ltb (r .block) (h .N)) (ltb (r .next) (h .P)) b);
       evict = ltb-true _ _ (and-r ((k && ltb (r .block) (h .N)) && ltb (r .next) (h .P)) (ltb (r .evict) (h .P)) a);
       level = leb-true _ _ (and-r (((k && ltb (r .block) (h .N)) && ltb (r .next) (h .P)) && ltb (r .evict) (h .P)) (leb (r .level) (h .L)) g);
-      found = ltb-true _ _ (and-r ((((k && ltb (r .block) (h .N)) && ltb (r .next) (h .P)) && ltb (r .evict) (h .P)) && leb (r .level) (h .L)) (ltb (r .found) (h .L + 3)) e);
+      found = ltb-true _ _ (and-r x (ltb (r .found) (h .L + 3)) y);
+      awaits = leb-true _ _ (and-r (x && ltb (r .found) (h .L + 3)) (leb (r .awaits) (h .W)) e);
     }
 
 facts-asked : (h : Shape) (r : Request) → Asked h r → requestFits h r ≡ true
 unfolding requestFits
 facts-asked h r f =
-    and-true (and-true (and-true (and-true (and-true (and-true (le-leb _ _ (f .some)) (le-leb _ _ (f .kind))) (lt-ltb _ _ (f .block))) (lt-ltb _ _ (f .next))) (lt-ltb _ _ (f .evict)))
-    (le-leb _ _ (f .level))) (lt-ltb _ _ (f .found))
+    let kinds = and-true (le-leb _ _ (f .some)) (le-leb _ _ (f .kind)) in
+    let drawn = and-true (and-true (and-true kinds (lt-ltb _ _ (f .block))) (lt-ltb _ _ (f .next))) (lt-ltb _ _ (f .evict)) in
+    and-true (and-true (and-true drawn (le-leb _ _ (f .level))) (lt-ltb _ _ (f .found))) (le-leb _ _ (f .awaits))
 
 -- a number says where a block was found exactly if it is below L + 3
 found-range : (top n : ℕ) → n < top + 3 → FoundIn top (foundBy n)
@@ -231,6 +243,7 @@ module _ (c : Client) (t : Tables) (w : within (shapeOf (c .shape)) ≡ true) (f
               evict = a .evict;
               level = a .level;
               found = found-range (h .L) (c .request .found) (a .found);
+              awaits = a .awaits;
             },
             omega (arith, jobs-are c t, j),
             (omega (arith, waiting-are c t), others-room (h .E) (c .request .block) (view c t .waiting) (omega (arith, waiting-are c t)) (room-is y)),
@@ -256,6 +269,7 @@ module _ (c : Client) (t : Tables) (w : within (shapeOf (c .shape)) ≡ true) (f
             evict = f .0 .evict;
             level = f .0 .level;
             found = range-found (h .L) (c .request .found) (f .0 .found);
+            awaits = f .0 .awaits;
           } in
           and-true (and-true (facts-asked h (c .request) a) (le-leb (c .jobs) 62 (omega (arith, jobs-are c t, f .1)))) (room-is (room-others (h .E) (c .request .block) (view c t .waiting) (f .2 .1)))
         where
@@ -275,17 +289,15 @@ module _ (c : Client) (t : Tables) (w : within (shapeOf (c .shape)) ≡ true) (f
     waiting = rows-all (λ b. b < h .N) _ (c .waiting) (λ i. fit-lt (h .N) (t .waiting i) blocks-pos);
     queue = rows-all (λ q. q < h .P) _ (c .jobs) (λ i. fit-lt (h .P) (t .queue i) (partitions-pos h w));
     outstanding = rows-all (CommandIn h) _ (c .out) (λ i. command-range h (t .kinds i) (t .spots i) (levels-pos h w) (partitions-pos h w));
+    begun = f .begun;
     cursor = f .cursor;
     sent = f .sent;
-    free = omega (arith, out-is, f .out);
+    free = omega (arith, out-are c t, f .out);
     request = g .0;
     jobs = g .1;
     cache = g .2;
   }
     where
-      out-is : length (view c t .outstanding) ≡ c .out
-      out-is = length-rows _ (c .out)
-
       blocks-pos : 0 < h .N
       blocks-pos = unfold within between in (leb-true 1 (h .N) (and-l (leb 1 (h .N)) (leb (h .N) 4096) (every-yes _ w .0)))
 
@@ -297,7 +309,7 @@ module _ (c : Client) (t : Tables) (w : within (shapeOf (c .shape)) ≡ true) (f
       there : inRange (view c t) ≡ true → (countsFit c && handFits c waits) ≡ true
       there e =
           let r = range-facts (view c t) e in
-          let f : Counts c = unfold view in (record { cursor = r .cursor; sent = r .sent; out = omega (arith, r .free, length-rows (λ i. commandBy h (t .kinds i) (t .spots i)) (c .out)); waiting = omega (arith, waiting-are c t, waits-le (h .E) (view c t .waiting) (view c t .request) (r .cache)) }) in
+          let f : Counts c = unfold view in (record { begun = r .begun; cursor = r .cursor; sent = r .sent; out = omega (arith, r .free, out-are c t); waiting = omega (arith, waiting-are c t, waits-le (h .E) (view c t .waiting) (view c t .request) (r .cache)) }) in
           and-true (facts-counts c f) (back (r .request, r .jobs, r .cache))
 
       here : (countsFit c && handFits c waits) ≡ true → inRange (view c t) ≡ true

@@ -5,10 +5,12 @@ use mathlib.Core.List.{List, [], _∷_, _++_, map, append-nil, map-append}
 use mathlib.Core.Option.{none, some}
 use Prim.Native.Nat.{ℕ, zero, suc, _+_, _-_, _≤_, _<_}
 use native.Mathlib.Omega.{arith}
-use native.Mathlib.Decide.{ℕ-discrete}
-use lib.ListN.{length, getD, length-map}
-use Rattle.lists.specs.Tests.{or-left, or-right}
-use Rattle.lists.specs.Search.{find, any, keep, without, below, count, find-yes, find-no, without-yes, without-no, keep-yes, keep-no}
+use native.Mathlib.Decide.{ℕ-discrete, decLt}
+use lib.ListN.{length, getD, take, drop, length-map}
+use lib.Dec.{ltb}
+use borrow.Author.Tests.{lt-ltb, le-ltb}
+use Rattle.lists.specs.Tests.{if_then_else_, or-left, or-right}
+use Rattle.lists.specs.Search.{find, any, keep, without, firstLeft, below, count, find-yes, find-no, without-yes, without-no, firstLeft-yes, firstLeft-no, keep-yes, keep-no}
 use Rattle.lists.specs.Lengths.{length-below, below-last}
 use Rattle.lists.specs.Tables.{put, put-same, put-other}
 use Rattle.client.specs.View.{rows}
@@ -51,6 +53,21 @@ module _ {A : Type 0} where
   unfolding rows below count
   rows-cons g n = ap (λ r. g 0 ∷ r) (map-shift g 0 n)
 
+  -- the first k entries, and those behind them
+  pub rows-take : (g : ℕ → A) (n k : ℕ) → k ≤ n → take k (rows g n) ≡ rows g k
+  unfolding rows below count
+  rows-take g n zero l = refl
+  rows-take g zero (suc k) l = absurd (omega arith)
+  rows-take g (suc n) (suc k) l = ap (take (suc k)) (rows-cons g n) ∙ ap (λ r. g 0 ∷ r) (rows-take (λ i. g (suc i)) n k (omega arith)) ∙ sym (rows-cons g k)
+
+  pub rows-drop : (g : ℕ → A) (n k : ℕ) → k ≤ n → drop k (rows g n) ≡ rows (λ i. g (k + i)) (n - k)
+  rows-drop g n zero l = let e : n - 0 ≡ n = omega arith in rw e (rows-same g (λ i. g (0 + i)) n (λ i u. let z : i ≡ 0 + i = omega arith in ap g z))
+  rows-drop g zero (suc k) l = absurd (omega arith)
+  rows-drop g (suc n) (suc k) l =
+      let e : suc n - suc k ≡ n - k = omega arith in
+      ap (drop (suc k)) (rows-cons g n) ∙ rows-drop (λ i. g (suc i)) n k (omega arith)
+      ∙ rw e (rows-same (λ i. g (suc (k + i))) (λ i. g (suc k + i)) (n - k) (λ i u. let z : suc (k + i) ≡ suc k + i = omega arith in ap g z))
+
 -- without the element at place j
 module _ {A : Type 0} where
   abbrev pub dropAt : ℕ → List A → List A
@@ -89,6 +106,20 @@ module _ {A : Type 0} (p : A → Bool) where
   any-miss g zero h = ap (any p) (rows-none g)
   any-miss g (suc n) h = ap (any p) (rows-cons g n) ∙ rw (h 0 (omega arith)) (any-miss (λ i. g (suc i)) n (λ i l. h (suc i) (omega arith)))
 
+  -- of the first k entries; of those from k on
+  module _ (g : ℕ → A) (n k : ℕ) (l : k ≤ n) where
+    pub hit-in : (j : ℕ) → j < k → p (g j) ≡ true → any p (take k (rows g n)) ≡ true
+    hit-in j h e = ap (any p) (rows-take g n k l) ∙ any-hit g k j h e
+
+    pub miss-in : ((i : ℕ) → i < k → p (g i) ≡ false) → any p (take k (rows g n)) ≡ false
+    miss-in h = ap (any p) (rows-take g n k l) ∙ any-miss g k h
+
+    pub hit-from : (j : ℕ) → k ≤ j → j < n → p (g j) ≡ true → any p (drop k (rows g n)) ≡ true
+    hit-from j a b e = ap (any p) (rows-drop g n k l) ∙ any-hit (λ i. g (k + i)) (n - k) (j - k) (omega arith) (let z : k + (j - k) ≡ j = omega arith in ap (λ x. p (g x)) z ∙ e)
+
+    pub miss-from : ((i : ℕ) → k ≤ i → i < n → p (g i) ≡ false) → any p (drop k (rows g n)) ≡ false
+    miss-from h = ap (any p) (rows-drop g n k l) ∙ any-miss (λ i. g (k + i)) (n - k) (λ i u. h (k + i) (omega arith) (omega arith))
+
   pub find-miss : (g : ℕ → A) (n : ℕ) → ((i : ℕ) → i < n → p (g i) ≡ false) → find p (rows g n) ≡ none
   unfolding find
   find-miss g zero h = ap (find p) (rows-none g)
@@ -104,6 +135,20 @@ module _ {A : Type 0} (p : A → Bool) where
   without-first g zero j l h b = absurd (omega arith)
   without-first g (suc n) zero l h b = rw rows-cons (without-yes p _ _ h)
   without-first g (suc n) (suc j) l h b = rw rows-cons (without-no p _ _ (b 0 (omega arith)) ∙ ap (λ r. g 0 ∷ r) (without-first (λ i. g (suc i)) n j (omega arith) h (λ i l. b (suc i) (omega arith))))
+
+  -- of the first k entries one is gone if entry j was among them
+  pub left-first : (g : ℕ → A) (n j k : ℕ) → j < n → p (g j) ≡ true → ((i : ℕ) → i < j → p (g i) ≡ false) → firstLeft p k (rows g n) ≡ (if ltb j k then k - 1 else k)
+  unfolding firstLeft
+  left-first g n j zero l h b = rw (le-ltb j 0 (omega arith))
+  left-first g zero j (suc k) l h b = absurd (omega arith)
+  left-first g (suc n) zero (suc k) l h b = ap (firstLeft p (suc k)) (rows-cons g n) ∙ firstLeft-yes p (g 0) _ k h ∙ rw (lt-ltb 0 (suc k) (omega arith)) (omega arith)
+  left-first g (suc n) (suc j) (suc k) l h b =
+      ap (firstLeft p (suc k)) (rows-cons g n) ∙ firstLeft-no p (g 0) _ k (b 0 (omega arith))
+      ∙ ap suc (left-first (λ i. g (suc i)) n j k (omega arith) h (λ i l. b (suc i) (omega arith))) ∙ go (decLt j k)
+    where
+      go : Dec (j < k) → suc (if ltb j k then k - 1 else k) ≡ (if ltb (suc j) (suc k) then suc k - 1 else suc k)
+      go (yes u) = rw (lt-ltb j k u, lt-ltb (suc j) (suc k) (omega arith)) (omega arith)
+      go (no u) = rw (le-ltb j k (omega arith), le-ltb (suc j) (suc k) (omega arith)) refl
 
 -- ---- Closing up: of the entries from place j on, those below i are as the ones behind them were
 pub record Shifted {A : Type 0} (g k : ℕ → A) (j i : ℕ) : Type 0 where

@@ -55,8 +55,16 @@ foundBy (suc n) = some (foundAs n)
 
 -- a request in hand, with these contents if it is a write; of kind 0 there is none
 abbrev pub handBy : Request → List ℕ → R.Request
-handBy r bs =
-    record { kind = r .kind; block = r .block; bytes = if eqb (r .kind) write then bs else []; next = r .next; evict = r .evict; level = r .level; found = foundBy (r .found) }
+handBy r bs = record {
+  kind = r .kind;
+  block = r .block;
+  bytes = if eqb (r .kind) write then bs else [];
+  next = r .next;
+  evict = r .evict;
+  level = r .level;
+  found = foundBy (r .found);
+  awaits = r .awaits;
+}
 
 unfoldable pub requestOf : Request → List ℕ → Option R.Request
 requestOf r bs = if eqb (r .kind) 0 then none else some (handBy r bs)
@@ -81,6 +89,7 @@ view c t = let h = shapeOf (c .shape) in record {
   mark = λ x. fit 2 (t .mark x);
   holds = λ x. fit (h .N + 1) (t .holds x);
   queue = rows (λ i. fit (h .P) (t .queue i)) (c .jobs);
+  begun = c .begun;
   cursor = c .cursor;
   sent = c .sent;
   outstanding = rows (λ i. commandBy h (t .kinds i) (t .spots i)) (c .out);

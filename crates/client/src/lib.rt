@@ -2,7 +2,7 @@
 use memory::Shape;
 ghost use mathlib.Core.Path.{_≡_};
 ghost use Rattle.rules.specs.Ranges.{isKind};
-ghost use Rattle.client.specs.Moves.{noRequest, withRequest, withJobs, withCursor, withSent, withWaiting, withOut};
+ghost use Rattle.client.specs.Moves.{noRequest, awaiting as awaitingOf, atLevel, atFound, withRequest, withJobs, withBegun, withCursor, withSent, withWaiting, withOut};
 
 // The kinds of requests and of commands.
 pub const READ: usize = 1;
@@ -10,7 +10,8 @@ pub const READ: usize = 1;
 pub const WRITE: usize = 2;
 
 // A request in hand, of one of these kinds; or none, of kind 0. The contents of a write are block N of the memory. While it is held, `found` is 0;
-// then it is one more than the number by which a collect tells where the block was found.
+// then it is one more than the number by which a collect tells where the block was found. `awaits` is how many of the outstanding commands, which are in
+// the order of sending, were sent before it was released or not after its last own read: those of its partition among them it waits for.
 pub struct Request {
     pub kind: usize,
     pub block: usize,
@@ -18,13 +19,15 @@ pub struct Request {
     pub evict: usize,
     pub level: usize,
     pub found: usize,
+    pub awaits: usize,
 }
 
-// How many jobs are queued, blocks wait and commands are outstanding; how far the front job is.
+// How many jobs are queued, blocks wait and commands are outstanding; whether the front job has begun (1), and how far it is.
 pub struct Client {
     pub shape: Shape,
     pub request: Request,
     pub jobs: usize,
+    pub begun: usize,
     pub cursor: usize,
     pub sent: usize,
     pub waiting: usize,
@@ -56,7 +59,34 @@ impl Request {
             evict: 0,
             level: 0,
             found: 0,
+            awaits: 0,
         }
+    }
+
+    // Awaits so many commands.
+    pub fn awaiting(mut self, n: usize) -> Self
+        ensures { λ r. ⌜ r ≡ awaitingOf n self ⌝ }
+    {
+        self.awaits = n;
+        self
+    }
+
+    // Goes on from this level, and awaits so many commands.
+    pub fn at_level(mut self, l: usize, n: usize) -> Self
+        ensures { λ r. ⌜ r ≡ atLevel l n self ⌝ }
+    {
+        self.level = l;
+        self.awaits = n;
+        self
+    }
+
+    // Its block was found there, and it awaits so many commands.
+    pub fn at_found(mut self, found: usize, n: usize) -> Self
+        ensures { λ r. ⌜ r ≡ atFound found n self ⌝ }
+    {
+        self.found = found;
+        self.awaits = n;
+        self
     }
 }
 
@@ -65,6 +95,13 @@ impl Client {
         ensures { λ r. ⌜ r ≡ withJobs n self ⌝ }
     {
         self.jobs = n;
+        self
+    }
+
+    pub fn with_begun(mut self, n: usize) -> Self
+        ensures { λ r. ⌜ r ≡ withBegun n self ⌝ }
+    {
+        self.begun = n;
         self
     }
 

@@ -17,21 +17,22 @@ use Rattle.client.specs.declared.Request.{Request}
 use Rattle.client.specs.Moves.{atLevel}
 use Rattle.contract.specs.declared.Answer.{Answer}
 
--- The state lies in 68 bytes
+-- The state lies in 76 bytes
 abbrev pub stateLength : ℕ
-stateLength = 68
+stateLength = 76
 
 -- the client that they say. Number k is word 2k: four bytes for each number, of which the first two are used, so that the compiler reads each as it
 -- was stored and not several at once
 abbrev pub clientOf : (ℕ → ℕ) → Client
 clientOf w = record {
   shape = record { n = w 0; p = w 2; l = w 4; b = w 6; e = w 8; w = w 10 };
-  request = record { kind = w 12; block = w 14; next = w 16; evict = w 18; level = w 20; found = w 22 };
-  jobs = w 24;
-  cursor = w 26;
-  sent = w 28;
-  waiting = w 30;
-  out = w 32;
+  request = record { kind = w 12; block = w 14; next = w 16; evict = w 18; level = w 20; found = w 22; awaits = w 24 };
+  jobs = w 26;
+  begun = w 28;
+  cursor = w 30;
+  sent = w 32;
+  waiting = w 34;
+  out = w 36;
 }
 
 -- words with six numbers from number k on
@@ -49,17 +50,21 @@ withAsked r w = put 18 (r .evict % 65536) (put 16 (r .next % 65536) (put 14 (r .
 -- words with the numbers that a turn changes, by the kind of the command that it sends; with those that a completion changes
 abbrev pub withTurn : ℕ → Client → (ℕ → ℕ) → ℕ → ℕ
 withTurn k c w =
-    let v = put 32 (c .out % 65536) w in
-    if eqb k read then put 26 (c .cursor % 65536) (put 20 (c .request .level % 65536) v) else put 30 (c .waiting % 65536) (put 28 (c .sent % 65536) v)
+    let v = put 28 (c .begun % 65536) (put 36 (c .out % 65536) w) in
+    if eqb k read then put 30 (c .cursor % 65536) (put 24 (c .request .awaits % 65536) (put 20 (c .request .level % 65536) v)) else put 34 (c .waiting % 65536) (put 32 (c .sent % 65536) v)
 
 abbrev pub withCompletion : ℕ → Client → (ℕ → ℕ) → ℕ → ℕ
 withCompletion k c w =
-    let v = put 32 (c .out % 65536) w in
-    if eqb k read then v else put 28 (c .sent % 65536) (put 26 (c .cursor % 65536) (put 24 (c .jobs % 65536) v))
+    let v = put 24 (c .request .awaits % 65536) (put 36 (c .out % 65536) w) in
+    if eqb k read then v else put 32 (c .sent % 65536) (put 30 (c .cursor % 65536) (put 28 (c .begun % 65536) (put 26 (c .jobs % 65536) v)))
 
--- words with the numbers that tell how far a client is and where its request's block was found; with all but its shape
+-- words with where the request's block was found, and what it awaits
+abbrev pub withFound : ℕ → ℕ → (ℕ → ℕ) → ℕ → ℕ
+withFound x n w = put 24 (n % 65536) (put 22 (x % 65536) w)
+
+-- words with the numbers that tell how far a client is, with those two; with all but its shape
 abbrev pub withProgress : Client → (ℕ → ℕ) → ℕ → ℕ
-withProgress c w = withSix 11 (c .request .found) (c .jobs) (c .cursor) (c .sent) (c .waiting) (c .out) (put 20 (c .request .level % 65536) w)
+withProgress c w = withSix 13 (c .jobs) (c .begun) (c .cursor) (c .sent) (c .waiting) (c .out) (withFound (c .request .found) (c .request .awaits) (put 20 (c .request .level % 65536) w))
 
 abbrev pub withRest : Client → (ℕ → ℕ) → ℕ → ℕ
 withRest c w = withProgress c (withAsked (c .request) w)
@@ -69,14 +74,22 @@ abbrev pub lowShape : Shape → Shape
 lowShape h = record { n = h .n % 65536; p = h .p % 65536; l = h .l % 65536; b = h .b % 65536; e = h .e % 65536; w = h .w % 65536 }
 
 abbrev pub lowRequest : Request → Request
-lowRequest r =
-    record { kind = r .kind % 65536; block = r .block % 65536; next = r .next % 65536; evict = r .evict % 65536; level = r .level % 65536; found = r .found % 65536 }
+lowRequest r = record {
+  kind = r .kind % 65536;
+  block = r .block % 65536;
+  next = r .next % 65536;
+  evict = r .evict % 65536;
+  level = r .level % 65536;
+  found = r .found % 65536;
+  awaits = r .awaits % 65536;
+}
 
 abbrev pub lowClient : Client → Client
 lowClient c = record {
   shape = lowShape (c .shape);
   request = lowRequest (c .request);
   jobs = c .jobs % 65536;
+  begun = c .begun % 65536;
   cursor = c .cursor % 65536;
   sent = c .sent % 65536;
   waiting = c .waiting % 65536;
@@ -85,14 +98,15 @@ lowClient c = record {
 
 -- the same with another shape
 abbrev pub reshaped : Shape → Client → Client
-reshaped h c = record { shape = h; request = c .request; jobs = c .jobs; cursor = c .cursor; sent = c .sent; waiting = c .waiting; out = c .out }
+reshaped h c = record { shape = h; request = c .request; jobs = c .jobs; begun = c .begun; cursor = c .cursor; sent = c .sent; waiting = c .waiting; out = c .out }
 
 -- how far d is, with c's request but for that, and c's shape
 abbrev pub progressed : Client → Client → Client
 progressed c d = record {
   shape = c .shape;
-  request = atLevel (d .request .level) (c .request);
+  request = atLevel (d .request .level) (d .request .awaits) (c .request);
   jobs = d .jobs;
+  begun = d .begun;
   cursor = d .cursor;
   sent = d .sent;
   waiting = d .waiting;
@@ -118,32 +132,38 @@ between n v w w′ h k = put-other (n * 2) v w′ (k * 2 + 1) (λ e. omega arith
 between-six : (k a b c d e f : ℕ) (w w′ : ℕ → ℕ) → Between w w′ → Between w (withSix k a b c d e f w′)
 between-six k a b c d e f w w′ h = between (k + 5) _ w _ (between (k + 4) _ w _ (between (k + 3) _ w _ (between (k + 2) _ w _ (between (k + 1) _ w _ (between k _ w w′ h)))))
 
+-- where the request's block was found, and what it awaits
+pub between-found : (x n : ℕ) (w w′ : ℕ → ℕ) → Between w w′ → Between w (withFound x n w′)
+between-found x n w w′ h = between 12 _ w _ (between 11 _ w w′ h)
+
 pub between-progress : (c : Client) (w w′ : ℕ → ℕ) → Between w w′ → Between w (withProgress c w′)
-between-progress c w w′ h = between-six 11 (c .request .found) (c .jobs) (c .cursor) (c .sent) (c .waiting) (c .out) w _ (between 10 _ w w′ h)
+between-progress c w w′ h = between-six 13 (c .jobs) (c .begun) (c .cursor) (c .sent) (c .waiting) (c .out) w _ (between-found (c .request .found) (c .request .awaits) w _ (between 10 _ w w′ h))
 
 pub between-turn : (k : ℕ) (c : Client) (w : ℕ → ℕ) → Between w (withTurn k c w)
 between-turn k c w = go (eqb k read)
   where
-    v : Between w (put 32 (c .out % 65536) w)
-    v = between 16 _ w w (λ k. refl)
+    v : ℕ → ℕ
+    v = put 28 (c .begun % 65536) (put 36 (c .out % 65536) w)
 
-    go : (t : Bool) → Between w (if t then put 26 (c .cursor % 65536) (put 20 (c .request .level % 65536) (put 32 (c .out % 65536) w)) else put 30 (c .waiting % 65536) (put 28 (c .sent % 65536) (put 32 (c .out % 65536) w)))
-    go true = between 13 _ w _ (between 10 _ w _ v)
-    go false = between 15 _ w _ (between 14 _ w _ v)
+    kept : Between w v
+    kept = between 14 _ w _ (between 18 _ w w (λ k. refl))
+
+    go : (t : Bool) → Between w (if t then put 30 (c .cursor % 65536) (put 24 (c .request .awaits % 65536) (put 20 (c .request .level % 65536) v)) else put 34 (c .waiting % 65536) (put 32 (c .sent % 65536) v))
+    go true = between 15 _ w _ (between 12 _ w _ (between 10 _ w v kept))
+    go false = between 17 _ w _ (between 16 _ w v kept)
 
 pub between-completion : (k : ℕ) (c : Client) (w : ℕ → ℕ) → Between w (withCompletion k c w)
 between-completion k c w = go (eqb k read)
   where
-    v : Between w (put 32 (c .out % 65536) w)
-    v = between 16 _ w w (λ k. refl)
+    v : ℕ → ℕ
+    v = put 24 (c .request .awaits % 65536) (put 36 (c .out % 65536) w)
 
-    go : (t : Bool) → Between w (if t then put 32 (c .out % 65536) w else put 28 (c .sent % 65536) (put 26 (c .cursor % 65536) (put 24 (c .jobs % 65536) (put 32 (c .out % 65536) w))))
-    go true = v
-    go false = between 14 _ w _ (between 13 _ w _ (between 12 _ w _ v))
+    kept : Between w v
+    kept = between 12 _ w _ (between 18 _ w w (λ k. refl))
 
--- where the request's block was found
-pub between-found : (x : ℕ) (w : ℕ → ℕ) → Between w (put 22 x w)
-between-found x w = between 11 x w w (λ k. refl)
+    go : (t : Bool) → Between w (if t then v else put 32 (c .sent % 65536) (put 30 (c .cursor % 65536) (put 28 (c .begun % 65536) (put 26 (c .jobs % 65536) v))))
+    go true = kept
+    go false = between 16 _ w _ (between 15 _ w _ (between 14 _ w _ (between 13 _ w v kept)))
 
 pub between-rest : (c : Client) (w w′ : ℕ → ℕ) → Between w w′ → Between w (withRest c w′)
 between-rest c w w′ h = between-progress c w _ (between 9 _ w _ (between 8 _ w _ (between 7 _ w _ (between 6 _ w w′ h))))

@@ -1,4 +1,4 @@
-// The client's state as 68 bytes, and an answer as one number.
+// The client's state as 76 bytes, and an answer as one number.
 use client::Client;
 use client::READ;
 use client::Request;
@@ -12,21 +12,21 @@ ghost use mathlib.Core.Bool.{false};
 ghost use Rattle.lists.specs.Tests.{if_then_else_};
 ghost use Rattle.lists.specs.Tables.{put as putAt};
 ghost use Rattle.memory.specs.Words.{wordAt};
-ghost use Rattle.codec.specs.Codec.{stateLength, clientOf, withSix, withShape, withAsked, withTurn, withCompletion, withProgress, withRest, Small, packed};
+ghost use Rattle.codec.specs.Codec.{stateLength, clientOf, withSix, withShape, withAsked, withTurn, withCompletion, withFound, withProgress, withRest, Small, packed};
 
 // The bytes of a state.
-pub const STATE: usize = 68;
+pub const STATE: usize = 76;
 
 // Number k of the state.
 fn number(s: &[u8], k: usize) -> usize
-    requires { ⌜ (length (now s) ≡ stateLength) × (k < 17) ⌝ }
+    requires { ⌜ (length (now s) ≡ stateLength) × (k < 19) ⌝ }
     ensures { λ r. ⌜ r ≡ wordAt (now (s .entry)) (k * 2) ⌝ }
 {
     memory::word(s, k * 2)
 }
 
 fn set_number(s: &mut [u8], k: usize, v: usize)
-    requires { ⌜ (length (now s) ≡ stateLength) × (k < 17) ⌝ }
+    requires { ⌜ (length (now s) ≡ stateLength) × (k < 19) ⌝ }
     ensures { λ _. ⌜ wordAt (now (s .exit)) ≡ putAt (k * 2) (v % 65536) (wordAt (now (s .entry))) ⌝ }
 {
     memory::set_word(s, k * 2, v % 65536);
@@ -34,7 +34,7 @@ fn set_number(s: &mut [u8], k: usize, v: usize)
 
 // Stores six numbers from number k on. It takes plain numbers, since a struct lies in memory where this is a call.
 fn set_six(s: &mut [u8], k: usize, a: usize, b: usize, c: usize, d: usize, e: usize, f: usize)
-    requires { ⌜ (length (now s) ≡ stateLength) × (k ≤ 11) ⌝ }
+    requires { ⌜ (length (now s) ≡ stateLength) × (k ≤ 13) ⌝ }
     ensures { λ _. ⌜ wordAt (now (s .exit)) ≡ withSix k a b c d e f (wordAt (now (s .entry))) ⌝ }
 {
     set_number(s, k, a);
@@ -70,6 +70,7 @@ fn request(s: &[u8]) -> Request
         evict: number(s, 9),
         level: number(s, 10),
         found: number(s, 11),
+        awaits: number(s, 12),
     }
 }
 
@@ -80,11 +81,12 @@ pub fn decode(s: &[u8]) -> Client
     Client {
         shape: shape(s),
         request: request(s),
-        jobs: number(s, 12),
-        cursor: number(s, 13),
-        sent: number(s, 14),
-        waiting: number(s, 15),
-        out: number(s, 16),
+        jobs: number(s, 13),
+        begun: number(s, 14),
+        cursor: number(s, 15),
+        sent: number(s, 16),
+        waiting: number(s, 17),
+        out: number(s, 18),
     }
 }
 
@@ -111,14 +113,16 @@ pub fn encode_turn(s: &mut [u8], c: Client, kind: usize)
     requires { ⌜ length (now s) ≡ stateLength ⌝ }
     ensures { λ _. ⌜ wordAt (now (s .exit)) ≡ withTurn kind c (wordAt (now (s .entry))) ⌝ }
 {
-    set_number(s, 16, c.out);
+    set_number(s, 18, c.out);
+    set_number(s, 14, c.begun);
     if kind == READ {
         set_number(s, 10, c.request.level);
-        set_number(s, 13, c.cursor);
+        set_number(s, 12, c.request.awaits);
+        set_number(s, 15, c.cursor);
         return;
     }
-    set_number(s, 14, c.sent);
-    set_number(s, 15, c.waiting);
+    set_number(s, 16, c.sent);
+    set_number(s, 17, c.waiting);
 }
 
 // Stores what the completion of a command of this kind changes.
@@ -126,31 +130,26 @@ pub fn encode_completion(s: &mut [u8], c: Client, kind: usize)
     requires { ⌜ length (now s) ≡ stateLength ⌝ }
     ensures { λ _. ⌜ wordAt (now (s .exit)) ≡ withCompletion kind c (wordAt (now (s .entry))) ⌝ }
 {
-    set_number(s, 16, c.out);
+    set_number(s, 18, c.out);
+    set_number(s, 12, c.request.awaits);
     if kind == READ {
         return;
     }
-    set_number(s, 12, c.jobs);
-    set_number(s, 13, c.cursor);
-    set_number(s, 14, c.sent);
+    set_number(s, 13, c.jobs);
+    set_number(s, 14, c.begun);
+    set_number(s, 15, c.cursor);
+    set_number(s, 16, c.sent);
 }
 
-// Stores how far the client is, and where its request's block was found.
+// Stores how far the client is, where its request's block was found and what it awaits.
 fn encode_progress(s: &mut [u8], c: Client)
     requires { ⌜ length (now s) ≡ stateLength ⌝ }
     ensures { λ _. ⌜ wordAt (now (s .exit)) ≡ withProgress c (wordAt (now (s .entry))) ⌝ }
 {
     set_number(s, 10, c.request.level);
-    set_six(
-        s,
-        11,
-        c.request.found,
-        c.jobs,
-        c.cursor,
-        c.sent,
-        c.waiting,
-        c.out,
-    );
+    set_number(s, 11, c.request.found);
+    set_number(s, 12, c.request.awaits);
+    set_six(s, 13, c.jobs, c.begun, c.cursor, c.sent, c.waiting, c.out);
 }
 
 // Stores all but the shape, which only an open changes.
@@ -181,12 +180,13 @@ pub fn is_held(s: &[u8]) -> bool
     number(s, 11) == 0
 }
 
-// Stores where the request's block was found.
-pub fn set_found(s: &mut [u8], found: usize)
+// Stores where the request's block was found, and what it awaits.
+pub fn set_found(s: &mut [u8], found: usize, awaits: usize)
     requires { ⌜ length (now s) ≡ stateLength ⌝ }
-    ensures { λ _. ⌜ wordAt (now (s .exit)) ≡ putAt 22 (found % 65536) (wordAt (now (s .entry))) ⌝ }
+    ensures { λ _. ⌜ wordAt (now (s .exit)) ≡ withFound found awaits (wordAt (now (s .entry))) ⌝ }
 {
     set_number(s, 11, found);
+    set_number(s, 12, awaits);
 }
 
 // From the lowest bit on: the number in 5 bits, the kind in 2, the partition in 6, the level in 4, the slot in 11 and where a block was found in 4;

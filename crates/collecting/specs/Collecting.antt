@@ -5,7 +5,7 @@ use mathlib.Core.List.{List, [], _∷_, _++_, append-assoc}
 use mathlib.Core.Option.{Option, none, some, Option·getD}
 use Prim.Native.Nat.{ℕ, zero, suc, _+_, _-_, _*_, _≤_, _<_}
 use native.Mathlib.Omega.{arith}
-use lib.ListN.{length, replicate}
+use lib.ListN.{length, replicate, take}
 use lib.Dec.{eqb}
 use lib.Pow.{pow-pos}
 use borrow.Author.Tests.{ne-eqb, le-ltb, eqb-true}
@@ -17,9 +17,8 @@ use Rattle.rules.specs.State as R
 use Rattle.rules.specs.State.{State, Command, write, nowhere, foundNowhere, foundNumber}
 use Rattle.rules.specs.Setters.{_▷_, setPartition, setPlace, setBytes, setWaiting, setHolds, setQueue, setRequest}
 use Rattle.rules.specs.Ranges.{others}
-use Rattle.rules.specs.Levels.{filled}
 use Rattle.rules.specs.Blocks.{isNowhere, zeros, contents}
-use Rattle.rules.specs.Request.{held, levelsLeft, release}
+use Rattle.rules.specs.Request.{held, costs, levelsLeft, release}
 use Rattle.rules.specs.Collect.{finished, emptied, finish, collected, answer, carried}
 use Rattle.rules.specs.Questions.{collect, Call, inHand, questions, number}
 use Rattle.rules.specs.Laws.Answers.{accepted-passed}
@@ -138,19 +137,28 @@ module _ (c : Client) (m : List ℕ) where
 
 -- ---- Whether it is finished
 
-module _ (s : State) (r : R.Request) (p : ℕ) (e : s .partition (r .block) ≡ p) where
-  module _ (h : held r ≡ false) (x : ℕ) (k : s .counter p ≡ x) where
-    left-is : levelsLeft s r ≡ keep (filled x) (count (r .level) (s .shape .L - r .level))
-    unfolding levelsLeft
-    left-is = rw (e, k)
+-- more than there are is all
+pub take-long : (k : ℕ) (xs : List Command) → length xs ≤ k → take k xs ≡ xs
+take-long zero [] l = refl
+take-long zero (x ∷ xs) l = absurd (omega arith)
+take-long (suc k) [] l = refl
+take-long (suc k) (x ∷ xs) l = ap (λ r. x ∷ r) (take-long k xs (omega arith))
 
-    pub unfinished-reads : (ℓ : ℕ) (ls : List ℕ) → keep (filled x) (count (r .level) (s .shape .L - r .level)) ≡ ℓ ∷ ls → finished s r ≡ false
-    unfolding finished
-    unfinished-reads ℓ ls f = rw (h, left-is, f, ne-eqb (suc (length ls)) 0 (λ z. omega arith))
+module _ (s : State) (r : R.Request) (p : ℕ) (e : s .partition (r .block) ≡ p) (h : held r ≡ false) where
+  abbrev levels : List ℕ
+  levels = keep (costs s p) (count (r .level) (s .shape .L - r .level))
 
-    pub finished-sent : keep (filled x) (count (r .level) (s .shape .L - r .level)) ≡ [] → finished s r ≡ not (any (λ (c : Command). eqb (c .partition) p) (s .outstanding))
-    unfolding finished
-    finished-sent f = rw (h, left-is, f, e)
+  left-is : levelsLeft s r ≡ levels
+  unfolding levelsLeft
+  left-is = ap (λ q. keep (costs s q) (count (r .level) (s .shape .L - r .level))) e
+
+  pub unfinished-reads : (ℓ : ℕ) (ls : List ℕ) → levels ≡ ℓ ∷ ls → finished s r ≡ false
+  unfolding finished
+  unfinished-reads ℓ ls f = rw (h, left-is, f, ne-eqb (suc (length ls)) 0 (λ z. omega arith))
+
+  pub finished-sent : levels ≡ [] → finished s r ≡ not (any (λ (c : Command). eqb (c .partition) p) (take (r .awaits) (s .outstanding)))
+  unfolding finished
+  finished-sent f = rw (h, left-is, f, e)
 
 -- ---- What is handed out
 

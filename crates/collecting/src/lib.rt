@@ -5,10 +5,11 @@ use client::WRITE;
 use contract::Answer;
 ghost use mathlib.Core.Path.{_≡_};
 ghost use mathlib.Core.Bool.{not, _&&_};
-ghost use mathlib.Core.List.{[]};
+ghost use mathlib.Core.List.{List, []};
 ghost use Prim.Native.Nat.{_<_, _≤_};
-ghost use lib.ListN.{length};
+ghost use lib.ListN.{length, take};
 ghost use Rattle.lists.specs.Search.{member};
+ghost use Rattle.rules.specs.State.{Command};
 ghost use Rattle.rules.specs.Blocks.{isNowhere, contents};
 ghost use Rattle.rules.specs.Collect.{finished, finish as finishOf};
 ghost use Rattle.rules.specs.Questions.{collect as collectOf, number as numberOf};
@@ -18,7 +19,17 @@ ghost use Rattle.client.specs.Moves.{noRequest, Room, Stands};
 ghost use Rattle.contract.specs.Meets.{Meets};
 ghost use Rattle.collecting.specs.Collecting.{callWith, Hand, newBytes, emptySlot, Settled, Queued};
 
-// A request is finished when it isn't held and all its reads are sent and completed.
+// How many of the outstanding commands the request awaits. Its number may be above all of them in a state that no calls left.
+fn awaited(c: Client) -> usize
+    ensures { λ r. ⌜ (r ≤ c .out) × ((xs : List Command) → length xs ≡ c .out → take r xs ≡ take (c .request .awaits) xs) ⌝ }
+{
+    if c.out < c.request.awaits {
+        return c.out;
+    }
+    c.request.awaits
+}
+
+// A request is finished when it isn't held, all its reads are sent, and they and what was outstanding at its release have completed.
 fn is_finished(c: Client, m: &[u8]) -> bool
     requires { ⌜ Hand c (now m) ⌝ }
     ensures { λ r. ⌜ r ≡ finished (stateOf c (now (m .entry))) (handOf c (now (m .entry))) ⌝ }
@@ -26,13 +37,12 @@ fn is_finished(c: Client, m: &[u8]) -> bool
     if c.request.found == 0 {
         return false;
     }
-    let levels = c.shape.l;
     let p = memory::tables::partition(c.shape, m, c.request.block);
-    let counter = memory::tables::counter(c.shape, m, p);
-    if levels::next_filled(levels, counter, c.request.level) < levels {
+    let sources = reading::sources(c, m, p);
+    if reading::next_level(c, m, p, sources) < c.shape.l {
         return false;
     }
-    !commands::is_busy(c, m, p)
+    !commands::is_busy(c, m, p, awaited(c))
 }
 
 // The number of a collect, by the lengths lent.

@@ -5,6 +5,7 @@ use mathlib.Core.List.{List, [], _∷_, _++_}
 use Prim.Native.Nat.{ℕ, _+_, _-_, _*_, _%_, _≤_, _<_}
 use native.Mathlib.Omega.{arith}
 use native.Mathlib.Decide.{ℕ-discrete, decLt}
+use lib.ListN.{take}
 use lib.Dec.{eqb, ltb}
 use lib.Pow.{pow-mono}
 use borrow.Author.Tests.{eqb-true, eq-eqb, lt-ltb, le-ltb}
@@ -24,7 +25,7 @@ use Rattle.memory.specs.declared.tables.Table.the-variants as table
 use Rattle.memory.specs.Fits.{shapeOf, fit, fit-in}
 use Rattle.client.specs.declared.Client.{Client}
 use Rattle.client.specs.View.{levelOf, spotOf, commandBy, rows, view, stateOf, writeFrom}
-use Rattle.client.specs.Rows.{dropAt, rows-push, any-miss, Shifted, shifted-none, shifted-more, shifted-all}
+use Rattle.client.specs.Rows.{dropAt, rows-push, rows-take, any-miss, Shifted, shifted-none, shifted-more, shifted-all}
 use Rattle.rules.specs.Laws.Layout.{offset-lt}
 use Rattle.client.specs.Changes.{level-is, level-le}
 use Rattle.client.specs.Ready.{command-range}
@@ -36,6 +37,9 @@ commandIn h m i = commandBy (shapeOf h) (tablesOf (shapeOf h) m .kinds i) (table
 pub outstanding-is : (c : Client) (m : List ℕ) → stateOf c m .outstanding ≡ rows (commandIn (c .shape) m) (c .out)
 unfolding stateOf view
 outstanding-is c m = refl
+
+pub all-taken : (c : Client) (m : List ℕ) → take (c .out) (stateOf c m .outstanding) ≡ stateOf c m .outstanding
+all-taken c m = rw outstanding-is (rows-take (commandIn (c .shape) m) (c .out) (c .out) (omega arith))
 
 -- its kind, by the first of its numbers
 abbrev pub kindOf : ℕ → ℕ

@@ -5,6 +5,7 @@ use client::READ;
 use client::WRITE;
 ghost use mathlib.Core.Path.{_≡_};
 ghost use Prim.Native.Nat.{_+_, _-_, _<_, _≤_};
+ghost use lib.ListN.{take};
 ghost use Rattle.lists.specs.Search.{any};
 ghost use Rattle.rules.specs.Shape.{slots};
 ghost use Rattle.rules.specs.State.{cmd, write as writes};
@@ -22,12 +23,11 @@ ghost use Rattle.commands.specs.Commands.{commandIn, kindOf, spotCommand
 // The first number of an outstanding command is its partition, which is below this, and so much more for a write.
 const WRITE_FROM: usize = 64;
 
-// Whether a command of partition q is outstanding.
-pub fn is_busy(c: Client, m: &[u8], q: usize) -> bool
-    requires { ⌜ Room c (now m) × (c .out ≤ 32) ⌝ }
-    ensures { λ r. ⌜ r ≡ any (ofPartition q) (stateOf c (now (m .entry)) .outstanding) ⌝ }
+// Whether one of the n commands that have been outstanding longest is of partition q.
+pub fn is_busy(c: Client, m: &[u8], q: usize, n: usize) -> bool
+    requires { ⌜ Room c (now m) × (c .out ≤ 32) × (n ≤ c .out) ⌝ }
+    ensures { λ r. ⌜ r ≡ any (ofPartition q) (take n (stateOf c (now (m .entry)) .outstanding)) ⌝ }
 {
-    let n = c.out;
     let p = c.shape.p;
     let mut i = 0;
     while i < n {

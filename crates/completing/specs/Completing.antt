@@ -3,26 +3,26 @@ use mathlib.Core.Path.{_≡_, refl, ap, sym, _∙_, subst}
 use mathlib.Core.Bool.{Bool, true, false, not, _&&_, true≢false}
 use mathlib.Core.Logic.{_⊎_, inl, inr}
 use mathlib.Core.List.{List, [], _∷_}
-use mathlib.Core.Option.{Option, some}
+use mathlib.Core.Option.{Option, some, Option·map}
 use Prim.Native.Nat.{ℕ, zero, suc, _+_, _-_, _^_, _≤_, _<_, min}
 use native.Mathlib.Omega.{arith}
 use lib.ListN.{length}
-use lib.Dec.{eqb, leb}
+use lib.Dec.{eqb, leb, ltb}
 use lib.Pow.{pow-pos}
 use lib.Bits.{bitAnd}
 use borrow.Author.Tests.{eqb-true, eq-eqb, ne-eqb, leb-true}
 use Rattle.lists.specs.Tests.{if_then_else_, and-l, and-r, or-true, between}
-use Rattle.lists.specs.Search.{any, without, below, count}
+use Rattle.lists.specs.Search.{any, without, firstLeft, below, count}
 use Rattle.lists.specs.All.{All, nil, cons}
 use Rattle.lists.specs.Tables.{put}
 use Rattle.rules.specs.Shape.{Shape, slots, cell}
 use Rattle.rules.specs.State as R
 use Rattle.rules.specs.State.{Command, cmd, read, write, foundNumber}
-use Rattle.rules.specs.Setters.{setOutstanding, setQueue, setCounter, setCursor, setSent}
+use Rattle.rules.specs.Setters.{setRequest, setOutstanding, setQueue, setCounter, setBegun, setCursor, setSent}
 use Rattle.rules.specs.Ranges.{isKind}
 use Rattle.rules.specs.Levels.{sources, target, grown, trailingOnes}
 use Rattle.rules.specs.Blocks.{holder, named}
-use Rattle.rules.specs.Completion.{isCommand, completed, gatherBytes, completeRead, jobDone, endJob, finishJob, completeWrite, complete}
+use Rattle.rules.specs.Completion.{isCommand, awaitsLess, completed, gatherBytes, completeRead, jobDone, endJob, finishJob, completeWrite, complete}
 use Rattle.rules.specs.Draws.{draws}
 use Rattle.rules.specs.Questions.{completion, ready, bounds, questions, firstNo, number}
 use Rattle.rules.specs.Run.{perform, refuse, sentCommand, handed, handedFound, takenOf, numbersOf}
@@ -36,7 +36,7 @@ use Rattle.client.specs.declared.Request.{Request}
 use Rattle.client.specs.View.{stateOf, view, rows}
 use Rattle.client.specs.Rows.{dropAt, length-rows}
 use Rattle.client.specs.Changes.{view-bytes, view-counter}
-use Rattle.client.specs.Moves.{Room, Stands, stands, then as next, withJobs, withCursor, withSent}
+use Rattle.client.specs.Moves.{Room, Stands, stands, then as next, withRequest, withJobs, withBegun, withCursor, withSent}
 use Rattle.contract.specs.Answers.{refusedWith}
 use Rattle.contract.specs.Meets.{callOf, meets-no}
 use Rattle.ready.specs.Usable.{Usable, usable}
@@ -44,6 +44,7 @@ use Rattle.releasing.specs.Performs.{Performs, ready-after}
 use Rattle.jobs.specs.Queue.{jobsIn, queue-is}
 use Rattle.commands.specs.Outstanding.{OutstandingAt, ofKind}
 use Rattle.commands.specs.Commands.{outstanding-is}
+use Rattle.completing.specs.Awaited.{lessened, lessened-is}
 
 -- ---- Its questions
 
@@ -78,7 +79,7 @@ module _ (c : Client) (m : List ℕ) (d : Command) (bs : List ℕ) where
       passed e = rw (r, a, eq-eqb (length bs) (wanted c d) e)
 
       -- all answers are yes, and the act leaves the rules' state, which answers the first question too
-      pub yes : (c′ : Client) (m′ : List ℕ) → length bs ≡ wanted c d → c′ .request ≡ c .request → length m′ ≡ length m → Stands c′ m m′ (complete d bs (stateOf c m)) → Performs c (stateOf c m) (completion d bs) m [] [] (refusedWith 0 c′) m′ []
+      pub yes : (c′ : Client) (m′ : List ℕ) → length bs ≡ wanted c d → (c′ .request .kind ≡ 0 → c′ .request ≡ c .request) → length m′ ≡ length m → Stands c′ m m′ (complete d bs (stateOf c m)) → Performs c (stateOf c m) (completion d bs) m [] [] (refusedWith 0 c′) m′ []
       unfolding bounds draws takenOf numbersOf perform sentCommand handed handedFound foundNumber
       yes c′ m′ e k l s = record {
         refused = λ n. absurd (n refl);
@@ -88,7 +89,7 @@ module _ (c : Client) (m : List ℕ) (d : Command) (bs : List ℕ) where
           command = refl;
           found = refl;
           state = s .state;
-          idle = λ _. k;
+          idle = k;
           buffer = refl;
           tail = unfold stateOf view in s .tail;
           ready = left-ready;
@@ -134,6 +135,7 @@ pub record Completes (c : Client) (m : List ℕ) (d : Command) (bs : List ℕ) (
   pub out : c .out ≤ 32
   pub place : j < c .out
   pub gone : without (isCommand d) (stateOf c m .outstanding) ≡ dropAt j (stateOf c m .outstanding)
+  pub left : (k : ℕ) → firstLeft (isCommand d) k (stateOf c m .outstanding) ≡ (if ltb j k then k - 1 else k)
   pub range : CommandIn (shapeOf (c .shape)) d
   pub long : length bs ≡ wanted c d
 
@@ -155,6 +157,7 @@ completes c m d bs j r o l =
       out = omega (arith, u .counts .out, u .window);
       place = omega (arith, o .place, ap length (outstanding-is c m) ∙ length-rows _ _);
       gone = o .gone;
+      left = o .left;
       range = command-in (shapeOf (c .shape)) d (o .there) (u .range .outstanding);
       long = l;
     }
@@ -228,10 +231,10 @@ counted c m m₁ q k n e g l t = stands c m m₁ _ _ t refl (view-counter c (tab
 -- the front job leaves, and the next one has sent nothing
 pub ended : (c d : Client) (m m₁ m₂ : List ℕ) (q : ℕ) → Stands c m m₁ (setCounter (put q (grown (stateOf c m .shape) (stateOf c m .counter q)) (stateOf c m .counter)) (stateOf c m))
     → d ≡ withJobs (c .jobs - 1) c → Stands d m₁ m₂ (setQueue (dropAt 0 (stateOf c m₁ .queue)) (stateOf c m₁))
-    → Stands (withSent 0 (withCursor 0 d)) m m₂ (endJob q (dropAt 0 (stateOf c m .queue)) (stateOf c m))
+    → Stands (withSent 0 (withCursor 0 (withBegun 0 d))) m m₂ (endJob q (dropAt 0 (stateOf c m .queue)) (stateOf c m))
 unfolding endJob stateOf view
 ended c d m m₁ m₂ q k e p = record {
-  state = ap (λ s. setSent 0 (setCursor 0 s)) (p .state ∙ ap (λ s. setQueue (dropAt 0 (s .queue)) s) (k .state));
+  state = ap (λ s. setSent 0 (setCursor 0 (setBegun 0 s))) (p .state ∙ ap (λ s. setQueue (dropAt 0 (s .queue)) s) (k .state));
   tail = next c d m m₁ m₂ _ _ (rw e) k p .tail;
 }
 
@@ -253,24 +256,24 @@ module _ (c : Client) (m : List ℕ) where
 
 -- ---- Both: the command leaves the list first
 
-module _ (c d : Client) (m m₁ : List ℕ) (x : Command) (bs : List ℕ) (j : ℕ) (gone : without (isCommand x) (stateOf c m .outstanding) ≡ dropAt j (stateOf c m .outstanding))
-    (s : Stands d m m₁ (setOutstanding (dropAt j (stateOf c m .outstanding)) (stateOf c m))) where
+module _ (c d : Client) (m m₁ : List ℕ) (x : Command) (bs : List ℕ) (j : ℕ) (k : Completes c m x bs j)
+    (s : Stands d m m₁ (setOutstanding (dropAt j (stateOf (withRequest (lessened j (c .request)) c) m .outstanding)) (stateOf (withRequest (lessened j (c .request)) c) m))) where
   left : stateOf d m₁ ≡ completed x (stateOf c m)
   unfolding completed
-  left = s .state ∙ ap (λ cs. setOutstanding cs (stateOf c m)) (sym gone)
+  left = s .state ∙ ap (λ (z : R.State). setOutstanding (dropAt j (z .outstanding)) z) (lessened-is c m x j (k .left)) ∙ ap (λ cs. setOutstanding cs (setRequest (Option·map (awaitsLess x (stateOf c m .outstanding)) (stateOf c m .request)) (stateOf c m))) (sym (k .gone))
 
   pub read-done : (m₂ : List ℕ) → x .kind ≡ 1 → Stands d m₁ m₂ (gatherBytes (holder (stateOf d m₁) (x .partition) (x .level) (x .slot)) bs (stateOf d m₁)) → Stands d m m₂ (complete x bs (stateOf c m))
   unfolding complete completeRead completed holder
-  read-done m₂ k g = let a = next d d m m₁ m₂ _ _ refl s g in
+  read-done m₂ e g = let a = next d d m m₁ m₂ _ _ refl s g in
       record {
-        state = a .state ∙ ap (λ z. gatherBytes (holder z (x .partition) (x .level) (x .slot)) bs z) left ∙ sym (ap (λ t. if t then completeRead x bs (stateOf c m) else completeWrite x (stateOf c m)) (eq-eqb (x .kind) 1 k));
+        state = a .state ∙ ap (λ z. gatherBytes (holder z (x .partition) (x .level) (x .slot)) bs z) left ∙ sym (ap (λ t. if t then completeRead x bs (stateOf c m) else completeWrite x (stateOf c m)) (eq-eqb (x .kind) 1 e));
         tail = a .tail;
       }
 
   pub write-done : (d₂ : Client) (m₂ : List ℕ) → d₂ .shape ≡ d .shape → (x .kind ≡ 1 → ⊥) → Stands d₂ m₁ m₂ (finishJob (stateOf d m₁ .queue) (stateOf d m₁)) → Stands d₂ m m₂ (complete x bs (stateOf c m))
   unfolding complete completeWrite completed
-  write-done d₂ m₂ h k g = let a = next d d₂ m m₁ m₂ _ _ h s g in
+  write-done d₂ m₂ h e g = let a = next d d₂ m m₁ m₂ _ _ h s g in
       record {
-        state = a .state ∙ ap (λ z. finishJob (z .queue) z) left ∙ sym (ap (λ t. if t then completeRead x bs (stateOf c m) else completeWrite x (stateOf c m)) (ne-eqb (x .kind) 1 k));
+        state = a .state ∙ ap (λ z. finishJob (z .queue) z) left ∙ sym (ap (λ t. if t then completeRead x bs (stateOf c m) else completeWrite x (stateOf c m)) (ne-eqb (x .kind) 1 e));
         tail = a .tail;
       }

@@ -19,10 +19,11 @@ ghost use Rattle.rules.specs.Questions.{completion as completionOf};
 ghost use Rattle.memory.specs.Fits.{shapeOf};
 ghost use Rattle.client.specs.View.{stateOf};
 ghost use Rattle.client.specs.Rows.{dropAt};
-ghost use Rattle.client.specs.Moves.{Room, Stands};
+ghost use Rattle.client.specs.Moves.{withRequest, Room, Stands};
 ghost use Rattle.contract.specs.Meets.{Meets};
 ghost use Rattle.releasing.specs.Performs.{Performs};
 ghost use Rattle.completing.specs.Completing.{AllOfLevel, Completes};
+ghost use Rattle.completing.specs.Awaited.{lessened};
 
 // The length that is asked for: that of a block for a read, 0 for a write.
 fn expected(kind: usize, block: usize) -> usize
@@ -87,7 +88,7 @@ fn end_job(c: Client, m: &mut [u8], q: usize) -> Client
 {
     let n = grown(c.shape, memory::tables::counter(c.shape, m, q));
     memory::tables::set_counter(c.shape, m, q, n);
-    jobs::pop(c, m).with_cursor(0).with_sent(0)
+    jobs::pop(c, m).with_begun(0).with_cursor(0).with_sent(0)
 }
 
 // The front job ends when its last write completes.
@@ -105,6 +106,20 @@ fn finish_job(c: Client, m: &mut [u8]) -> Client
     end_job(c, m, q)
 }
 
+// The command at place j completes: a request that awaits it awaits one less. Without a request no number changes.
+fn await_less(c: Client, j: usize) -> Client
+    ensures { λ r. ⌜ r ≡ withRequest (lessened j (c .request)) c ⌝ }
+{
+    let r = c.request;
+    if r.kind == 0 {
+        return c;
+    }
+    if r.awaits <= j {
+        return c;
+    }
+    c.with_request(r.awaiting(r.awaits - 1))
+}
+
 // The command at place j is completed.
 fn complete(
     c: Client,
@@ -117,9 +132,9 @@ fn complete(
     bytes: &[u8],
 ) -> Client
     requires { ⌜ Completes c (now m) (cmd kind q l i) (now bytes) j ⌝ }
-    ensures { λ r. ⌜ (r .request ≡ c .request) × Stands r (now (m .entry)) (now (m .exit)) (completeOf (cmd kind q l i) (now (bytes .entry)) (stateOf c (now (m .entry)))) ⌝ }
+    ensures { λ r. ⌜ (r .request ≡ lessened j (c .request)) × Stands r (now (m .entry)) (now (m .exit)) (completeOf (cmd kind q l i) (now (bytes .entry)) (stateOf c (now (m .entry)))) ⌝ }
 {
-    let d = commands::complete(c, m, j);
+    let d = commands::complete(await_less(c, j), m, j);
     if kind == READ {
         store_read(d, m, q, l, i, bytes);
         return d;
@@ -127,7 +142,7 @@ fn complete(
     finish_job(d, m)
 }
 
-// What a completion does by document 01. A request is released after it.
+// What a completion does before a request is released.
 pub fn perform(
     c: Client,
     m: &mut [u8],

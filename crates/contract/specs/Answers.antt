@@ -21,6 +21,7 @@ clearedClient = record {
   shape = record { n = 0; p = 0; l = 0; b = 0; e = 0; w = 0 };
   request = noRequest;
   jobs = 0;
+  begun = 0;
   cursor = 0;
   sent = 0;
   waiting = 0;

@@ -147,6 +147,7 @@ module _ (m : List ℕ) where
     mark = table-zero (markAt (closed .shape)) (λ x. 2) k;
     holds = table-zero (holdsAt (closed .shape)) (λ x. 0 + 1) k;
     queue = [];
+    begun = 0;
     cursor = 0;
     sent = 0;
     outstanding = [];

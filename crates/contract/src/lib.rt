@@ -95,6 +95,7 @@ pub fn closed() -> Client
         },
         request: Request::none(),
         jobs: 0,
+        begun: 0,
         cursor: 0,
         sent: 0,
         waiting: 0,

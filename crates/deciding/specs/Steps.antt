@@ -1,32 +1,27 @@
 -- Steps as the rules say them, and the laws by which they are decided.
 use mathlib.Core.Path.{_≡_, refl, ap, sym, _∙_}
-use mathlib.Core.Bool.{Bool, true, false, _&&_, true≢false}
+use mathlib.Core.Bool.{Bool, true, false}
 use mathlib.Core.List.{List, _∷_}
 use mathlib.Core.Option.{Option, none, some, Option·getD}
-use Prim.Native.Nat.{ℕ, _+_, _-_, _*_, _^_, _≤_, _<_, min}
-use native.Mathlib.Omega.{arith}
-use native.Mathlib.Decide.{decLt}
-use lib.Dec.{eqb, leb, ltb}
-use borrow.Author.Tests.{eq-eqb, ne-eqb, eqb-true, leb-true, ltb-true, le-leb, lt-ltb, le-ltb}
-use Rattle.lists.specs.Tests.{if_then_else_, and-l, and-r, and-true}
-use Rattle.lists.specs.Search.{any, orElse, keep, below, count}
+use Prim.Native.Nat.{ℕ, _-_, _≤_, _<_, min}
+use lib.Dec.{eqb}
+use borrow.Author.Tests.{eq-eqb, ne-eqb, lt-ltb, le-ltb}
+use Rattle.lists.specs.Search.{any, keep, below, count}
 use Rattle.rules.specs.Shape.{Shape, slots}
-use Rattle.rules.specs.State.{State, Request, Place, nowhere, stored}
-use Rattle.rules.specs.Levels.{filled, sources, target}
-use Rattle.rules.specs.Request.{held, levelsLeft, slotIn, dummy}
+use Rattle.rules.specs.State.{State, Request}
+use Rattle.rules.specs.Levels.{sources, target}
+use Rattle.rules.specs.Request.{held, costs, levelsLeft, slotRead, releasedFor}
 use Rattle.rules.specs.Rebuild.{unread}
 use Rattle.rules.specs.Turn as Turn
 use Rattle.rules.specs.Turn.{requestStep, readStep, firstRead, jobStep, gatherStep, rebuildStep, writeStep}
-use Rattle.rules.specs.Laws.Range.{PlaceIn}
 use Rattle.memory.specs.Fits.{shapeOf, fit}
 use Rattle.memory.specs.Tables.{tablesOf}
 use Rattle.client.specs.declared.Client.{Client}
-use Rattle.client.specs.View.{levelOf, placeOf, rows, view, stateOf}
+use Rattle.client.specs.View.{rows, view, stateOf}
 use Rattle.client.specs.Readings.{handOf, hand-none, hand-some, hand-held, hand-released}
-use Rattle.client.specs.Changes.{place-is, level-le}
-use Rattle.ready.specs.Usable.{Usable}
 use Rattle.commands.specs.Outstanding.{ofPartition}
-use Rattle.levels.specs.Next.{NextFilled}
+use Rattle.levels.specs.Next.{NextLevel}
+use Rattle.reading.specs.Slots.{Reads}
 use Rattle.deciding.specs.declared.Step.{Step}
 use Rattle.deciding.specs.declared.Step.the-variants.{Idle, NoDummy, ReadForRequest, ReadForJob, Rebuild, WriteNext}
 use Rattle.deciding.specs.declared.Due.{Due}
@@ -45,57 +40,13 @@ dueOf (due.Read q l i) = some (Turn.readForRequest q l i)
 dueOf due.NoDummy = some Turn.noDummy
 dueOf due.Nothing = none
 
--- a request is in hand, for a block of partition q
-pub record Reads (c : Client) (m : List ℕ) (q : ℕ) : Type 0 where
-  pub some : c .request .kind ≡ 0 → ⊥
-  pub partition : q ≡ stateOf c m .partition (c .request .block)
-
--- x is the number of its place
-abbrev pub Placed : Client → List ℕ → ℕ → Type 0
-Placed c m x = x ≡ fit (slots (c .shape .l)) (tablesOf (shapeOf (c .shape)) m .place (c .request .block))
-
--- ---- The block's own slot
-
--- whether the number x is one of level ℓ
-abbrev pub isOwn : ℕ → ℕ → Bool
-isOwn ℓ x = leb (slots ℓ) x && ltb x (2 * slots ℓ)
-
-module _ (n ℓ x : ℕ) where
-  pub own-slot : ℓ < n → isOwn ℓ x ≡ true → slotIn ℓ (placeOf n x) ≡ some (x - slots ℓ)
-  unfolding slotIn
-  own-slot top e =
-      let a = leb-true (slots ℓ) x (and-l (leb (slots ℓ) x) (ltb x (2 * slots ℓ)) e) in
-      let b = ltb-true x (2 * slots ℓ) (and-r (leb (slots ℓ) x) (ltb x (2 * slots ℓ)) e) in
-      let k : slots ℓ + (x - slots ℓ) ≡ x = omega arith in
-      ap (λ y. slotIn ℓ (placeOf n y)) (sym k) ∙ ap (slotIn ℓ) (place-is n ℓ (x - slots ℓ) top (omega arith)) ∙ rw (eq-eqb ℓ ℓ refl)
-
-  pub other-slot : PlaceIn n (placeOf n x) → isOwn ℓ x ≡ false → slotIn ℓ (placeOf n x) ≡ none
-  unfolding slotIn placeOf
-  other-slot h e = go (decLt x 2) h
-    where
-      own : levelOf n x ≡ ℓ → 2 ≤ x → x - slots (levelOf n x) < slots (levelOf n x) → isOwn ℓ x ≡ true
-      own l g s =
-          let a = rw l at (level-le n x g) in
-          let b = rw l at s in
-          and-true (le-leb (slots ℓ) x a) (lt-ltb x (2 * slots ℓ) (omega arith))
-
-      at : (t : Bool) → eqb (levelOf n x) ℓ ≡ t → 2 ≤ x → x - slots (levelOf n x) < slots (levelOf n x) → (if t then some (x - slots (levelOf n x)) else none) ≡ none
-      at true l g s = absurd (true≢false (sym (own (eqb-true (levelOf n x) ℓ l) g s) ∙ e))
-      at false l g s = refl
-
-      go : Dec (x < 2) → PlaceIn n (if ltb x 2 then nowhere else stored (levelOf n x) (x - slots (levelOf n x))) → slotIn ℓ (if ltb x 2 then nowhere else stored (levelOf n x) (x - slots (levelOf n x))) ≡ none
-      go (yes l) h = rw (lt-ltb x 2 l)
-      go (no l) h =
-          let p : PlaceIn n (stored (levelOf n x) (x - slots (levelOf n x))) = rw (le-ltb x 2 (omega arith)) at h in
-          rw (le-ltb x 2 (omega arith)) (at (eqb (levelOf n x) ℓ) refl (omega arith) (p .1))
-
 -- ---- The request in hand
 module _ (s : State) where
   held-step : (r : Request) → held r ≡ true → requestStep s (some r) ≡ none
   unfolding requestStep
   held-step r e = rw e
 
-  free-step : (r : Request) → held r ≡ false → requestStep s (some r) ≡ firstRead (s .partition (r .block)) (s .place (r .block)) (dummy s (s .partition (r .block))) (levelsLeft s r)
+  free-step : (r : Request) → held r ≡ false → requestStep s (some r) ≡ firstRead (s .partition (r .block)) (slotRead s (s .partition (r .block)) (s .place (r .block))) (levelsLeft s r)
   unfolding requestStep
   free-step r e = rw e
 
@@ -119,51 +70,43 @@ module _ (c : Client) (m : List ℕ) where
     levels-is = refl
 
     pub request-free : (c .request .found ≡ 0 → ⊥)
-        → requestStep s (s .request) ≡ firstRead q (s .place (c .request .block)) (dummy s q) (keep (filled (s .counter q)) (count (c .request .level) (c .shape .l - c .request .level)))
+        → requestStep s (s .request) ≡ firstRead q (slotRead s q (s .place (c .request .block))) (keep (costs s q) (count (c .request .level) (c .shape .l - c .request .level)))
     unfolding levelsLeft
     request-free e =
         ap (requestStep s) (hand-some c m (r .some)) ∙ free-step s asked (hand-released c m e)
-        ∙ ap (λ p. firstRead p (s .place (c .request .block)) (dummy s p) (keep (filled (s .counter p)) (count (c .request .level) (s .shape .L - c .request .level)))) (sym (r .partition))
-        ∙ ap (λ n. firstRead q (s .place (c .request .block)) (dummy s q) (keep (filled (s .counter q)) (count (c .request .level) (n - c .request .level)))) levels-is
+        ∙ ap (λ p. firstRead p (slotRead s p (s .place (c .request .block))) (keep (costs s p) (count (c .request .level) (s .shape .L - c .request .level)))) (sym (r .partition))
+        ∙ ap (λ n. firstRead q (slotRead s q (s .place (c .request .block))) (keep (costs s q) (count (c .request .level) (n - c .request .level)))) levels-is
 
-    pub reads-lt : Usable c m → q < c .shape .p
-    unfolding stateOf view
-    reads-lt u = rw (r .partition) (u .range .partitions (c .request .block) (u .asked (r .some) .0 .block))
-
--- its slot at a level, by the number x of its place
-module _ (c : Client) (m : List ℕ) (ℓ x n : ℕ) (e : n ≡ slots ℓ) (p : Placed c m x) where
-  abbrev b : ℕ
-  b = c .request .block
-
-  own : (t : Bool) → (leb n x && ltb x (2 * n)) ≡ t → isOwn ℓ x ≡ t
-  own t k = ap (λ y. leb y x && ltb x (2 * y)) (sym e) ∙ k
-
-  pub own-read : ℓ < c .shape .l → (leb n x && ltb x (2 * n)) ≡ true → (d : Option ℕ) → some (x - n) ≡ orElse (slotIn ℓ (stateOf c m .place b)) d
-  unfolding stateOf view orElse
-  own-read top k d = ap (λ y. some (x - y)) e ∙ ap (λ o. orElse o d) (sym (own-slot (c .shape .l) ℓ x top (own true k)) ∙ ap (λ y. slotIn ℓ (placeOf (c .shape .l) y)) p)
-
-  pub other-read : PlaceIn (stateOf c m .shape .L) (stateOf c m .place b) → (leb n x && ltb x (2 * n)) ≡ false → (d : Option ℕ) → d ≡ orElse (slotIn ℓ (stateOf c m .place b)) d
-  unfolding stateOf view orElse
-  other-read h k d =
-      let h′ : PlaceIn (c .shape .l) (placeOf (c .shape .l) x) = rw (← p) at h in
-      ap (λ o. orElse o d) (sym (other-slot (c .shape .l) ℓ x h′ (own false k)) ∙ ap (λ y. slotIn ℓ (placeOf (c .shape .l) y)) p)
-
--- the first filled level
-module _ (c : Client) (m : List ℕ) (q k ℓ : ℕ) (e : k ≡ fit (2 ^ c .shape .l) (tablesOf (shapeOf (c .shape)) m .counter q)) (f : NextFilled (c .shape .l) k (c .request .level) ℓ) (p : Place) (d : ℕ → Option ℕ) where
+-- the first level that costs a read
+module _ (c : Client) (m : List ℕ) (q ℓ : ℕ) (f : NextLevel (costs (stateOf c m) q) (c .shape .l) (c .request .level) ℓ) (slotOf : ℕ → Option ℕ) where
   abbrev left : List ℕ
-  left = keep (filled (stateOf c m .counter q)) (count (c .request .level) (c .shape .l - c .request .level))
+  left = keep (costs (stateOf c m) q) (count (c .request .level) (c .shape .l - c .request .level))
 
-  same : left ≡ keep (filled k) (count (c .request .level) (c .shape .l - c .request .level))
-  unfolding stateOf view
-  same = ap (λ n. keep (filled n) (count (c .request .level) (c .shape .l - c .request .level))) (sym e)
-
-  pub first-none : ℓ ≡ c .shape .l → none ≡ firstRead q p d left
+  pub first-none : ℓ ≡ c .shape .l → none ≡ firstRead q slotOf left
   unfolding firstRead
-  first-none l = sym (ap (firstRead q p d) (same ∙ f .none l))
+  first-none l = sym (ap (firstRead q slotOf) (f .none l))
 
-  pub first-at : ℓ < c .shape .l → (o : Option ℕ) → o ≡ orElse (slotIn ℓ p) (d ℓ) → some (readStep q ℓ o) ≡ firstRead q p d left
+  pub first-at : ℓ < c .shape .l → (o : Option ℕ) → o ≡ slotOf ℓ → some (readStep q ℓ o) ≡ firstRead q slotOf left
   unfolding firstRead
-  first-at l o g = ap (λ o. some (readStep q ℓ o)) g ∙ sym (ap (firstRead q p d) (same ∙ f .some l))
+  first-at l o g = ap (λ o. some (readStep q ℓ o)) g ∙ sym (ap (firstRead q slotOf) (f .some l))
+
+-- ---- A look-up in hand
+module _ (c : Client) (m : List ℕ) (q : ℕ) where
+  abbrev looks : Bool
+  looks = releasedFor (stateOf c m .partition) (stateOf c m .request) q
+
+  pub looks-none : c .request .kind ≡ 0 → looks ≡ false
+  unfolding releasedFor
+  looks-none e = ap (λ o. releasedFor (stateOf c m .partition) o q) (hand-none c m e)
+
+  module _ (n : c .request .kind ≡ 0 → ⊥) where
+    pub looks-held : c .request .found ≡ 0 → looks ≡ false
+    unfolding releasedFor
+    looks-held e = ap (λ o. releasedFor (stateOf c m .partition) o q) (hand-some c m n) ∙ rw (hand-held c m e)
+
+    pub looks-at : (c .request .found ≡ 0 → ⊥) → looks ≡ eqb (stateOf c m .partition (c .request .block)) q
+    unfolding releasedFor
+    looks-at e = ap (λ o. releasedFor (stateOf c m .partition) o q) (hand-some c m n) ∙ rw (hand-released c m e)
 
 -- ---- The front job
 module _ (s : State) (q : ℕ) (l r : List ℕ) (e : l ≡ q ∷ r) where
@@ -197,9 +140,14 @@ module _ (s : State) (q : ℕ) where
   unfolding rebuildStep
   gather-waits e b = sym (rw b) ∙ gather-done e
 
-  pub gather-rebuilds : (t : ℕ) → none ≡ unread s q → any (ofPartition q) (s .outstanding) ≡ false → t ≡ target (s .shape) (s .counter q) → Turn.rebuild q t ≡ gatherStep q (unread s q) (rebuildStep s q)
+  pub gather-stays : none ≡ unread s q → any (ofPartition q) (s .outstanding) ≡ false → releasedFor (s .partition) (s .request) q ≡ true → Turn.idle ≡ gatherStep q (unread s q) (rebuildStep s q)
   unfolding rebuildStep
-  gather-rebuilds t e b f = ap (Turn.rebuild q) f ∙ sym (rw b) ∙ gather-done e
+  gather-stays e b k = sym (rw (b, k)) ∙ gather-done e
+
+  pub gather-rebuilds : (t : ℕ) → none ≡ unread s q → any (ofPartition q) (s .outstanding) ≡ false → releasedFor (s .partition) (s .request) q ≡ false → t ≡ target (s .shape) (s .counter q)
+      → Turn.rebuild q t ≡ gatherStep q (unread s q) (rebuildStep s q)
+  unfolding rebuildStep
+  gather-rebuilds t e b k f = ap (Turn.rebuild q) f ∙ sym (rw (b, k)) ∙ gather-done e
 
   pub write-next : (t : ℕ) → t ≡ target (s .shape) (s .counter q) → s .sent < slots t → Turn.writeNext q t (s .sent) ≡ writeStep s q
   unfolding writeStep

@@ -4,17 +4,18 @@ use client::Found;
 use levels::Spot;
 ghost use mathlib.Core.Path.{_≡_};
 ghost use Prim.Native.Nat.{_-_, _<_};
-ghost use Rattle.lists.specs.Search.{orElse, keep, count};
-ghost use Rattle.rules.specs.Levels.{filled, sources as sourcesOf, target as targetOf};
-ghost use Rattle.rules.specs.Request.{slotIn, dummy};
+ghost use Rattle.lists.specs.Search.{keep, count};
+ghost use Rattle.rules.specs.Levels.{sources as sourcesOf, target as targetOf};
+ghost use Rattle.rules.specs.Request.{costs, slotRead, releasedFor};
 ghost use Rattle.rules.specs.Rebuild.{unread};
 ghost use Rattle.rules.specs.Turn.{decide as decideOf, requestStep, firstRead, jobStep, gatherStep, rebuildStep, writeStep};
 ghost use Rattle.memory.specs.Fits.{shapeOf};
 ghost use Rattle.client.specs.View.{stateOf, foundOf};
 ghost use Rattle.ready.specs.Usable.{Usable};
-ghost use Rattle.deciding.specs.Steps.{stepOf, dueOf, Reads, Placed};
+ghost use Rattle.reading.specs.Slots.{Reads};
+ghost use Rattle.deciding.specs.Steps.{stepOf, dueOf};
 
-// There is no command to send; the request lacks an unread dummy; or the step: partition, level, and but for a rebuild the slot.
+// There is no command to send; the request lacks an unread dummy, or in a source an unread item; or the step: partition, level, and but for a rebuild the slot.
 pub enum Step {
     Idle,
     NoDummy,
@@ -31,31 +32,17 @@ enum Due {
     Nothing,
 }
 
-// The slot to read at level l of partition q: the block's own if its place, the number x, is there, else that of a dummy.
-fn slot(c: Client, m: &[u8], q: usize, l: usize, x: usize) -> Found
-    requires { ⌜ Usable c (now m) × Reads c (now m) q × (l < c .shape .l) × Placed c (now m) x ⌝ }
-    ensures { λ r. ⌜ foundOf r ≡ orElse (slotIn l (stateOf c (now (m .entry)) .place (c .request .block))) (dummy (stateOf c (now (m .entry))) q l) ⌝ }
-{
-    let n = bits::pow2(l + 1);
-    if (n <= x) & (x < 2 * n) {
-        return Found::At(x - n);
-    }
-    levels::dummy(c, m, q, l)
-}
-
-// The read of the first filled level that is left. A block that waits or is nowhere costs dummies.
+// The read of the first level that is left and costs one. A block that waits or is nowhere has its own slot in none.
 fn first_read(c: Client, m: &[u8], q: usize) -> Due
     requires { ⌜ Usable c (now m) × Reads c (now m) q ⌝ }
-    ensures { λ r. ⌜ dueOf r ≡ firstRead q (stateOf c (now (m .entry)) .place (c .request .block)) (dummy (stateOf c (now (m .entry))) q) (keep (filled (stateOf c (now (m .entry)) .counter q)) (count (c .request .level) (c .shape .l - c .request .level))) ⌝ }
+    ensures { λ r. ⌜ dueOf r ≡ firstRead q (slotRead (stateOf c (now (m .entry))) q (stateOf c (now (m .entry)) .place (c .request .block))) (keep (costs (stateOf c (now (m .entry))) q) (count (c .request .level) (c .shape .l - c .request .level))) ⌝ }
 {
-    let levels = c.shape.l;
-    let x = memory::tables::place(c.shape, m, c.request.block);
-    let counter = memory::tables::counter(c.shape, m, q);
-    let l = levels::next_filled(levels, counter, c.request.level);
-    if l == levels {
+    let sources = reading::sources(c, m, q);
+    let l = reading::next_level(c, m, q, sources);
+    if l == c.shape.l {
         return Due::Nothing;
     }
-    let found = slot(c, m, q, l, x);
+    let found = reading::slot(c, m, q, l, sources);
     match found {
         Found::At(i) => Due::Read(q, l, i),
         Found::Nothing => Due::NoDummy,
@@ -78,7 +65,22 @@ fn request_step(c: Client, m: &[u8]) -> Due
     first_read(c, m, q)
 }
 
-// The job's next read; or the rebuild, once nothing of its partition is outstanding.
+// Whether a request that is no longer held is in hand for a block of partition q.
+fn is_released_for(c: Client, m: &[u8], q: usize) -> bool
+    requires { ⌜ Usable c (now m) ⌝ }
+    ensures { λ r. ⌜ r ≡ releasedFor (stateOf c (now (m .entry)) .partition) (stateOf c (now (m .entry)) .request) q ⌝ }
+{
+    let x = c.request;
+    if x.kind == 0 {
+        return false;
+    }
+    if x.found == 0 {
+        return false;
+    }
+    memory::tables::partition(c.shape, m, x.block) == q
+}
+
+// The job's next read; or the rebuild, once nothing of its partition is outstanding and no look-up there is to be collected.
 fn gather_step(c: Client, m: &[u8], q: usize, sources: usize) -> Step
     requires { ⌜ Usable c (now m) × (q < c .shape .p) × (sources ≡ sourcesOf (shapeOf (c .shape)) (stateOf c (now m) .counter q)) ⌝ }
     ensures { λ r. ⌜ stepOf r ≡ gatherStep q (unread (stateOf c (now (m .entry))) q) (rebuildStep (stateOf c (now (m .entry))) q) ⌝ }
@@ -87,7 +89,10 @@ fn gather_step(c: Client, m: &[u8], q: usize, sources: usize) -> Step
     if let Spot::At(l, i) = spot {
         return Step::ReadForJob(q, l, i);
     }
-    if commands::is_busy(c, m, q) {
+    if commands::is_busy(c, m, q, c.out) {
+        return Step::Idle;
+    }
+    if is_released_for(c, m, q) {
         return Step::Idle;
     }
     let t = bits::target(sources, c.shape.l);

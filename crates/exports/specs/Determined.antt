@@ -34,15 +34,15 @@ module _ (c d : Client) (m n : List ℕ) (e : stateOf c m ≡ stateOf d n) where
   unfolding stateOf view
   same-out = sym (length-rows _ (c .out)) ∙ ap (λ (s : State). length (s .outstanding)) e ∙ length-rows _ (d .out)
 
-  same-numbers : (shapeOf (c .shape) ≡ shapeOf (d .shape)) × (c .cursor ≡ d .cursor) × (c .sent ≡ d .sent)
+  same-numbers : (shapeOf (c .shape) ≡ shapeOf (d .shape)) × (c .cursor ≡ d .cursor) × (c .sent ≡ d .sent) × (c .begun ≡ d .begun)
   unfolding stateOf view
-  same-numbers = (ap (λ (s : State). s .shape) e, ap (λ (s : State). s .cursor) e, ap (λ (s : State). s .sent) e)
+  same-numbers = (ap (λ (s : State). s .shape) e, ap (λ (s : State). s .cursor) e, ap (λ (s : State). s .sent) e, ap (λ (s : State). s .begun) e)
 
   same-hand : (c .request .kind ≡ 0 → ⊥) → (d .request .kind ≡ 0 → ⊥) → c .request ≡ d .request
   same-hand x y =
       let f : handOf c m ≡ handOf d n = ap (λ o. Option·getD o (handOf c m)) (sym (hand-some c m x) ∙ ap (λ (s : State). s .request) e ∙ hand-some d n y) in
       let g = same-found (c .request .found) (d .request .found) (ap (λ (r : R.Request). r .found) f) in
-      λ i. record { kind = f i .kind; block = f i .block; next = f i .next; evict = f i .evict; level = f i .level; found = g i }
+      λ i. record { kind = f i .kind; block = f i .block; next = f i .next; evict = f i .evict; level = f i .level; found = g i; awaits = f i .awaits }
 
   same-request : (a : Ask) (r : Request) → Idle a r c → Idle a r d → c .request ≡ d .request
   same-request a r i j = go (ℕ-discrete (c .request .kind) 0)
@@ -62,6 +62,7 @@ module _ (c d : Client) (m n : List ℕ) (e : stateOf c m ≡ stateOf d n) where
         shape = record { n = s .0 k .N; p = s .0 k .P; l = s .0 k .L; b = s .0 k .B; e = s .0 k .E; w = s .0 k .W };
         request = q k;
         jobs = jobs k;
+        begun = s .3 k;
         cursor = s .1 k;
         sent = s .2 k;
         waiting = waiting k;

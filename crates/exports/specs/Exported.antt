@@ -1,4 +1,4 @@
--- What the exported calls' contracts say: the answer, read off one number, and the state, read off 68 bytes, meet the rules.
+-- What the exported calls' contracts say: the answer, read off one number, and the state, read off 76 bytes, meet the rules.
 use mathlib.Core.Path.{_≡_, refl, ap, sym, _∙_, subst}
 use mathlib.Core.Bool.{Bool, true, false}
 use mathlib.Core.List.{List, []}
@@ -31,7 +31,7 @@ use Rattle.codec.specs.Codec.{stateLength, clientOf, reshaped, lowShape, lowCli
 use Rattle.exports.specs.Idle.{Idle, rest-idle}
 use Rattle.exports.specs.Small.{SmallCommand, accepted-small, accepted-found, low-shape, low-client}
 
--- the client that 68 bytes say
+-- the client that 76 bytes say
 abbrev pub clientIn : List ℕ → Client
 clientIn st = clientOf (wordAt st)
 

@@ -47,7 +47,7 @@ module _ (st : List ℕ) where
   low-word k = mod-eq-of-lt (wordAt-lt st k)
 
   low-given : lowRequest given ≡ given
-  low-given = λ i. record { kind = low-word 12 i; block = low-word 14 i; next = low-word 16 i; evict = low-word 18 i; level = low-word 20 i; found = low-word 22 i }
+  low-given = λ i. record { kind = low-word 12 i; block = low-word 14 i; next = low-word 16 i; evict = low-word 18 i; level = low-word 20 i; found = low-word 22 i; awaits = low-word 24 i }
 
   low-unasked : (a : Ask) → lowRequest (unasked a given) ≡ unasked a given
   low-unasked (opening h) = refl
@@ -66,4 +66,4 @@ module _ (st : List ℕ) where
       → given .kind ≡ 0 → progressed (clientOf (wordAt st)) (lowClient d) .request ≡ given
   progress-idle d m m′ e k z =
       let n : d .request .kind ≡ 0 = none-kind d m′ (asked-none (stateOf d m′ .request) (e ∙ ap asked (hand-none (clientOf (wordAt st)) m z))) in
-      ap (λ (r : Request). atLevel (r .level % 65536) given) (k n) ∙ (λ i. atLevel (low-word 20 i) given)
+      ap (λ (r : Request). atLevel (r .level % 65536) (r .awaits % 65536) given) (k n) ∙ (λ i. atLevel (low-word 20 i) (low-word 24 i) given)

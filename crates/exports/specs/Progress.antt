@@ -17,15 +17,15 @@ use Rattle.client.specs.View.{stateOf, view, handBy, requestOf}
 use Rattle.client.specs.Moves.{atLevel}
 use Rattle.codec.specs.Codec.{progressed}
 
--- two requests that ask for the same differ in their level alone
+-- two requests that ask for the same differ in their level and in what they await alone
 module _ (c d : Request) (bs bs′ : List ℕ) where
   abbrev mixed : Request
-  mixed = atLevel (d .level) c
+  mixed = atLevel (d .level) (d .awaits) c
 
   same-hand : asked (some (handBy d bs′)) ≡ asked (some (handBy c bs)) → handBy mixed bs′ ≡ handBy d bs′
   same-hand e =
       let f = sym (ap (λ o. Option·getD o (handBy d bs′)) e) in
-      λ k. record { kind = f k .kind; block = f k .block; bytes = if eqb (f k .kind) write then bs′ else []; next = f k .next; evict = f k .evict; level = d .level; found = f k .found }
+      λ k. record { kind = f k .kind; block = f k .block; bytes = if eqb (f k .kind) write then bs′ else []; next = f k .next; evict = f k .evict; level = d .level; found = f k .found; awaits = d .awaits }
 
   same-request : asked (requestOf d bs′) ≡ asked (requestOf c bs) → requestOf mixed bs′ ≡ requestOf d bs′
   unfolding requestOf isNone

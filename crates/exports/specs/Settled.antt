@@ -1,11 +1,14 @@
 -- A turn and a completion release a request in the bytes of the state, once the rest is stored there.
 use mathlib.Core.Path.{_≡_, refl, ap, sym, _∙_, subst}
+use mathlib.Core.Bool.{false}
 use mathlib.Core.List.{List}
 use Prim.Native.Nat.{ℕ, _%_}
 use native.Mathlib.Nat.{mod-eq-of-lt}
 use native.Mathlib.Decide.{ℕ-discrete}
+use lib.Dec.{eqb}
 use lib.ListN.{length}
 use Rattle.lists.specs.Tables.{put}
+use Rattle.lists.specs.Tests.{if_then_else_}
 use Rattle.rules.specs.Questions.{Ask}
 use Rattle.rules.specs.Request.{release}
 use Rattle.rules.specs.State.{State}
@@ -15,9 +18,9 @@ use Rattle.client.specs.Moves.{atFound, withRequest}
 use Rattle.client.specs.View.{stateOf}
 use Rattle.contract.specs.declared.Answer.{Answer}
 use Rattle.contract.specs.Meets.{Meets}
-use Rattle.releasing.specs.Released.{Released}
+use Rattle.releasing.specs.Released.{Released, not-held}
 use Rattle.releasing.specs.Performs.{Performs, released-meets}
-use Rattle.codec.specs.Codec.{stateLength, clientOf, Between, between-found, Small, packed, answerOf, unpacked}
+use Rattle.codec.specs.Codec.{stateLength, clientOf, withFound, Between, between-found, Small, packed, answerOf, unpacked}
 use Rattle.exports.specs.Exported.{clientIn, lookedAt, Exported, small-accepted, meets-small, meets-refused}
 use Rattle.exports.specs.Idle.{Idle}
 
@@ -26,15 +29,22 @@ pub record ReleasedIn (w : ℕ → ℕ) (m : List ℕ) (w′ : ℕ → ℕ) : Ty
   pub released : Released (clientOf w) m (clientOf w′)
   pub between : Between w w′
 
--- where the block was found is stored
-pub found-stored : (st m : List ℕ) (d : Client) (w′ : ℕ → ℕ) → Released (clientIn st) m d → w′ ≡ put 22 (d .request .found % 65536) (wordAt st) → ReleasedIn (wordAt st) m w′
-found-stored st m d w′ r e = record { released = subst (Released (clientIn st) m) (sym same) r; between = subst (Between (wordAt st)) (sym e) (between-found (d .request .found % 65536) (wordAt st)) }
+-- nothing changes where none is held
+pub none-held : (w : ℕ → ℕ) (m : List ℕ) → (if eqb (clientOf w .request .kind) 0 then false else eqb (clientOf w .request .found) 0) ≡ false → ReleasedIn w m w
+none-held w m e = record { released = not-held (clientOf w) m e; between = λ i. refl }
+
+-- where the block was found and what the request awaits is stored
+pub found-stored : (st m : List ℕ) (d : Client) (w′ : ℕ → ℕ) → Released (clientIn st) m d → w′ ≡ withFound (d .request .found) (d .request .awaits) (wordAt st) → ReleasedIn (wordAt st) m w′
+found-stored st m d w′ r e =
+    record { released = subst (Released (clientIn st) m) (sym same) r; between = subst (Between (wordAt st)) (sym e) (between-found (d .request .found) (d .request .awaits) (wordAt st) (wordAt st) (λ i. refl)) }
   where
-    read : clientOf (put 22 (d .request .found % 65536) (wordAt st)) ≡ withRequest (atFound (d .request .found % 65536) (clientIn st .request)) (clientIn st)
+    read : clientOf (withFound (d .request .found) (d .request .awaits) (wordAt st)) ≡ withRequest (atFound (d .request .found % 65536) (d .request .awaits % 65536) (clientIn st .request)) (clientIn st)
     read = unfold put in refl
 
     same : clientOf w′ ≡ d
-    same = ap clientOf e ∙ read ∙ ap (λ x. withRequest (atFound x (clientIn st .request)) (clientIn st)) (mod-eq-of-lt (r .low (wordAt-lt st 22))) ∙ sym (r .found)
+    same =
+        ap clientOf e ∙ read ∙ ap (λ x. withRequest (atFound x (d .request .awaits % 65536) (clientIn st .request)) (clientIn st)) (mod-eq-of-lt (r .low (wordAt-lt st 22)))
+        ∙ ap (λ n. withRequest (atFound (d .request .found) n (clientIn st .request)) (clientIn st)) (mod-eq-of-lt (r .few (wordAt-lt st 24))) ∙ sym (r .found)
 
 -- `stored` makes the words after an accepted call of those before it, and then a request is released
 pub record HandedBackReleased (stored : (ℕ → ℕ) → ℕ → ℕ) (r : Answer) (m : List ℕ) (u : ℕ) (st st′ : List ℕ) : Type 0 where

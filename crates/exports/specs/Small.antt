@@ -18,7 +18,7 @@ use Rattle.rules.specs.State.{State, Command, cmd, Found, foundNowhere, foundCa
 use Rattle.rules.specs.State as R
 use Rattle.rules.specs.Ranges.{isKind}
 use Rattle.rules.specs.Turn.{Step, idle, noDummy, readForRequest, readForJob, rebuild, writeNext, decide, command}
-use Rattle.rules.specs.Questions.{Ask, opening, request, turn, completion, collect, questions, bounds}
+use Rattle.rules.specs.Questions.{Ask, opening, request, turn, completion, collect, questions}
 use Rattle.rules.specs.Run.{sentCommand, handedFound}
 use Rattle.rules.specs.Laws.Answers.{Passed}
 use Rattle.rules.specs.Laws.Range.{InRange, FoundIn, RequestIn, JobsIn}
@@ -125,6 +125,15 @@ accepted-found s collect m ws n p =
 low : (x : ℕ) → x < 65536 → x % 65536 ≡ x
 low x l = mod-eq-of-lt l
 
+others-le : (h : Shape) → within h ≡ true → (h .B ≤ 512) × (h .E ≤ h .N) × (h .W ≤ 32)
+unfolding within between
+others-le h w =
+    let y = every-yes _ w in (
+      leb-true (h .B) 512 (and-r (leb 1 (h .B)) (leb (h .B) 512) (y .1 .1 .1 .0)),
+      leb-true (h .E) (h .N) (and-r (leb 1 (h .E)) (leb (h .E) (h .N)) (y .1 .1 .1 .1 .0)),
+      leb-true (h .W) 32 (and-r (leb 1 (h .W)) (leb (h .W) 32) (y .1 .1 .1 .1 .1 .0)),
+    )
+
 -- a request that is not in hand is none, whatever its numbers; the numbers of one in hand are small
 request-low : (r : Request) (bs : List ℕ) (h : Shape) → within h ≡ true → IfSome (RequestIn h) (requestOf r bs) → requestOf (lowRequest r) bs ≡ requestOf r bs
 unfolding requestOf
@@ -142,6 +151,7 @@ request-low r bs h w f = go (eqb (r .kind) 0) refl f
         let p = partitions-le h w in
         let l = levels-le h w in
         let x = range-found (h .L) (r .found) (f .found) in
+        let y = others-le h w in
         rw (
           low (r .kind) (omega arith),
           e,
@@ -150,19 +160,11 @@ request-low r bs h w f = go (eqb (r .kind) 0) refl f
           low (r .evict) (omega (arith, f .evict)),
           low (r .level) (omega (arith, f .level)),
           low (r .found) (omega arith),
+          low (r .awaits) (omega (arith, f .awaits, y)),
         )
       where
         kind-le : RequestIn h (handBy r bs) → r .kind ≤ 2
         kind-le f = unfold isKind between in (leb-true (r .kind) 2 (and-r (leb 1 (r .kind)) (leb (r .kind) 2) (f .kind)))
-
-others-le : (h : Shape) → within h ≡ true → (h .B ≤ 512) × (h .E ≤ h .N) × (h .W ≤ 32)
-unfolding within between
-others-le h w =
-    let y = every-yes _ w in (
-      leb-true (h .B) 512 (and-r (leb 1 (h .B)) (leb (h .B) 512) (y .1 .1 .1 .0)),
-      leb-true (h .E) (h .N) (and-r (leb 1 (h .E)) (leb (h .E) (h .N)) (y .1 .1 .1 .1 .0)),
-      leb-true (h .W) 32 (and-r (leb 1 (h .W)) (leb (h .W) 32) (y .1 .1 .1 .1 .1 .0)),
-    )
 
 jobs-le : (qs : List ℕ) (o : Option R.Request) → JobsIn qs o → length qs ≤ 64
 jobs-le qs none h = h
@@ -192,6 +194,7 @@ low-client c m f =
     let out : c .out ≤ c .shape .w = omega (arith, f .free, length-rows (λ i. commandBy h (tablesOf h m .kinds i) (tablesOf h m .spots i)) (c .out)) in
     let cells : slots (c .shape .l) ≤ 512 = pow-mono {i = c .shape .l + 1} {j = 9} (omega arith) in
     let writes : 2 ^ c .shape .l ≤ 256 = pow-mono {i = c .shape .l} {j = 8} (omega arith) in
+    let begun : c .begun ≤ 1 = f .begun in
     let cursor : c .cursor ≤ slots (c .shape .l) - 2 = f .cursor in
     let sent : c .sent ≤ 2 ^ c .shape .l = f .sent in
     rw (
@@ -202,6 +205,7 @@ low-client c m f =
       low (c .shape .e) (omega arith),
       low (c .shape .w) (omega arith),
       low (c .jobs) (omega arith),
+      low (c .begun) (omega arith),
       low (c .cursor) (omega arith),
       low (c .sent) (omega arith),
       low (c .waiting) (omega arith),

@@ -65,10 +65,10 @@ complete-waiting s c bs = go (eqb (c .kind) 1) (holder s (c .partition) (c .leve
     go false b (q ∷ qs) = ended q qs (jobDone s′ q)
 
 -- that of a read
-pub read-done-stays : (s : State) (c : Command) (bs : List ℕ) → c .kind ≡ 1 → (complete c bs s .queue ≡ s .queue) × (complete c bs s .cursor ≡ s .cursor) × (complete c bs s .sent ≡ s .sent)
+pub read-done-stays : (s : State) (c : Command) (bs : List ℕ) → c .kind ≡ 1 → (complete c bs s .queue ≡ s .queue) × (complete c bs s .cursor ≡ s .cursor) × (complete c bs s .sent ≡ s .sent) × (complete c bs s .begun ≡ s .begun)
 unfolding complete completeRead completed gatherBytes
 read-done-stays s c bs e = rw (eq-eqb (c .kind) 1 e) (go (holder s (c .partition) (c .level) (c .slot)))
   where
-    go : (b : Option ℕ) → (gatherBytes b bs (completed c s) .queue ≡ s .queue) × (gatherBytes b bs (completed c s) .cursor ≡ s .cursor) × (gatherBytes b bs (completed c s) .sent ≡ s .sent)
-    go none = (refl, refl, refl)
-    go (some b) = (refl, refl, refl)
+    go : (b : Option ℕ) → (gatherBytes b bs (completed c s) .queue ≡ s .queue) × (gatherBytes b bs (completed c s) .cursor ≡ s .cursor) × (gatherBytes b bs (completed c s) .sent ≡ s .sent) × (gatherBytes b bs (completed c s) .begun ≡ s .begun)
+    go none = (refl, refl, refl, refl)
+    go (some b) = (refl, refl, refl, refl)

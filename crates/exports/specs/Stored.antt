@@ -1,7 +1,7 @@
 -- A turn and a completion store the numbers that they change, and the bytes then say the same as if all that tell how far the client is were stored. So
 -- they stand for the state that is left before a request is released.
 use mathlib.Core.Path.{_≡_, refl, ap, sym, _∙_, subst}
-use mathlib.Core.Bool.{Bool, true, false}
+use mathlib.Core.Bool.{Bool, true, false, true≢false}
 use mathlib.Core.List.{List, []}
 use mathlib.Core.Option.{Option, none, some}
 use Prim.Native.Nat.{ℕ, _%_}
@@ -16,7 +16,7 @@ use Rattle.rules.specs.Draws.{draws}
 use Rattle.rules.specs.Laws.Answers.{opens}
 use Rattle.rules.specs.Laws.Asked.{asked, turn-asked, completion-asked}
 use Rattle.rules.specs.Laws.Range.{InRange}
-use Rattle.rules.specs.Laws.Shapes.{act-shape, complete-keeps}
+use Rattle.rules.specs.Laws.Shapes.{act-shape, unawaited, complete-keeps}
 use Rattle.rules.specs.Questions.{Ask, turn, completion, bounds, ready}
 use Rattle.rules.specs.Run.{act, perform, sentCommand, numbersOf}
 use Rattle.rules.specs.Shape.{Shape}
@@ -25,7 +25,9 @@ use Rattle.rules.specs.State.{State, Command, read}
 use Rattle.rules.specs.Turn.{decide, command}
 use Rattle.memory.specs.Words.{wordAt}
 use Rattle.client.specs.declared.Client.{Client}
-use Rattle.client.specs.View.{stateOf, view}
+use Rattle.client.specs.declared.Request.{Request}
+use Rattle.client.specs.View.{stateOf, view, handBy}
+use Rattle.rules.specs.Completion.{complete}
 use Rattle.client.specs.Readings.{jobs-count, waiting-count, hand-none, hand-some}
 use Rattle.tape.specs.Tape.{wordsOf}
 use Rattle.codec.specs.Codec.{stateLength, clientOf, withTurn, withCompletion, between-turn, between-completion, progressed, lowShape, lowClient, Small}
@@ -48,20 +50,28 @@ sent-is : (c : Client) (m : List ℕ) → stateOf c m .sent ≡ c .sent
 unfolding stateOf view
 sent-is c m = refl
 
--- the level of a request in hand
-abbrev levelIn : Option R.Request → ℕ
-levelIn none = 0
-levelIn (some r) = r .level
+begun-is : (c : Client) (m : List ℕ) → stateOf c m .begun ≡ c .begun
+unfolding stateOf view
+begun-is c m = refl
 
--- two clients whose requests in hand have the same level; while there is none, its numbers stay
-same-level : (c d : Client) (m m′ : List ℕ) → stateOf d m′ .request ≡ stateOf c m .request → (d .request .kind ≡ 0 → d .request ≡ c .request) → d .request .level ≡ c .request .level
-unfolding isNone
-same-level c d m m′ e i = go (ℕ-discrete (d .request .kind) 0) (ℕ-discrete (c .request .kind) 0)
+-- a number of a request in hand
+abbrev numberIn : (R.Request → ℕ) → Option R.Request → ℕ
+numberIn g none = 0
+numberIn g (some r) = g r
+
+-- two clients whose requests in hand have the same number; while there is none, its numbers stay
+same-number : (f : Request → ℕ) (g : R.Request → ℕ) → ((r : Request) (bs : List ℕ) → g (handBy r bs) ≡ f r) → (c d : Client) (m m′ : List ℕ) → isNone (stateOf d m′ .request) ≡ isNone (stateOf c m .request)
+    → numberIn g (stateOf d m′ .request) ≡ numberIn g (stateOf c m .request) → (d .request .kind ≡ 0 → d .request ≡ c .request) → f (d .request) ≡ f (c .request)
+same-number f g h c d m m′ e w i = go (ℕ-discrete (d .request .kind) 0) (ℕ-discrete (c .request .kind) 0)
   where
-    go : Dec (d .request .kind ≡ 0) → Dec (c .request .kind ≡ 0) → d .request .level ≡ c .request .level
-    go (yes z) x = ap (λ r. r .level) (i z)
-    go (no n) (no x) = ap levelIn (sym (hand-some d m′ n) ∙ e ∙ hand-some c m x)
-    go (no n) (yes z) = absurd (n (none-kind d m′ (e ∙ hand-none c m z)))
+    none-too : (o : Option R.Request) → isNone o ≡ true → o ≡ none
+    none-too none k = refl
+    none-too (some r) k = absurd (true≢false (sym (unfold isNone in k)))
+
+    go : Dec (d .request .kind ≡ 0) → Dec (c .request .kind ≡ 0) → f (d .request) ≡ f (c .request)
+    go (yes z) x = ap f (i z)
+    go (no n) (no x) = sym (h (d .request) _) ∙ ap (numberIn g) (sym (hand-some d m′ n)) ∙ w ∙ ap (numberIn g) (hand-some c m x) ∙ h (c .request) _
+    go (no n) (yes z) = absurd (n (none-kind d m′ (none-too (stateOf d m′ .request) (e ∙ ap isNone (hand-none c m z) ∙ unfold isNone in refl))))
 
 module _ (st m tape b : List ℕ) (a : Ask) (r : Answer) (m′ b′ : List ℕ) (k : Performed (clientOf (wordAt st)) (stateOf (clientOf (wordAt st)) m) a m tape b r m′ b′) where
   abbrev c : Client
@@ -74,24 +84,37 @@ module _ (st m tape b : List ℕ) (a : Ask) (r : Answer) (m′ b′ : List ℕ) 
   js = numbersOf (draws (bounds s a) (wordsOf tape))
 
   -- counts of unchanged lists, and numbers of the bytes, are read again
-  same-jobs : perform s a js .queue ≡ s .queue → wordAt st 24 ≡ r .client .jobs % 65536
-  same-jobs e = sym (ap (λ x. x % 65536) (sym (jobs-count (r .client) m′) ∙ ap (λ (x : State). length (x .queue)) (k .state) ∙ ap length e ∙ jobs-count c m) ∙ low-word st 24)
+  same-jobs : perform s a js .queue ≡ s .queue → wordAt st 26 ≡ r .client .jobs % 65536
+  same-jobs e = sym (ap (λ x. x % 65536) (sym (jobs-count (r .client) m′) ∙ ap (λ (x : State). length (x .queue)) (k .state) ∙ ap length e ∙ jobs-count c m) ∙ low-word st 26)
 
-  same-waiting : perform s a js .waiting ≡ s .waiting → wordAt st 30 ≡ r .client .waiting % 65536
-  same-waiting e = sym (ap (λ x. x % 65536) (sym (waiting-count (r .client) m′) ∙ ap (λ (x : State). length (x .waiting)) (k .state) ∙ ap length e ∙ waiting-count c m) ∙ low-word st 30)
+  same-waiting : perform s a js .waiting ≡ s .waiting → wordAt st 34 ≡ r .client .waiting % 65536
+  same-waiting e = sym (ap (λ x. x % 65536) (sym (waiting-count (r .client) m′) ∙ ap (λ (x : State). length (x .waiting)) (k .state) ∙ ap length e ∙ waiting-count c m) ∙ low-word st 34)
 
-  same-cursor : perform s a js .cursor ≡ s .cursor → wordAt st 26 ≡ r .client .cursor % 65536
+  same-cursor : perform s a js .cursor ≡ s .cursor → wordAt st 30 ≡ r .client .cursor % 65536
   same-cursor e =
       let g = sym (cursor-is (r .client) m′) ∙ ap (λ (x : State). x .cursor) (k .state) ∙ e ∙ cursor-is c m in
-      sym (ap (λ x. x % 65536) g ∙ low-word st 26)
+      sym (ap (λ x. x % 65536) g ∙ low-word st 30)
 
-  same-sent : perform s a js .sent ≡ s .sent → wordAt st 28 ≡ r .client .sent % 65536
+  same-sent : perform s a js .sent ≡ s .sent → wordAt st 32 ≡ r .client .sent % 65536
   same-sent e =
       let g = sym (sent-is (r .client) m′) ∙ ap (λ (x : State). x .sent) (k .state) ∙ e ∙ sent-is c m in
+      sym (ap (λ x. x % 65536) g ∙ low-word st 32)
+
+  same-begun : perform s a js .begun ≡ s .begun → wordAt st 28 ≡ r .client .begun % 65536
+  same-begun e =
+      let g = sym (begun-is (r .client) m′) ∙ ap (λ (x : State). x .begun) (k .state) ∙ e ∙ begun-is c m in
       sym (ap (λ x. x % 65536) g ∙ low-word st 28)
+
+  -- numbers of the request that are the same in hand
+  same-asked : (f : Request → ℕ) (g : R.Request → ℕ) → ((r : Request) (bs : List ℕ) → g (handBy r bs) ≡ f r) → unasked a (c .request) ≡ c .request
+      → isNone (perform s a js .request) ≡ isNone (s .request) → numberIn g (perform s a js .request) ≡ numberIn g (s .request) → f (r .client .request) ≡ f (c .request)
+  same-asked f g h n e w = same-number f g h c (r .client) m m′ (ap (λ (x : State). isNone (x .request)) (k .state) ∙ e) (ap (λ (x : State). numberIn g (x .request)) (k .state) ∙ w) (λ z. k .idle z ∙ n)
 
   level-kept : r .client .request .level ≡ c .request .level → wordAt st 20 ≡ r .client .request .level % 65536
   level-kept e = sym (ap (λ x. x % 65536) e ∙ low-word st 20)
+
+  awaits-kept : r .client .request .awaits ≡ c .request .awaits → wordAt st 24 ≡ r .client .request .awaits % 65536
+  awaits-kept e = sym (ap (λ x. x % 65536) e ∙ low-word st 24)
 
 module _ (st m tape b : List ℕ) (r : Answer) (m′ b′ : List ℕ) (k : Performed (clientOf (wordAt st)) (stateOf (clientOf (wordAt st)) m) turn m tape b r m′ b′) where
   abbrev d : Client
@@ -108,33 +131,35 @@ module _ (st m tape b : List ℕ) (r : Answer) (m′ b′ : List ℕ) (k : Perfo
   js₀ = js st m tape b turn r m′ b′ k
 
   abbrev w : ℕ → ℕ
-  w = put 32 (d .out % 65536) (wordAt st)
+  w = put 28 (d .begun % 65536) (put 36 (d .out % 65536) (wordAt st))
 
-  kept-jobs : wordAt st 24 ≡ d .jobs % 65536
+  kept-jobs : wordAt st 26 ≡ d .jobs % 65536
   unfolding perform
   kept-jobs = same-jobs st m tape b turn r m′ b′ k (step-queue s₀ (decide s₀) js₀)
 
-  turn-read : r .kind ≡ 1 → clientOf (put 26 (d .cursor % 65536) (put 20 (d .request .level % 65536) w)) ≡ progressed (clientOf (wordAt st)) (lowClient d)
+  turn-read : r .kind ≡ 1 → clientOf (put 30 (d .cursor % 65536) (put 24 (d .request .awaits % 65536) (put 20 (d .request .level % 65536) w))) ≡ progressed (clientOf (wordAt st)) (lowClient d)
   unfolding put perform
   turn-read e =
       let f = read-stays s₀ (decide s₀) js₀ (sym sent-kind ∙ e) in
       let x = same-sent st m tape b turn r m′ b′ k (f .0) in
       let y = same-waiting st m tape b turn r m′ b′ k (f .1) in
       let g = progressed (clientOf (wordAt st)) (lowClient d) in
-      λ i. record { shape = g .shape; request = g .request; jobs = kept-jobs i; cursor = g .cursor; sent = x i; waiting = y i; out = g .out }
+      λ i. record { shape = g .shape; request = g .request; jobs = kept-jobs i; begun = g .begun; cursor = g .cursor; sent = x i; waiting = y i; out = g .out }
 
-  turn-write : (r .kind ≡ 1 → ⊥) → clientOf (put 30 (d .waiting % 65536) (put 28 (d .sent % 65536) w)) ≡ progressed (clientOf (wordAt st)) (lowClient d)
+  turn-write : (r .kind ≡ 1 → ⊥) → clientOf (put 34 (d .waiting % 65536) (put 32 (d .sent % 65536) w)) ≡ progressed (clientOf (wordAt st)) (lowClient d)
   unfolding put perform
   turn-write n =
       let f = write-stays s₀ (decide s₀) js₀ (λ e. n (sent-kind ∙ e)) in
       let x = same-cursor st m tape b turn r m′ b′ k (f .0) in
-      let left₀ = ap (λ (x : State). x .request) (k .state) in
-      let y = level-kept st m tape b turn r m′ b′ k (same-level (clientOf (wordAt st)) d m m′ (left₀ ∙ f .1) (k .idle)) in
+      let none₀ = ap isNone (f .1) in
+      let y = level-kept st m tape b turn r m′ b′ k (same-asked st m tape b turn r m′ b′ k (λ r. r .level) (λ r. r .level) (λ r bs. refl) refl none₀ (ap (numberIn (λ r. r .level)) (f .1))) in
+      let z = awaits-kept st m tape b turn r m′ b′ k (same-asked st m tape b turn r m′ b′ k (λ r. r .awaits) (λ r. r .awaits) (λ r bs. refl) refl none₀ (ap (numberIn (λ r. r .awaits)) (f .1))) in
       let g = progressed (clientOf (wordAt st)) (lowClient d) in
       λ i. record {
         shape = g .shape;
-        request = record { kind = g .request .kind; block = g .request .block; next = g .request .next; evict = g .request .evict; level = y i; found = g .request .found };
+        request = record { kind = g .request .kind; block = g .request .block; next = g .request .next; evict = g .request .evict; level = y i; found = g .request .found; awaits = z i };
         jobs = kept-jobs i;
+        begun = g .begun;
         cursor = x i;
         sent = g .sent;
         waiting = g .waiting;
@@ -144,9 +169,19 @@ module _ (st m tape b : List ℕ) (r : Answer) (m′ b′ : List ℕ) (k : Perfo
   pub turn-same : clientOf (withTurn (r .kind) d (wordAt st)) ≡ progressed (clientOf (wordAt st)) (lowClient d)
   turn-same = go (eqb (r .kind) read) refl
     where
-      go : (t : Bool) → eqb (r .kind) read ≡ t → clientOf (if t then put 26 (d .cursor % 65536) (put 20 (d .request .level % 65536) w) else put 30 (d .waiting % 65536) (put 28 (d .sent % 65536) w)) ≡ progressed (clientOf (wordAt st)) (lowClient d)
+      go : (t : Bool) → eqb (r .kind) read ≡ t → clientOf (if t then put 30 (d .cursor % 65536) (put 24 (d .request .awaits % 65536) (put 20 (d .request .level % 65536) w)) else put 34 (d .waiting % 65536) (put 32 (d .sent % 65536) w)) ≡ progressed (clientOf (wordAt st)) (lowClient d)
       go true e = turn-read (eqb-true (r .kind) read e)
       go false e = turn-write (eqb-false (r .kind) read e)
+
+-- what a request awaits is no matter of these
+none-unawaited : (o : Option R.Request) → isNone (unawaited o) ≡ isNone o
+unfolding isNone
+none-unawaited none = refl
+none-unawaited (some r) = refl
+
+level-unawaited : (o : Option R.Request) → numberIn (λ r. r .level) (unawaited o) ≡ numberIn (λ r. r .level) o
+level-unawaited none = refl
+level-unawaited (some r) = refl
 
 module _ (st m b : List ℕ) (x : Command) (bs : List ℕ) (r : Answer) (m′ b′ : List ℕ) (k : Performed (clientOf (wordAt st)) (stateOf (clientOf (wordAt st)) m) (completion x bs) m [] b r m′ b′) where
   abbrev e : Client
@@ -156,9 +191,9 @@ module _ (st m b : List ℕ) (x : Command) (bs : List ℕ) (r : Answer) (m′ b�
   s₁ = s st m [] b (completion x bs) r m′ b′ k
 
   abbrev v : ℕ → ℕ
-  v = put 32 (e .out % 65536) (wordAt st)
+  v = put 24 (e .request .awaits % 65536) (put 36 (e .out % 65536) (wordAt st))
 
-  kept-waiting : wordAt st 30 ≡ e .waiting % 65536
+  kept-waiting : wordAt st 34 ≡ e .waiting % 65536
   unfolding perform
   kept-waiting = same-waiting st m [] b (completion x bs) r m′ b′ k (complete-waiting s₁ x bs)
 
@@ -166,8 +201,10 @@ module _ (st m b : List ℕ) (x : Command) (bs : List ℕ) (r : Answer) (m′ b�
   unfolding perform
   kept-level =
       let f = ap (λ (y : Shape × Option R.Request). y .1) (complete-keeps s₁ x bs) in
-      let left₁ = ap (λ (y : State). y .request) (k .state) in
-      level-kept st m [] b (completion x bs) r m′ b′ k (same-level (clientOf (wordAt st)) e m m′ (left₁ ∙ f) (k .idle))
+      let o = complete x bs s₁ .request in
+      let none₁ = sym (none-unawaited o) ∙ ap isNone f ∙ none-unawaited (s₁ .request) in
+      let same₁ = sym (level-unawaited o) ∙ ap (numberIn (λ r. r .level)) f ∙ level-unawaited (s₁ .request) in
+      level-kept st m [] b (completion x bs) r m′ b′ k (same-asked st m [] b (completion x bs) r m′ b′ k (λ r. r .level) (λ r. r .level) (λ r bs. refl) refl none₁ same₁)
 
   read-completed : x .kind ≡ 1 → clientOf v ≡ progressed (clientOf (wordAt st)) (lowClient e)
   unfolding put perform
@@ -176,25 +213,28 @@ module _ (st m b : List ℕ) (x : Command) (bs : List ℕ) (r : Answer) (m′ b�
       let jobs = same-jobs st m [] b (completion x bs) r m′ b′ k (f .0) in
       let cursor = same-cursor st m [] b (completion x bs) r m′ b′ k (f .1) in
       let sent = same-sent st m [] b (completion x bs) r m′ b′ k (f .2) in
+      let begun = same-begun st m [] b (completion x bs) r m′ b′ k (f .3) in
       let g = progressed (clientOf (wordAt st)) (lowClient e) in
       λ i. record {
         shape = g .shape;
-        request = record { kind = g .request .kind; block = g .request .block; next = g .request .next; evict = g .request .evict; level = kept-level i; found = g .request .found };
+        request = record { kind = g .request .kind; block = g .request .block; next = g .request .next; evict = g .request .evict; level = kept-level i; found = g .request .found; awaits = g .request .awaits };
         jobs = jobs i;
+        begun = begun i;
         cursor = cursor i;
         sent = sent i;
         waiting = kept-waiting i;
         out = g .out;
       }
 
-  write-completed : clientOf (put 28 (e .sent % 65536) (put 26 (e .cursor % 65536) (put 24 (e .jobs % 65536) v))) ≡ progressed (clientOf (wordAt st)) (lowClient e)
+  write-completed : clientOf (put 32 (e .sent % 65536) (put 30 (e .cursor % 65536) (put 28 (e .begun % 65536) (put 26 (e .jobs % 65536) v)))) ≡ progressed (clientOf (wordAt st)) (lowClient e)
   unfolding put
   write-completed =
       let g = progressed (clientOf (wordAt st)) (lowClient e) in
       λ i. record {
         shape = g .shape;
-        request = record { kind = g .request .kind; block = g .request .block; next = g .request .next; evict = g .request .evict; level = kept-level i; found = g .request .found };
+        request = record { kind = g .request .kind; block = g .request .block; next = g .request .next; evict = g .request .evict; level = kept-level i; found = g .request .found; awaits = g .request .awaits };
         jobs = g .jobs;
+        begun = g .begun;
         cursor = g .cursor;
         sent = g .sent;
         waiting = kept-waiting i;
@@ -204,7 +244,7 @@ module _ (st m b : List ℕ) (x : Command) (bs : List ℕ) (r : Answer) (m′ b�
   pub completion-same : clientOf (withCompletion (x .kind) e (wordAt st)) ≡ progressed (clientOf (wordAt st)) (lowClient e)
   completion-same = go (eqb (x .kind) read) refl
     where
-      go : (t : Bool) → eqb (x .kind) read ≡ t → clientOf (if t then v else put 28 (e .sent % 65536) (put 26 (e .cursor % 65536) (put 24 (e .jobs % 65536) v))) ≡ progressed (clientOf (wordAt st)) (lowClient e)
+      go : (t : Bool) → eqb (x .kind) read ≡ t → clientOf (if t then v else put 32 (e .sent % 65536) (put 30 (e .cursor % 65536) (put 28 (e .begun % 65536) (put 26 (e .jobs % 65536) v)))) ≡ progressed (clientOf (wordAt st)) (lowClient e)
       go true y = read-completed (eqb-true (x .kind) read y)
       go false y = write-completed
 

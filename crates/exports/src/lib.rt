@@ -1,4 +1,4 @@
-// The five calls, and the page of a store, for a host program: numbers and byte slices. The state is 68 bytes, the tape pairs of bytes, low byte
+// The five calls, and the page of a store, for a host program: numbers and byte slices. The state is 76 bytes, the tape pairs of bytes, low byte
 // first; the answer is one number (see codec::pack). Every value of every number is answered; nothing is required.
 use client::Client;
 use codec::STATE;
@@ -45,17 +45,15 @@ fn hand_back(state: &mut [u8], r: Answer) -> u64
     codec::pack(r)
 }
 
-// A held request that no job holds any longer is released, in the bytes of the state: then its numbers need not be kept while the call does the rest.
+// A held request that nothing holds any longer is released, in the bytes of the state: then its numbers need not be kept while the call does the rest.
+// Whoever calls it asks first whether one is held: mostly none is, and the compiler puts that question in place, but not this function.
 fn release(state: &mut [u8], memory: &[u8])
     requires { ⌜ (length (now state) ≡ stateLength) × (ready (stateOf (clientOf (wordAt (now state))) (now memory)) (length (now memory)) ≡ true) ⌝ }
     ensures { λ _. ⌜ ReleasedIn (wordAt (now (state .entry))) (now (memory .entry)) (wordAt (now (state .exit))) ⌝ }
 {
-    if !codec::is_held(state) {
-        return;
-    }
     let c = codec::decode(state);
     let d = releasing::release(c, memory);
-    codec::set_found(state, d.request.found);
+    codec::set_found(state, d.request.found, d.request.awaits);
 }
 
 // A turn changes what the command that it sends says.
@@ -67,6 +65,9 @@ fn hand_back_turn(state: &mut [u8], memory: &[u8], r: Answer) -> u64
         return codec::pack(r);
     }
     codec::encode_turn(state, r.client, r.kind);
+    if !codec::is_held(state) {
+        return codec::pack(r);
+    }
     release(state, memory);
     codec::pack(r)
 }
@@ -80,6 +81,9 @@ fn hand_back_completion(state: &mut [u8], memory: &[u8], r: Answer, kind: usize)
         return codec::pack(r);
     }
     codec::encode_completion(state, r.client, kind);
+    if !codec::is_held(state) {
+        return codec::pack(r);
+    }
     release(state, memory);
     codec::pack(r)
 }

@@ -1,8 +1,8 @@
 -- What the calls leave as it was.
-use mathlib.Core.Path.{_≡_, refl, ap}
+use mathlib.Core.Path.{_≡_, refl}
 use mathlib.Core.Bool.{Bool, true, false}
 use mathlib.Core.List.{List, [], _∷_}
-use mathlib.Core.Option.{Option, none, some}
+use mathlib.Core.Option.{Option, none, some, Option·map}
 use Prim.Native.Nat.{ℕ}
 use lib.Dec.{eqb}
 use Rattle.lists.specs.Tests.{if_then_else_}
@@ -12,6 +12,8 @@ use Rattle.rules.specs.Completion.{complete}
 use Rattle.rules.specs.Run.{act}
 use Rattle.rules.specs.Laws.Answers.{opens}
 use Rattle.rules.specs.Laws.Shapes
+use Rattle.rules.specs.Laws.Shapes.{unawaited}
+use Rattle.rules.specs.Request
 use Rattle.rules.specs.State.{State, Command, Place, Request}
 use Rattle.rules.specs.Blocks
 use Rattle.rules.specs.Shape.{Shape}
@@ -19,7 +21,7 @@ use Rattle.hiding.specs.Machines.Public.{Later, later-request, later-tur
 
 -- ---- a completion
 
--- what it leaves of a state
+-- what it leaves of a state: of the request all but what it awaits
 pub record Rest : Type 0 where
   pub shape : Shape
   pub partition : ℕ → ℕ
@@ -39,7 +41,7 @@ restOf s = record {
   order = s .order;
   mark = s .mark;
   holds = s .holds;
-  request = s .request;
+  request = unawaited (s .request);
 }
 
 pub complete-rest : (s : State) (c : Command) (bs : List ℕ) → restOf (complete c bs s) ≡ restOf s
@@ -49,14 +51,21 @@ complete-rest s c bs = go (eqb (c .kind) 1) (Blocks.holder s (c .partition) (c .
     s′ : State
     s′ = Completion.completed c s
 
+    less : (o : Option Request) → unawaited (Option·map (Completion.awaitsLess c (s .outstanding)) o) ≡ unawaited o
+    less none = refl
+    less (some r) = refl
+
+    first : restOf s′ ≡ restOf s
+    first = rw (less (s .request))
+
     ended : (q : ℕ) (qs : List ℕ) (t : Bool) → restOf (if t then Completion.endJob q qs s′ else s′) ≡ restOf s
-    ended q qs true = refl
-    ended q qs false = refl
+    ended q qs true = first
+    ended q qs false = first
 
     go : (t : Bool) (b : Option ℕ) (qs : List ℕ) → restOf (if t then Completion.gatherBytes b bs s′ else Completion.finishJob qs s′) ≡ restOf s
-    go true none qs = refl
-    go true (some b) qs = refl
-    go false b [] = refl
+    go true none qs = first
+    go true (some b) qs = first
+    go false b [] = first
     go false b (q ∷ qs) = ended q qs (Completion.jobDone s′ q)
 
 -- ---- no later call changes the shape

@@ -4,19 +4,20 @@ use memory::tables::Table;
 ghost use mathlib.Core.Path.{_≡_};
 ghost use mathlib.Core.List.{_∷_, [], _++_};
 ghost use Prim.Native.Nat.{_+_, _-_, _<_, _≤_};
+ghost use lib.ListN.{drop};
 ghost use Rattle.lists.specs.Search.{member};
 ghost use Rattle.rules.specs.Setters.{setQueue};
 ghost use Rattle.client.specs.View.{stateOf};
 ghost use Rattle.client.specs.Rows.{dropAt};
 ghost use Rattle.client.specs.Moves.{withJobs, Room, Stands};
 
-// Whether a job for q is queued or running.
-pub fn is_queued(c: Client, m: &[u8], q: usize) -> bool
-    requires { ⌜ Room c (now m) × (c .jobs ≤ 64) ⌝ }
-    ensures { λ r. ⌜ r ≡ member q (stateOf c (now (m .entry)) .queue) ⌝ }
+// Whether a job for q is among those from place `from` on; a job that runs is the front, place 0.
+pub fn is_queued(c: Client, m: &[u8], q: usize, from: usize) -> bool
+    requires { ⌜ Room c (now m) × (c .jobs ≤ 64) × (from ≤ c .jobs) ⌝ }
+    ensures { λ r. ⌜ r ≡ member q (drop from (stateOf c (now (m .entry)) .queue)) ⌝ }
 {
     let n = c.jobs;
-    let mut i = 0;
+    let mut i = from;
     while i < n {
         if memory::tables::job(c.shape, m, i) == q {
             return true;

@@ -1,6 +1,7 @@
 pub mod Next
 pub mod Walks
 pub mod Slots
-pub mod Dummies
+pub mod Items
 pub mod Stored
+pub mod Reads
 pub mod Unread

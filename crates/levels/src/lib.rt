@@ -5,18 +5,19 @@ use memory::Shape;
 ghost use mathlib.Core.Path.{_≡_};
 ghost use Prim.Native.Nat.{_+_, _*_, _<_, _≤_};
 ghost use lib.ListN.{length};
+ghost use Rattle.lists.specs.Tests.{if_then_else_};
 ghost use Rattle.rules.specs.Shape.{slots, cell as cellOf};
-ghost use Rattle.rules.specs.Levels.{sources as sourcesOf};
-ghost use Rattle.rules.specs.Blocks.{blocksIn};
-ghost use Rattle.rules.specs.Request.{dummy as dummyOf};
+ghost use Rattle.rules.specs.Levels.{filled, sources as sourcesOf};
+ghost use Rattle.rules.specs.Blocks.{blocksIn, isUnread, readsOf};
+ghost use Rattle.rules.specs.Request.{dummy, lowest};
 ghost use Rattle.rules.specs.Rebuild.{unread as unreadOf};
 ghost use Rattle.rules.specs.Turn.{markRead};
 ghost use Rattle.memory.specs.Words.{wordAt};
 ghost use Rattle.memory.specs.Fits.{shapeOf};
 ghost use Rattle.client.specs.View.{stateOf, foundOf};
 ghost use Rattle.client.specs.Moves.{Room, Stands};
-ghost use Rattle.levels.specs.Dummies.{freeAt, itemsFrom};
-ghost use Rattle.levels.specs.Next.{NextFilled, foundSpot};
+ghost use Rattle.levels.specs.Items.{freeAt, itemsFrom};
+ghost use Rattle.levels.specs.Next.{foundSpot, NextLevel};
 
 // A slot: level and number; or none.
 pub enum Spot {
@@ -43,7 +44,7 @@ pub fn cell(h: Shape, q: usize, l: usize, i: usize) -> usize
 // The first filled level from `from` on, or `levels` where there is none.
 pub fn next_filled(levels: usize, counter: usize, from: usize) -> usize
     requires { ⌜ (levels ≤ 8) × (from ≤ levels) ⌝ }
-    ensures { λ r. ⌜ NextFilled levels counter from r ⌝ }
+    ensures { λ r. ⌜ NextLevel (filled counter) levels from r ⌝ }
 {
     let mut l = from;
     while l < levels {
@@ -55,8 +56,9 @@ pub fn next_filled(levels: usize, counter: usize, from: usize) -> usize
     l
 }
 
-// Whether slot i is an unread dummy, by what the slots hold and by their marks. Most slots that are asked about hold a block, so that is asked first.
-fn is_dummy(holds: &[u8], marks: &[u8], bound: usize, i: usize) -> bool
+// Whether slot i is unread and its entry (0 for a dummy, b + 1 for block b), read as 0 from the bound on, is 0. Most slots that are asked about for a dummy
+// hold a block, so that is asked first.
+fn is_free(holds: &[u8], marks: &[u8], bound: usize, i: usize) -> bool
     requires { ⌜ (i * 2 + 1 < length (now holds)) × (i * 2 + 1 < length (now marks)) ⌝ }
     ensures { λ r. ⌜ r ≡ freeAt bound (wordAt (now (holds .entry))) (wordAt (now (marks .entry))) i ⌝ }
 {
@@ -66,15 +68,15 @@ fn is_dummy(holds: &[u8], marks: &[u8], bound: usize, i: usize) -> bool
     memory::tables::fit(2, memory::word(marks, i)) == 1
 }
 
-// The slot of the lowest of n items that is an unread dummy, by the order of the items and what there is of their slots.
-fn lowest_dummy(order: &[u8], holds: &[u8], marks: &[u8], n: usize, bound: usize) -> Found
+// The slot of the lowest of n items for which that holds, by the order of the items and what there is of their slots.
+fn lowest_item(order: &[u8], holds: &[u8], marks: &[u8], n: usize, bound: usize) -> Found
     requires { ⌜ (n ≤ 65536) × (length (now order) ≡ n * 2) × (length (now holds) ≡ n * 2) × (length (now marks) ≡ n * 2) ⌝ }
     ensures { λ r. ⌜ foundOf r ≡ itemsFrom n bound (wordAt (now (order .entry))) (wordAt (now (holds .entry))) (wordAt (now (marks .entry))) 0 ⌝ }
 {
     let mut k = 0;
     while k < n {
         let i = memory::tables::fit(n, memory::word(order, k));
-        if is_dummy(holds, marks, bound, i) {
+        if is_free(holds, marks, bound, i) {
             return Found::At(i);
         }
         k += 1;
@@ -82,17 +84,50 @@ fn lowest_dummy(order: &[u8], holds: &[u8], marks: &[u8], n: usize, bound: usize
     Found::Nothing
 }
 
-// The slot of the lowest-numbered unread dummy item of level l of partition q.
-pub fn dummy(c: Client, m: &[u8], q: usize, l: usize) -> Found
+// The bound for a dummy, N + 1; or for any item, 1, by which every entry reads as 0.
+fn bound(any: bool, n: usize) -> usize
+    requires { ⌜ n ≤ 65536 ⌝ }
+    ensures { λ r. ⌜ r ≡ (if any then 1 else n + 1) ⌝ }
+{
+    if any { 1 } else { n + 1 }
+}
+
+// The slot of the lowest-numbered unread item of level l of partition q: of any item in a source level of the front job, else of a dummy.
+pub fn item(c: Client, m: &[u8], q: usize, l: usize, source: bool) -> Found
     requires { ⌜ Room c (now m) × (q < c .shape .p) × (l < c .shape .l) ⌝ }
-    ensures { λ r. ⌜ foundOf r ≡ dummyOf (stateOf c (now (m .entry))) q l ⌝ }
+    ensures { λ r. ⌜ foundOf r ≡ (if source then lowest (stateOf c (now (m .entry))) q l else dummy (stateOf c (now (m .entry))) q l) ⌝ }
 {
     let n = bits::pow2(l + 1);
     let base = cell(c.shape, q, l, 0);
     let order = memory::tables::order_bytes(c.shape, m, base, n);
     let holds = memory::tables::holds_bytes(c.shape, m, base, n);
     let marks = memory::tables::mark_bytes(c.shape, m, base, n);
-    lowest_dummy(order, holds, marks, n, c.shape.n + 1)
+    lowest_item(order, holds, marks, n, bound(source, c.shape.n))
+}
+
+// Whether slot i of level l of partition q is unread.
+pub fn is_unread(c: Client, m: &[u8], q: usize, l: usize, i: usize) -> bool
+    requires { ⌜ Room c (now m) × (q < c .shape .p) × (l < c .shape .l) × (i < slots l) ⌝ }
+    ensures { λ r. ⌜ r ≡ isUnread (stateOf c (now (m .entry))) q l i ⌝ }
+{
+    let x = cell(c.shape, q, l, i);
+    memory::tables::mark(c.shape, m, x) == 1
+}
+
+// How many slots of level l of partition q have been read since it was written. As below, the count has 16 bits.
+pub fn reads(c: Client, m: &[u8], q: usize, l: usize) -> usize
+    requires { ⌜ Room c (now m) × (q < c .shape .p) × (l < c .shape .l) ⌝ }
+    ensures { λ r. ⌜ (r ≡ readsOf (shapeOf (c .shape)) (stateOf c (now (m .entry)) .mark) q l) × (r ≤ slots l) ⌝ }
+{
+    let n = bits::pow2(l + 1);
+    let base = cell(c.shape, q, l, 0);
+    let mut k: u16 = 0;
+    let mut j = 0;
+    while j < n {
+        k += (memory::tables::mark(c.shape, m, base + j) != 1) as u16;
+        j += 1;
+    }
+    k as usize
 }
 
 // The next unread slot of the levels below `sources` of partition q, levels ascending, and slots ascending within a level. The levels below that

@@ -6,11 +6,11 @@ use mathlib.Core.List.{List, [], _∷_, _++_, map}
 use mathlib.Core.Option.{Option, none, some}
 use Prim.Native.Nat.{ℕ, zero, suc, _+_, _≤_, _<_}
 use native.Mathlib.Omega.{arith}
-use lib.ListN.{getD, set, take, replicate}
+use lib.ListN.{getD, set, take, replicate, drop, drop-of-length-le}
 use lib.Dec.{eqb}
 use borrow.Author.Tests.{eqb-true, eqb-false}
 use Rattle.lists.specs.Tests.{and-l, and-r, and-true, or-true, or-left, or-right}
-use Rattle.lists.specs.Search.{find, keep, any, all, without, below, count, keep-yes, keep-no, without-yes, without-no, find-yes, find-no}
+use Rattle.lists.specs.Search.{find, keep, any, all, without, firstLeft, below, count, keep-yes, keep-no, firstLeft-yes, firstLeft-no, without-yes, without-no, find-yes, find-no}
 
 -- each element has a property
 pub data All {A : Type 0} (P : A → Type 0) : List A → Type 0 where
@@ -243,3 +243,20 @@ find-same p q (cons {x = x} {xs = xs} h t) = go (q x) refl (find-same p q t)
     go : (b : Bool) → q x ≡ b → find p xs ≡ find q xs → find p (x ∷ xs) ≡ find q (x ∷ xs)
     go true e k = find-yes p x xs (h ∙ e) ∙ sym (find-yes q x xs e)
     go false e k = find-no p x xs (h ∙ e) ∙ k ∙ sym (find-no q x xs e)
+
+-- behind the first n elements
+module _ {A : Type 0} {P : A → Type 0} where
+  pub drop-snoc : (n : ℕ) (xs : List A) (y : A) → All P (drop n xs) → P y → All P (drop n (xs ++ (y ∷ [])))
+  drop-snoc zero xs y h k = all-append h (cons k nil)
+  drop-snoc (suc n) [] y h k = rw (drop-of-length-le {A = A} [] {i = n} (omega arith)) nil
+  drop-snoc (suc n) (x ∷ xs) y h k = drop-snoc n xs y h k
+
+  pub drop-without : (p : A → Bool) (n : ℕ) (xs : List A) → All P (drop n xs) → All P (drop (firstLeft p n xs) (without p xs))
+  unfolding firstLeft
+  drop-without p zero xs h = all-without p h
+  drop-without p (suc n) [] h = unfold without in h
+  drop-without p (suc n) (x ∷ xs) h = go (p x) refl (drop-without p n xs h)
+    where
+      go : (t : Bool) → p x ≡ t → All P (drop (firstLeft p n xs) (without p xs)) → All P (drop (firstLeft p (suc n) (x ∷ xs)) (without p (x ∷ xs)))
+      go true e k = rw (firstLeft-yes p x xs n e, without-yes p x xs e) h
+      go false e k = rw (firstLeft-no p x xs n e, without-no p x xs e) k

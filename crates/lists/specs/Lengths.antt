@@ -8,7 +8,7 @@ use native.Mathlib.Decide.{ℕ-discrete}
 use lib.ListN.{length, replicate}
 use lib.Dec.{eqb}
 use borrow.Author.Tests.{eq-eqb, ne-eqb}
-use Rattle.lists.specs.Search.{keep, without, below, count, keep-yes, keep-no, without-yes, without-no}
+use Rattle.lists.specs.Search.{keep, without, firstLeft, firstLeft-yes, firstLeft-no, below, count, keep-yes, keep-no, without-yes, without-no}
 use Rattle.lists.specs.All.{All, nil, cons}
 use Rattle.lists.specs.Totals.{total, total-same, total-none, total-add}
 
@@ -51,6 +51,16 @@ without-length p (x ∷ xs) = go (p x) refl (without-length p xs)
     go : (t : Bool) → p x ≡ t → length (without p xs) ≤ length xs → length (without p (x ∷ xs)) ≤ suc (length xs)
     go true e h = rw (without-yes p x xs e) (omega arith)
     go false e h = rw (without-no p x xs e) (omega arith)
+
+pub firstLeft-le : {A : Type 0} (p : A → Bool) (n : ℕ) (xs : List A) → firstLeft p n xs ≤ n
+unfolding firstLeft
+firstLeft-le p zero xs = omega arith
+firstLeft-le p (suc n) [] = omega arith
+firstLeft-le p (suc n) (x ∷ xs) = go (p x) refl (firstLeft-le p n xs)
+  where
+    go : (t : Bool) → p x ≡ t → firstLeft p n xs ≤ n → firstLeft p (suc n) (x ∷ xs) ≤ suc n
+    go true e h = rw (firstLeft-yes p x xs n e) (omega arith)
+    go false e h = rw (firstLeft-no p x xs n e) (omega arith)
 
 pub keep-without-le : (p q : ℕ → Bool) (xs : List ℕ) → length (keep q (without p xs)) ≤ length (keep q xs)
 unfolding without keep

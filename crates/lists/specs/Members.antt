@@ -30,6 +30,13 @@ mem-member x (y ∷ ys) (inr m) = or-right (eqb x y) (member x ys) (mem-member x
 pub not-member : (x : ℕ) (xs : List ℕ) → member x xs ≡ false → ¬ Mem x xs
 not-member x xs h m = true≢false (sym (mem-member x xs m) ∙ h)
 
+pub mem-not : (x : ℕ) (xs : List ℕ) → ¬ Mem x xs → member x xs ≡ false
+mem-not x xs n = go (member x xs) refl
+  where
+    go : (t : Bool) → member x xs ≡ t → member x xs ≡ false
+    go true e = absurd (n (member-mem x xs e))
+    go false e = e
+
 pub member-append : (x : ℕ) (xs ys : List ℕ) → Mem x xs → Mem x (xs ++ ys)
 member-append x [] ys m = absurd m
 member-append x (z ∷ xs) ys (inl e) = inl e

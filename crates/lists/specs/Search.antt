@@ -30,6 +30,12 @@ module _ {A : Type 0} where
   without p [] = []
   without p (x ∷ xs) = elim (p x) [ true ↦ xs | false ↦ x ∷ without p xs ]
 
+  -- of the first n elements, how many are left without that one
+  unfoldable pub firstLeft : (A → Bool) → ℕ → List A → ℕ
+  firstLeft p zero xs = zero
+  firstLeft p (suc n) [] = suc n
+  firstLeft p (suc n) (x ∷ xs) = elim (p x) [ true ↦ n | false ↦ suc (firstLeft p n xs) ]
+
   unfoldable pub isNone : Option A → Bool
   isNone none = true
   isNone (some x) = false
@@ -74,6 +80,14 @@ module _ {A : Type 0} (p : A → Bool) (x : A) (xs : List A) where
   pub find-no : p x ≡ false → find p (x ∷ xs) ≡ find p xs
   unfolding find
   find-no e = rw (e, find)
+
+  pub firstLeft-yes : (n : ℕ) → p x ≡ true → firstLeft p (suc n) (x ∷ xs) ≡ n
+  unfolding firstLeft
+  firstLeft-yes n e = rw (e, firstLeft)
+
+  pub firstLeft-no : (n : ℕ) → p x ≡ false → firstLeft p (suc n) (x ∷ xs) ≡ suc (firstLeft p n xs)
+  unfolding firstLeft
+  firstLeft-no n e = rw (e, firstLeft)
 
   pub without-yes : p x ≡ true → without p (x ∷ xs) ≡ xs
   unfolding without

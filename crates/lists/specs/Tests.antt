@@ -46,6 +46,14 @@ pub or-right : (a b : Bool) → b ≡ true → (a || b) ≡ true
 or-right true b h = refl
 or-right false b h = h
 
+pub or-false-l : (a b : Bool) → (a || b) ≡ false → a ≡ false
+or-false-l true b h = absurd (true≢false h)
+or-false-l false b h = refl
+
+pub or-false-r : (a b : Bool) → (a || b) ≡ false → b ≡ false
+or-false-r true b h = absurd (true≢false h)
+or-false-r false b h = h
+
 pub not-true : (t : Bool) → not t ≡ true → t ≡ false
 not-true false h = refl
 not-true true h = absurd (true≢false (sym h))

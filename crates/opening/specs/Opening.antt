@@ -46,7 +46,7 @@ open-number h m tape = go (within h) refl
     go true e = rw (draws-enough (replicate (h .N) (h .P)) (wordsOf tape) (straight-partitions h e (h .N) (wordsOf tape) (words-short tape)), length-replicate {A = ℕ} (h .N) (h .P))
 
 abbrev pub freshClient : Numbers → Client
-freshClient h = record { shape = h; request = noRequest; jobs = 0; cursor = 0; sent = 0; waiting = 0; out = 0 }
+freshClient h = record { shape = h; request = noRequest; jobs = 0; begun = 0; cursor = 0; sent = 0; waiting = 0; out = 0 }
 
 -- the numbers drawn
 abbrev pub drawnBy : Numbers → List ℕ → List ℕ
@@ -142,6 +142,7 @@ module _ (h : Numbers) (tape : List ℕ) (w : within (shapeOf h) ≡ true) (enou
     mark = zeros (λ x. 2) k;
     holds = zeros (λ x. h .n + 1) k;
     queue = [];
+    begun = 0;
     cursor = 0;
     sent = 0;
     outstanding = [];

@@ -66,6 +66,7 @@ fn fresh(h: Shape) -> Client
         shape: h,
         request: Request::none(),
         jobs: 0,
+        begun: 0,
         cursor: 0,
         sent: 0,
         waiting: 0,

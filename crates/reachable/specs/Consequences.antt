@@ -1,19 +1,18 @@
 -- What follows from the invariant, for the steps that keep it and for the crates above.
 use mathlib.Core.Path.{_≡_, refl, ap, sym, _∙_}
 use mathlib.Core.Logic.{⊎-elim, _⊎_, inl, inr}
-use mathlib.Core.Bool.{true, false, not, _&&_, true≢false, Bool}
-use mathlib.Core.List.{List, map}
+use mathlib.Core.Bool.{true, false, not, _&&_, _||_, true≢false, Bool}
+use mathlib.Core.List.{List, [], _∷_, map}
 use mathlib.Core.Option.{Option, none, some}
 use Prim.Native.Nat.{ℕ, zero, suc, _-_, _<_}
 use native.Mathlib.Omega.{arith}
 use native.Mathlib.Decide.{decLt}
 use lib.Dec.{eqb}
-use lib.ListN.{length}
+use lib.ListN.{length, take, take-append-drop}
 use borrow.Author.Tests.{eqb-true, not-true, eqb-false, eq-eqb}
 use Rattle.lists.specs.All
-use Rattle.lists.specs.All.{All, IfSome, all-map, any-none}
-use Rattle.lists.specs.Distinct.{Mem}
-use Rattle.lists.specs.Members.{kept-none, all-mem}
+use Rattle.lists.specs.All.{All, IfSome, all-map, all-append, any-none}
+use Rattle.lists.specs.Members.{kept-none, all-mem, below-mem}
 use Rattle.lists.specs.Search
 use Rattle.lists.specs.Search.{below, find, any}
 use Rattle.lists.specs.Tables.{put, put-has}
@@ -28,9 +27,10 @@ use Rattle.rules.specs.Shape.{cell, slots, offset}
 use Rattle.rules.specs.State.{State, Command, stored, Request, cmd, read, Place, nowhere}
 use Rattle.reachable.specs.Bits.{source-filled}
 use Rattle.reachable.specs.Blocks.{place-lt}
-use Rattle.reachable.specs.Decided.{Rebuilds, RequestReads, JobReads}
-use Rattle.reachable.specs.Invariant.{Reached, Reading, Own, Items, Writing}
-use Rattle.reachable.specs.Live.{passedBy, isFront, front-mem, counted, counted-other, not-front, front-is, Gathers}
+use Rattle.reachable.specs.Decided.{Rebuilds, OwnSlot, RequestReads, JobReads}
+use Rattle.reachable.specs.Invariant.{Reached, Reading, Own, Items, Writing, Aside}
+use Rattle.rules.specs.Request.{isFront}
+use Rattle.reachable.specs.Live.{passedBy, front-mem, counted, counted-other, counted-calm, not-front, front-is, Gathers, gathers-source, source-gathers}
 use Rattle.reachable.specs.Pending.{passed-none, passed-why}
 use Rattle.reachable.specs.Terms.{Elsewhere}
 
@@ -52,6 +52,19 @@ unfolding Blocks.named Search.isNone
 named-zero zero e = refl
 named-zero (suc n) e = absurd (true≢false (sym e))
 
+pub unread-mark : (s : State) (q ℓ i : ℕ) → Blocks.isUnread s q ℓ i ≡ true → s .mark (cell (s .shape) q ℓ i) ≡ 1
+unfolding Blocks.isUnread
+unread-mark s q ℓ i e = eqb-true (s .mark (cell (s .shape) q ℓ i)) 1 e
+
+pub read-mark : (s : State) (q ℓ i : ℕ) → Blocks.isUnread s q ℓ i ≡ false → s .mark (cell (s .shape) q ℓ i) ≡ 1 → ⊥
+unfolding Blocks.isUnread
+read-mark s q ℓ i e = eqb-false (s .mark (cell (s .shape) q ℓ i)) 1 e
+
+-- no item is unread
+pub lowest-none : (s : State) (q ℓ : ℕ) → Request.lowest s q ℓ ≡ none → All (λ j. Blocks.isUnread s q ℓ j ≡ false) (map (λ j. s .order (cell (s .shape) q ℓ j)) (below (slots ℓ)))
+unfolding Request.lowest
+lowest-none s q ℓ e = All.find-none _ _ e
+
 pub dummy-free : (s : State) (q ℓ i : ℕ) → Request.dummy s q ℓ ≡ some i → (s .mark (cell (s .shape) q ℓ i) ≡ 1) × (s .holds (cell (s .shape) q ℓ i) ≡ 0)
 unfolding Request.dummy Blocks.isUnread Blocks.holder
 dummy-free s q ℓ i e = go (find test slotsOf) e (All.find-passes test slotsOf)
@@ -68,6 +81,19 @@ dummy-free s q ℓ i e = go (find test slotsOf) e (All.find-passes test slotsOf)
           eqb-true (s .mark (cell (s .shape) q ℓ i)) 1 (and-l (eqb (s .mark (cell (s .shape) q ℓ i)) 1) (Search.isNone (Blocks.named (s .holds (cell (s .shape) q ℓ i)))) h′),
           named-zero (s .holds (cell (s .shape) q ℓ i)) (and-r (eqb (s .mark (cell (s .shape) q ℓ i)) 1) (Search.isNone (Blocks.named (s .holds (cell (s .shape) q ℓ i)))) h′),
         )
+
+pub lowest-unread : (s : State) (q ℓ i : ℕ) → Request.lowest s q ℓ ≡ some i → s .mark (cell (s .shape) q ℓ i) ≡ 1
+unfolding Request.lowest Blocks.isUnread
+lowest-unread s q ℓ i e = go (find test slotsOf) e (All.find-passes test slotsOf)
+  where
+    test : ℕ → Bool
+    test j = eqb (s .mark (cell (s .shape) q ℓ j)) 1
+
+    slotsOf : List ℕ
+    slotsOf = map (λ k. s .order (cell (s .shape) q ℓ k)) (below (slots ℓ))
+
+    go : (o : Option ℕ) → o ≡ some i → IfSome (λ x. test x ≡ true) o → s .mark (cell (s .shape) q ℓ i) ≡ 1
+    go o k h = let h′ : test i ≡ true = rw k at h in eqb-true (s .mark (cell (s .shape) q ℓ i)) 1 h′
 
 pub block-lt : (s : State) → Reached s → (r : Request) → s .request ≡ some r → r .block < s .shape .N
 block-lt s f r e = go (s .request) e (f .range .request)
@@ -90,54 +116,87 @@ module _ (s : State) (f : Reached s) where
   unfolding Blocks.holder Blocks.named
   place-holder b ℓ i hb e = ap Blocks.named (f .agree .placed b ℓ i hb e .1)
 
-  -- The partition of a request that has sent a read has no job
-  passed-away : (p ℓ : ℕ) → passedBy (s .partition) (s .request) p ℓ ≡ true → ¬ Mem p (s .queue)
-  unfolding Request.held
-  passed-away p ℓ k m = go (s .request) refl k
-    where
-      go : (o : Option Request) → s .request ≡ o → passedBy (s .partition) o p ℓ ≡ true → ⊥
-      go none e k = true≢false (sym k ∙ passed-none (s .partition) none p ℓ refl)
-      go (some r) e k =
-          let y = passed-why (s .partition) (some r) r p ℓ refl k in
-          ⊎-elim (λ z. omega (arith, y .1, z)) (λ z. f .released r e z (rw (y .0) m)) (f .unheld r e)
+  -- The front job of the partition of a request that is not held is not drawn
+  pub released-calm : (r : Request) → s .request ≡ some r → Request.held r ≡ false → isFront (s .queue) (s .partition (r .block)) ≡ true → s .sent ≡ 0
+  released-calm r e u k = ⊎-elim (λ n. absurd (n (front-mem (s .queue) (s .partition (r .block)) k))) (λ a. a .2) (f .released r e u)
+
+  pub released-count : (r : Request) → s .request ≡ some r → Request.held r ≡ false → counted s (s .partition (r .block)) ≡ s .counter (s .partition (r .block))
+  released-count r e u = ⊎-elim (λ n. counted-other s (s .partition (r .block)) (not-front (s .queue) (s .partition (r .block)) n)) (λ a. counted-calm s (s .partition (r .block)) (a .2)) (f .released r e u)
 
   -- beside a drawn job, an outstanding read is of another partition
   pub reading-away : (c : Command) → Reading s c → (s .sent ≡ 0 → ⊥) → ¬ (isFront (s .queue) (c .partition) ≡ true)
-  reading-away c a busy e = ⊎-elim (λ k. passed-away (c .partition) (c .level) k (front-mem (s .queue) (c .partition) e)) (λ k. busy (k .1)) (a .whose)
+  reading-away c a busy e = ⊎-elim (λ k. go (s .request) refl k) (λ k. busy (k .1)) (a .whose)
+    where
+      go : (o : Option Request) → s .request ≡ o → passedBy (s .partition) o (c .partition) (c .level) ≡ true → ⊥
+      go none z k = true≢false (sym k ∙ passed-none (s .partition) none (c .partition) (c .level) refl)
+      go (some r) z k =
+          let y = passed-why (s .partition) (some r) r (c .partition) (c .level) refl k in
+          ⊎-elim (λ w. omega (arith, y .1, w)) (λ w. busy (released-calm r z w (rw (y .0) e))) (f .unheld r z)
 
-  -- A finished request has read its block's slot
-  pub finished-read : (r : Request) (ℓ i : ℕ) → s .request ≡ some r → Collect.finished s r ≡ true → s .place (r .block) ≡ stored ℓ i → s .mark (cell (s .shape) (s .partition (r .block)) ℓ i) ≡ 0
-  unfolding Collect.finished Request.levelsLeft Request.held
-  finished-read r ℓ i e done p = go (decLt ℓ (r .level))
+  -- a filled level that costs nothing has been read throughout
+  pub costless-read : (q ℓ j : ℕ) → q < s .shape .P → ℓ < s .shape .L → j < slots ℓ → filled (s .counter q) ℓ ≡ true → Request.costs s q ℓ ≡ false → s .mark (cell (s .shape) q ℓ j) ≡ 0
+  costless-read q ℓ j hq hℓ hj full e = go (Blocks.isUnread s q ℓ j) refl
+    where
+      none : Search.any (Blocks.isUnread s q ℓ) (below (slots ℓ)) ≡ false
+      none = by (filled (s .counter q) ℓ) (not (Request.isSource s q ℓ)) (Search.any (Blocks.isUnread s q ℓ) (below (slots ℓ))) full (unfold Request.costs in e)
+        where
+          by : (a b c : Bool) → a ≡ true → (a && (b || c)) ≡ false → c ≡ false
+          by true true c w z = absurd (true≢false z)
+          by true false c w z = z
+          by false b c w z = absurd (true≢false (sym w))
+
+      go : (t : Bool) → Blocks.isUnread s q ℓ j ≡ t → s .mark (cell (s .shape) q ℓ j) ≡ 0
+      go true u = absurd (true≢false (sym u ∙ all-mem (any-none (Blocks.isUnread s q ℓ) (below (slots ℓ)) none) j (below-mem (slots ℓ) j hj)))
+      go false u =
+          let w = read-mark s q ℓ j u in
+          omega (arith, f .range .marks q ℓ j hq hℓ hj)
+
+  -- A request that is not held and has no level left has read its block's slot, or the job has
+  pub behind-read : (r : Request) (ℓ i : ℕ) → s .request ≡ some r → Request.held r ≡ false → Request.levelsLeft s r ≡ [] → s .place (r .block) ≡ stored ℓ i → s .mark (cell (s .shape) (s .partition (r .block)) ℓ i) ≡ 0
+  unfolding Request.levelsLeft
+  behind-read r ℓ i e u left p = go (decLt ℓ (r .level))
     where
       q : ℕ
       q = s .partition (r .block)
 
-      tests : (not (Request.held r) && eqb (length (Request.levelsLeft s r)) 0) ≡ true
-      tests = and-l (not (Request.held r) && eqb (length (Request.levelsLeft s r)) 0) _ done
-
-      unheld : Request.held r ≡ false
-      unheld = not-true (Request.held r) (and-l (not (Request.held r)) (eqb (length (Request.levelsLeft s r)) 0) tests)
-
       hb : r .block < s .shape .N
       hb = block-lt s f r e
 
-      top : ℓ < s .shape .L
-      top = place-lt (s .shape .L) ℓ i (s .place (r .block)) (f .range .places (r .block) hb) p .0
+      top : (ℓ < s .shape .L) × (i < slots ℓ)
+      top = place-lt (s .shape .L) ℓ i (s .place (r .block)) (f .range .places (r .block) hb) p
 
       full : filled (s .counter q) ℓ ≡ true
-      full = ap (λ n. filled n ℓ) (sym (counted-other s q (not-front (s .queue) q (f .released r e unheld)))) ∙ f .agree .placed (r .block) ℓ i hb p .0
+      full = ap (λ n. filled n ℓ) (sym (released-count r e u)) ∙ f .agree .placed (r .block) ℓ i hb p .0
 
       go : Dec (ℓ < r .level) → s .mark (cell (s .shape) q ℓ i) ≡ 0
       go (yes l) = f .fetched r ℓ i e p l
-      go (no l) = absurd (true≢false (sym full ∙ kept-none (filled (s .counter q)) (r .level) (s .shape .L - r .level) ℓ
-          (eqb-true (length (Request.levelsLeft s r)) 0 (and-r (not (Request.held r)) (eqb (length (Request.levelsLeft s r)) 0) tests)) (omega arith) (omega (arith, top))))
+      go (no l) = costless-read q ℓ i (f .range .partitions (r .block) hb) (top .0) (top .1) full
+          (kept-none (Request.costs s q) (r .level) (s .shape .L - r .level) ℓ (ap length left) (omega arith) (omega (arith, top .0)))
 
-  -- ..and no command of its partition is outstanding
-  pub finished-quiet : (r : Request) → Collect.finished s r ≡ true → All (λ (c : Command). eqb (c .partition) (s .partition (r .block)) ≡ false) (s .outstanding)
+  -- A finished request: it is not held, has no level left, and its block's slot has been read, by it or for the job
+  pub finished-unheld : (r : Request) → Collect.finished s r ≡ true → Request.held r ≡ false
   unfolding Collect.finished
-  finished-quiet r done = any-none _ (s .outstanding) (not-true (any (λ (c : Command). eqb (c .partition) (s .partition (r .block))) (s .outstanding))
-      (and-r (not (Request.held r) && eqb (length (Request.levelsLeft s r)) 0) (not (any (λ (c : Command). eqb (c .partition) (s .partition (r .block))) (s .outstanding))) done))
+  finished-unheld r done = not-true (Request.held r) (and-l (not (Request.held r)) (eqb (length (Request.levelsLeft s r)) 0) (and-l (not (Request.held r) && eqb (length (Request.levelsLeft s r)) 0) _ done))
+
+  finished-left : (r : Request) → Collect.finished s r ≡ true → Request.levelsLeft s r ≡ []
+  unfolding Collect.finished
+  finished-left r done = nil-of (Request.levelsLeft s r) (eqb-true (length (Request.levelsLeft s r)) 0 (and-r (not (Request.held r)) (eqb (length (Request.levelsLeft s r)) 0) (and-l (not (Request.held r) && eqb (length (Request.levelsLeft s r)) 0) _ done)))
+    where
+      nil-of : (l : List ℕ) → length l ≡ 0 → l ≡ []
+      nil-of [] e = refl
+      nil-of (x ∷ xs) e = absurd (omega arith)
+
+  pub finished-read : (r : Request) (ℓ i : ℕ) → s .request ≡ some r → Collect.finished s r ≡ true → s .place (r .block) ≡ stored ℓ i → s .mark (cell (s .shape) (s .partition (r .block)) ℓ i) ≡ 0
+  finished-read r ℓ i e done p = behind-read r ℓ i e (finished-unheld r done) (finished-left r done) p
+
+  -- ..and what is outstanding of its partition is of a level that the job gathers, and not of its block's slot
+  pub finished-aside : (r : Request) → s .request ≡ some r → Collect.finished s r ≡ true → All (Aside s r) (s .outstanding)
+  unfolding Collect.finished
+  finished-aside r e done = rw (take-append-drop (r .awaits) (s .outstanding)) at (all-append awaited (f .unawaited r e (finished-unheld r done)))
+    where
+      awaited : All (Aside s r) (take (r .awaits) (s .outstanding))
+      awaited = all-map (λ (c : Command) k w. absurd (eqb-false (c .partition) (s .partition (r .block)) k w)) (any-none _ (take (r .awaits) (s .outstanding)) (not-true (any (λ (c : Command). eqb (c .partition) (s .partition (r .block))) (take (r .awaits) (s .outstanding)))
+          (and-r (not (Request.held r) && eqb (length (Request.levelsLeft s r)) 0) (not (any (λ (c : Command). eqb (c .partition) (s .partition (r .block))) (take (r .awaits) (s .outstanding)))) done)))
 
   -- When an order is drawn, every slot of the sources is read
   pub sources-read : (q t : ℕ) → Rebuilds s q t → (ℓ i : ℕ) → ℓ < sources (s .shape) (s .counter q) → i < slots ℓ → s .mark (cell (s .shape) q ℓ i) ≡ 0
@@ -153,18 +212,28 @@ module _ (s : State) (f : Reached s) where
           let u : s .mark (cell (s .shape) q ℓ i) ≡ 1 → ⊥ = eqb-false (s .mark (cell (s .shape) q ℓ i)) 1 (d .read ℓ i l hi (omega arith)) in
           omega (arith, f .range .marks q ℓ i (all-mem (f .range .queue) q (front-mem (s .queue) q front)) (omega (arith, sources-le (s .shape) (s .counter q))) hi)
 
-  -- A request's read: its partition has no job, and its slot is unread
+  -- A request's read: the front job, if it is for its partition, is not drawn, and its slot is unread
   module _ (q ℓ i : ℕ) (d : RequestReads s q ℓ i) where
-    pub unqueued : ¬ Mem q (s .queue)
-    unqueued m = f .released (d .asked) (d .inHand) (d .unheld) (rw (d .part) m)
+    pub front-calm : isFront (s .queue) q ≡ true → s .sent ≡ 0
+    front-calm k = released-calm (d .asked) (d .inHand) (d .unheld) (rw (d .part) k)
+
+    pub reads-count : counted s q ≡ s .counter q
+    reads-count = ap (counted s) (sym (d .part)) ∙ released-count (d .asked) (d .inHand) (d .unheld) ∙ ap (s .counter) (d .part)
+
+    pub reads-source : Request.isSource s q ℓ ≡ true → Gathers s q ℓ
+    reads-source k = source-gathers s q ℓ front-calm k
 
     pub request-unread : s .mark (cell (s .shape) q ℓ i) ≡ 1
-    request-unread = ⊎-elim (λ e. own (f .unread (d .asked .block) ℓ i (block-lt s f (d .asked) (d .inHand)) (slot-own ℓ i (s .place (d .asked .block)) e))) (λ e. dummy-free s q ℓ i (e .1) .0) (d .slot)
+    request-unread = ⊎-elim own (⊎-elim (λ k. dummy-free s q ℓ i (k .2) .0) (λ k. lowest-unread s q ℓ i (k .2))) (d .slot)
       where
-        own : (s .mark (cell (s .shape) (s .partition (d .asked .block)) ℓ i) ≡ 1) ⊎ (Own s (d .asked .block) ℓ ⊎ Gathers s (s .partition (d .asked .block)) ℓ) → s .mark (cell (s .shape) q ℓ i) ≡ 1
-        own (inl m) = ap (λ p. s .mark (cell (s .shape) p ℓ i)) (sym (d .part)) ∙ m
-        own (inr (inl o)) = let w : o .0 ≡ d .asked = cc (o .1 .0, d .inHand) in absurd (omega (arith, o .1 .2, d .left, ap (λ (x : Request). x .level) w))
-        own (inr (inr k)) = absurd (unqueued (rw (← d .part) (front-mem (s .queue) (s .partition (d .asked .block)) (k .0))))
+        kept : (s .mark (cell (s .shape) (s .partition (d .asked .block)) ℓ i) ≡ 1) ⊎ (Own s (d .asked .block) ℓ ⊎ Gathers s (s .partition (d .asked .block)) ℓ) → Request.isSource s q ℓ ≡ false → s .mark (cell (s .shape) q ℓ i) ≡ 1
+        kept (inl m) u = ap (λ p. s .mark (cell (s .shape) p ℓ i)) (sym (d .part)) ∙ m
+        kept (inr (inl o)) u = let w : o .0 ≡ d .asked = cc (o .1 .0, d .inHand) in absurd (omega (arith, o .1 .2, d .left, ap (λ (x : Request). x .level) w))
+        kept (inr (inr k)) u = absurd (true≢false (sym (gathers-source s q ℓ (rw (d .part) at k)) ∙ u))
+
+        own : OwnSlot s (d .asked .block) q ℓ i → s .mark (cell (s .shape) q ℓ i) ≡ 1
+        own k = ⊎-elim (kept (f .unread (d .asked .block) ℓ i (block-lt s f (d .asked) (d .inHand)) (slot-own ℓ i (s .place (d .asked .block)) (k .0))))
+            (unread-mark s q ℓ i) (k .1)
 
   -- A job's read: its level is filled, and its slot is unread
   module _ (q ℓ i : ℕ) (d : JobReads s q ℓ i) where
@@ -175,7 +244,7 @@ module _ (s : State) (f : Reached s) where
     job-full = source-filled (s .shape) (s .counter q) (levels-pos (s .shape) (f .range .shape)) (f .range .counters q (all-mem (f .range .queue) q (front-mem (s .queue) q (job-gathers .0)))) ℓ (d .source)
 
     pub job-unread : s .mark (cell (s .shape) q ℓ i) ≡ 1
-    job-unread = eqb-true _ 1 (unfold Blocks.isUnread in (d .unread))
+    job-unread = unread-mark s q ℓ i (d .unread)
 
 -- A slot that counts as read still does when another read is sent
 pub still-read : (x c : ℕ) (mark : ℕ → ℕ) → mark c ≡ 0 → put x 0 mark c ≡ 0

@@ -1,20 +1,24 @@
 -- The figures of a page in states that calls left: those that wait are the list of waiting blocks, and a begun job is queued.
-use mathlib.Core.Path.{_≡_, refl}
+use mathlib.Core.Path.{_≡_, refl, ap, sym}
 use mathlib.Core.Logic.{_⊎_, inl, inr}
-use mathlib.Core.Bool.{true, _&&_}
+use mathlib.Core.Bool.{Bool, true, false, true≢false, _&&_}
 use mathlib.Core.List.{List, [], _∷_}
 use mathlib.Core.Option.{Option, none, some}
 use Prim.Native.Nat.{ℕ, _≤_}
 use native.Mathlib.Omega.{arith}
 use lib.ListN.{length}
-use Rattle.lists.specs.Tests.{and-r}
+use lib.Dec.{ltb}
+use borrow.Author.Tests.{eqb-true}
+use Rattle.lists.specs.Tests.{if_then_else_, and-l, and-r}
 use Rattle.lists.specs.All.{keep-passes}
 use Rattle.lists.specs.Members.{member-mem, mem-member, all-mem, mem-keep, below-mem, nodup-keep, nodup-below, nodup-sub}
 use Rattle.lists.specs.Search.{keep, below, member}
 use Rattle.rules.specs.Blocks.{isNowhere}
 use Rattle.rules.specs.Figures.{waitingBlocks, jobsFor}
 use Rattle.rules.specs.Laws.Figures.{front-counts}
+use Rattle.rules.specs.Levels.{sources}
 use Rattle.rules.specs.Rebuild.{doRebuild}
+use Rattle.rules.specs.Request.{isFront, isSource}
 use Rattle.rules.specs.State.{State}
 use Rattle.rules.specs.Turn.{Step, idle, noDummy, readForRequest, readForJob, rebuild, writeNext, decide, markRead, send, doStep}
 use Rattle.reachable.specs.Decided.{Decided, decided}
@@ -36,34 +40,52 @@ module _ (s : State) (f : Reached s) where
         (λ b m. mem-keep _ (below (s .shape .N)) b (below-mem (s .shape .N) b (all-mem (f .range .waiting) b m)) (waits b (mem-member b (s .waiting) m))),
   )
 
-  -- a job that has gone over slots, or sent a write, is the front of the queue
-  pub begun-front : ((s .cursor ≡ 0 → ⊥) ⊎ (s .sent ≡ 0 → ⊥)) → (q : ℕ) × ((rest : List ℕ) × (s .queue ≡ q ∷ rest))
-  begun-front (inl n) = go (s .queue) refl
+  -- a job that has begun is the front of the queue
+  pub begun-front : (s .begun ≡ 0 → ⊥) → (q : ℕ) × ((rest : List ℕ) × (s .queue ≡ q ∷ rest))
+  begun-front n = go (s .queue) refl
     where
       go : (qs : List ℕ) → s .queue ≡ qs → (q : ℕ) × ((rest : List ℕ) × (s .queue ≡ q ∷ rest))
       go [] e = absurd (n (f .jobless e))
       go (q ∷ rest) e = (q, (rest, e))
-  begun-front (inr n) = let w = f .begun n in (w .0, (w .1, w .2 .0))
 
--- the partition of the job whose command a step sends
-abbrev pub jobOf : Step → Option ℕ
-jobOf idle = none
-jobOf noDummy = none
-jobOf (readForRequest q ℓ i) = none
-jobOf (readForJob q ℓ i) = some q
-jobOf (rebuild q t) = some q
-jobOf (writeNext q t i) = some q
+front-split : (qs : List ℕ) (q : ℕ) → isFront qs q ≡ true → (rest : List ℕ) × (qs ≡ q ∷ rest)
+unfolding isFront
+front-split [] q e = absurd (true≢false (sym e))
+front-split (p ∷ qs) q e = (qs, ap (λ x. x ∷ qs) (eqb-true p q e))
 
--- "A job has begun once one of its commands is sent": then it has gone over slots or sent a write, and it counts for its partition
-pub sent-counts : (s : State) (q : ℕ) (js : List ℕ) → jobOf (decide s) ≡ some q
-    → (1 ≤ jobsFor (doStep (decide s) js s) q) × ((doStep (decide s) js s .cursor ≡ 0 → ⊥) ⊎ (doStep (decide s) js s .sent ≡ 0 → ⊥))
+-- the partition of the job whose command a step sends; document 02, P4: a request's read of a source level "counts as read for the job too, and begins it"
+abbrev pub jobOf : State → Step → Option ℕ
+jobOf s idle = none
+jobOf s noDummy = none
+jobOf s (readForRequest q ℓ i) = if isSource s q ℓ then some q else none
+jobOf s (readForJob q ℓ i) = some q
+jobOf s (rebuild q t) = some q
+jobOf s (writeNext q t i) = some q
+
+-- "A job has begun once one of its commands is sent": then its number says so, and it counts for its partition. (A write that is not the first is of a job
+-- that has begun)
+pub sent-counts : (s : State) (q : ℕ) (js : List ℕ) → jobOf s (decide s) ≡ some q
+    → (1 ≤ jobsFor (doStep (decide s) js s) q) × ((s .sent ≡ 0 → ⊥) ⊎ (doStep (decide s) js s .begun ≡ 1))
 unfolding doStep markRead send doRebuild
 sent-counts s q js = go (decide s) (decided s)
   where
-    go : (x : Step) → Decided s x → jobOf x ≡ some q → (1 ≤ jobsFor (doStep x js s) q) × ((doStep x js s .cursor ≡ 0 → ⊥) ⊎ (doStep x js s .sent ≡ 0 → ⊥))
-    go idle d e = absurd (let z : _≡_ {A = ℕ} 0 1 = cc in omega arith)
-    go noDummy d e = absurd (let z : _≡_ {A = ℕ} 0 1 = cc in omega arith)
-    go (readForRequest p ℓ i) d e = absurd (let z : _≡_ {A = ℕ} 0 1 = cc in omega arith)
-    go (readForJob p ℓ i) d e = let z : p ≡ q = cc in (rw (← z) (front-counts (doStep (readForJob p ℓ i) js s) p (d .rest) (d .front)), inl (λ n. omega arith))
-    go (rebuild p t) d e = let z : p ≡ q = cc in (rw (← z) (front-counts (doStep (rebuild p t) js s) p (d .rest) (d .front)), inr (λ n. omega arith))
-    go (writeNext p t i) d e = let z : p ≡ q = cc in (rw (← z) (front-counts (doStep (writeNext p t i) js s) p (d .rest) (d .front)), inr (λ n. omega arith))
+    no : none ≡ some q → ⊥
+    no e = let z : _≡_ {A = ℕ} 0 1 = cc in omega arith
+
+    same : (p : ℕ) → some p ≡ some q → p ≡ q
+    same p e = cc
+
+    source : (p ℓ i : ℕ) (t : Bool) → isSource s p ℓ ≡ t → (if t then some p else none) ≡ some q
+        → (1 ≤ jobsFor (doStep (readForRequest p ℓ i) js s) q) × ((s .sent ≡ 0 → ⊥) ⊎ ((if t then 1 else s .begun) ≡ 1))
+    source p ℓ i true k e =
+        let w = front-split (s .queue) p (and-l (isFront (s .queue) p) (ltb ℓ (sources (s .shape) (s .counter p))) (unfold isSource in k)) in
+        (rw (← same p e) (front-counts (doStep (readForRequest p ℓ i) js s) p (w .0) (w .1)), inr refl)
+    source p ℓ i false k e = absurd (no e)
+
+    go : (x : Step) → Decided s x → jobOf s x ≡ some q → (1 ≤ jobsFor (doStep x js s) q) × ((s .sent ≡ 0 → ⊥) ⊎ (doStep x js s .begun ≡ 1))
+    go idle d e = absurd (no e)
+    go noDummy d e = absurd (no e)
+    go (readForRequest p ℓ i) d e = source p ℓ i (isSource s p ℓ) refl e
+    go (readForJob p ℓ i) d e = (rw (← same p e) (front-counts (doStep (readForJob p ℓ i) js s) p (d .rest) (d .front)), inr refl)
+    go (rebuild p t) d e = (rw (← same p e) (front-counts (doStep (rebuild p t) js s) p (d .rest) (d .front)), inr refl)
+    go (writeNext p t i) d e = (rw (← same p e) (front-counts (doStep (writeNext p t i) js s) p (d .rest) (d .front)), inl (d .busy))

@@ -1,18 +1,18 @@
 -- What a turn's step says of the state it was decided in.
-use mathlib.Core.Path.{_≡_, refl}
+use mathlib.Core.Path.{_≡_, refl, ap, sym, _∙_}
 use mathlib.Core.Logic.{_⊎_, inl, inr}
-use mathlib.Core.Bool.{Bool, true, false}
+use mathlib.Core.Bool.{Bool, true, false, not, _||_, true≢false}
 use mathlib.Core.List.{List, [], _∷_}
 use mathlib.Core.Option.{Option, none, none as nothing, some, Option·getD}
 use Prim.Native.Nat.{ℕ, _-_, _≤_, _<_}
 use native.Mathlib.Omega.{arith}
 use lib.Dec.{eqb, leb, ltb}
-use borrow.Author.Tests.{eqb-true, eqb-false, ltb-true}
+use borrow.Author.Tests.{eqb-true, eqb-false, eq-eqb, ltb-true}
 use Rattle.lists.specs.All.{All, nil, cons, IfSome, all-map, all-keep, count-below, keep-passes, all-both, find-both, find-none, any-none}
 use Rattle.lists.specs.Members.{count-from, keep-first}
 use Rattle.lists.specs.Search
 use Rattle.lists.specs.Search.{find, orElse}
-use Rattle.lists.specs.Tests.{if_then_else_, and-r}
+use Rattle.lists.specs.Tests.{if_then_else_, and-l, and-r, and-true, or-false-l, or-false-r}
 use Rattle.rules.specs.Blocks
 use Rattle.rules.specs.Laws.Decided.{places-in}
 use Rattle.rules.specs.Levels.{filled, sources, target}
@@ -20,12 +20,12 @@ use Rattle.rules.specs.Rebuild
 use Rattle.rules.specs.Rebuild.{places}
 use Rattle.rules.specs.Request
 use Rattle.rules.specs.Shape.{offset, slots}
-use Rattle.rules.specs.State.{State, Command, Request}
+use Rattle.rules.specs.State.{State, Command, Request, stored}
 use Rattle.rules.specs.Turn
 use Rattle.rules.specs.Turn.{Step, idle, noDummy, readForRequest, readForJob, rebuild, writeNext, decide}
 use Rattle.reachable.specs.Scan.{scan-none, scan-least, test}
 
--- a request that finds no dummy
+-- a request that finds no slot to read
 pub record Lacks (s : State) : Type 0 where
   pub asked : Request
   pub level : ℕ
@@ -33,10 +33,60 @@ pub record Lacks (s : State) : Type 0 where
   pub unheld : Request.held asked ≡ false
   pub left : asked .level ≤ level
   pub top : level < s .shape .L
-  pub full : filled (s .counter (s .partition (asked .block))) level ≡ true
-  pub none : Request.dummy s (s .partition (asked .block)) level ≡ nothing
+  pub cost : Request.costs s (s .partition (asked .block)) level ≡ true
+  pub none : Request.slotRead s (s .partition (asked .block)) (s .place (asked .block)) level ≡ nothing
 
--- a request's read: of its block's slot, or of a dummy's
+-- the slot that a request for block b reads of level ℓ of q: its block's, which in a source is unread; else in no source the lowest dummy's; and in
+-- a source, where its block is not unread, the lowest item's
+abbrev pub OwnSlot : State → ℕ → ℕ → ℕ → ℕ → Type 0
+OwnSlot s b q ℓ i = (Request.slotIn ℓ (s .place b) ≡ some i) × ((Request.isSource s q ℓ ≡ false) ⊎ (Blocks.isUnread s q ℓ i ≡ true))
+
+abbrev pub DummySlot : State → ℕ → ℕ → ℕ → ℕ → Type 0
+DummySlot s b q ℓ i = (Request.isSource s q ℓ ≡ false) × (Request.slotIn ℓ (s .place b) ≡ none) × (Request.dummy s q ℓ ≡ some i)
+
+abbrev pub ItemSlot : State → ℕ → ℕ → ℕ → ℕ → Type 0
+ItemSlot s b q ℓ i = (Request.isSource s q ℓ ≡ true) × (Request.ifUnread (Blocks.isUnread s q ℓ) (Request.slotIn ℓ (s .place b)) ≡ none) × (Request.lowest s q ℓ ≡ some i)
+
+-- the block's slot if its place is there; in a source, if the block is there unread
+pub slot-here : (ℓ i : ℕ) → Request.slotIn ℓ (stored ℓ i) ≡ some i
+unfolding Request.slotIn
+slot-here ℓ i = rw (eq-eqb ℓ ℓ refl)
+
+pub if-unread : (p : ℕ → Bool) (i : ℕ) → p i ≡ true → Request.ifUnread p (some i) ≡ some i
+unfolding Request.ifUnread
+if-unread p i e = rw e
+
+pub costs-filled : (s : State) (q ℓ : ℕ) → Request.costs s q ℓ ≡ true → filled (s .counter q) ℓ ≡ true
+unfolding Request.costs
+costs-filled s q ℓ e = and-l (filled (s .counter q) ℓ) (not (Request.isSource s q ℓ) || Search.any (Blocks.isUnread s q ℓ) (Search.below (slots ℓ))) e
+
+slot-cases : (s : State) (b q ℓ i : ℕ) → Request.slotRead s q (s .place b) ℓ ≡ some i → OwnSlot s b q ℓ i ⊎ (DummySlot s b q ℓ i ⊎ ItemSlot s b q ℓ i)
+unfolding Request.slotRead
+slot-cases s b q ℓ i e = go (Request.isSource s q ℓ) refl e
+  where
+    other : Request.isSource s q ℓ ≡ false → (a c : Option ℕ) → Request.slotIn ℓ (s .place b) ≡ a → Request.dummy s q ℓ ≡ c → orElse a c ≡ some i → OwnSlot s b q ℓ i ⊎ (DummySlot s b q ℓ i ⊎ ItemSlot s b q ℓ i)
+    other u none c ea ec w = inr (inl (u, ea, ec ∙ unfold orElse in w))
+    other u (some j) c ea ec w = inl (ea ∙ unfold orElse in w, inl u)
+
+    source : Request.isSource s q ℓ ≡ true → (a c : Option ℕ) → Request.ifUnread (Blocks.isUnread s q ℓ) (Request.slotIn ℓ (s .place b)) ≡ a → Request.lowest s q ℓ ≡ c → orElse a c ≡ some i → OwnSlot s b q ℓ i ⊎ (DummySlot s b q ℓ i ⊎ ItemSlot s b q ℓ i)
+    source u none c ea ec w = inr (inr (u, ea, ec ∙ unfold orElse in w))
+    source u (some j) c ea ec w = own (Request.slotIn ℓ (s .place b)) refl (ea ∙ unfold orElse in w)
+      where
+        own : (o : Option ℕ) → Request.slotIn ℓ (s .place b) ≡ o → Request.ifUnread (Blocks.isUnread s q ℓ) o ≡ some i → OwnSlot s b q ℓ i ⊎ (DummySlot s b q ℓ i ⊎ ItemSlot s b q ℓ i)
+        own none eo w = let z : _≡_ {A = ℕ} 0 1 = unfold Request.ifUnread in (cc) in absurd (omega arith)
+        own (some k) eo w = by (Blocks.isUnread s q ℓ k) refl (unfold Request.ifUnread in w)
+          where
+            by : (t : Bool) → Blocks.isUnread s q ℓ k ≡ t → (if t then some k else none) ≡ some i → OwnSlot s b q ℓ i ⊎ (DummySlot s b q ℓ i ⊎ ItemSlot s b q ℓ i)
+            by true v w = let x : k ≡ i = cc in inl (eo ∙ w, inr (rw (← x) v))
+            by false v w = let z : _≡_ {A = ℕ} 0 1 = cc in absurd (omega arith)
+
+    go : (t : Bool) → Request.isSource s q ℓ ≡ t
+        → (if t then orElse (Request.ifUnread (Blocks.isUnread s q ℓ) (Request.slotIn ℓ (s .place b))) (Request.lowest s q ℓ) else orElse (Request.slotIn ℓ (s .place b)) (Request.dummy s q ℓ)) ≡ some i
+        → OwnSlot s b q ℓ i ⊎ (DummySlot s b q ℓ i ⊎ ItemSlot s b q ℓ i)
+    go true u e = source u (Request.ifUnread (Blocks.isUnread s q ℓ) (Request.slotIn ℓ (s .place b))) (Request.lowest s q ℓ) refl refl e
+    go false u e = other u (Request.slotIn ℓ (s .place b)) (Request.dummy s q ℓ) refl refl e
+
+-- a request's read
 pub record RequestReads (s : State) (q ℓ i : ℕ) : Type 0 where
   pub asked : Request
   pub inHand : s .request ≡ some asked
@@ -45,8 +95,12 @@ pub record RequestReads (s : State) (q ℓ i : ℕ) : Type 0 where
   pub left : asked .level ≤ ℓ
   pub top : ℓ < s .shape .L
   pub full : filled (s .counter q) ℓ ≡ true
-  pub first : (m : ℕ) → asked .level ≤ m → m < ℓ → filled (s .counter q) m ≡ false
-  pub slot : (Request.slotIn ℓ (s .place (asked .block)) ≡ some i) ⊎ ((Request.slotIn ℓ (s .place (asked .block)) ≡ none) × (Request.dummy s q ℓ ≡ some i))
+  pub first : (m : ℕ) → asked .level ≤ m → m < ℓ → Request.costs s q m ≡ false
+  pub slot : OwnSlot s (asked .block) q ℓ i ⊎ (DummySlot s (asked .block) q ℓ i ⊎ ItemSlot s (asked .block) q ℓ i)
+
+-- a request that is not held has no level left
+abbrev pub Behind : State → Type 0
+Behind s = (r : Request) → s .request ≡ some r → Request.held r ≡ false → Request.levelsLeft s r ≡ []
 
 -- a job's read
 pub record JobReads (s : State) (q ℓ i : ℕ) : Type 0 where
@@ -56,6 +110,7 @@ pub record JobReads (s : State) (q ℓ i : ℕ) : Type 0 where
   pub source : ℓ < sources (s .shape) (s .counter q)
   pub slot : i < slots ℓ
   pub unread : Blocks.isUnread s q ℓ i ≡ true
+  pub behind : Behind s
   pub next : (m j : ℕ) → m < sources (s .shape) (s .counter q) → j < slots m → s .cursor ≤ offset m j → offset m j < offset ℓ i → Blocks.isUnread s q m j ≡ false
 
 -- the draw of an order
@@ -66,6 +121,7 @@ pub record Rebuilds (s : State) (q t : ℕ) : Type 0 where
   pub goal : t ≡ target (s .shape) (s .counter q)
   pub read : (ℓ i : ℕ) → ℓ < sources (s .shape) (s .counter q) → i < slots ℓ → s .cursor ≤ offset ℓ i → Blocks.isUnread s q ℓ i ≡ false
   pub quiet : All (λ (c : Command). eqb (c .partition) q ≡ false) (s .outstanding)
+  pub apart : (r : Request) → s .request ≡ some r → Request.held r ≡ false → ¬ (s .partition (r .block) ≡ q)
 
 -- a further write
 pub record Writes (s : State) (q t i : ℕ) : Type 0 where
@@ -85,49 +141,69 @@ Decided s (rebuild q t) = Rebuilds s q t
 Decided s (writeNext q t i) = Writes s q t i
 
 module _ (s : State) where
-  levels-left : (r : Request) → All (λ ℓ. (r .level ≤ ℓ) × (ℓ < s .shape .L) × (filled (s .counter (s .partition (r .block))) ℓ ≡ true)) (Request.levelsLeft s r)
+  levels-left : (r : Request) → All (λ ℓ. (r .level ≤ ℓ) × (ℓ < s .shape .L) × (Request.costs s (s .partition (r .block)) ℓ ≡ true)) (Request.levelsLeft s r)
   unfolding Request.levelsLeft
   levels-left r = all-map (λ x k. (k .0 .0, omega (arith, k .0 .0, k .0 .1), k .1))
       (all-both (all-keep _ (all-both (count-from (r .level) (s .shape .L - r .level)) (count-below (r .level) (s .shape .L - r .level)))) (keep-passes _ _))
 
   request-decided : (o : Option Request) → s .request ≡ o → IfSome (Decided s) (Turn.requestStep s o)
-  unfolding Turn.requestStep Turn.firstRead Turn.readStep orElse
+  unfolding Turn.requestStep Turn.firstRead Turn.readStep
   request-decided none e = tt
   request-decided (some r) e = go (Request.held r) refl
     where
       q : ℕ
       q = s .partition (r .block)
 
-      slot : (ℓ : ℕ) → Request.held r ≡ false → ((m : ℕ) → r .level ≤ m → m < ℓ → filled (s .counter q) m ≡ false) → (r .level ≤ ℓ) × (ℓ < s .shape .L) × (filled (s .counter q) ℓ ≡ true) → (a b : Option ℕ) → Request.slotIn ℓ (s .place (r .block)) ≡ a → Request.dummy s q ℓ ≡ b
-          → Decided s (Turn.readStep q ℓ (orElse a b))
-      slot ℓ u v k none none ea eb = record { asked = r; level = ℓ; inHand = e; unheld = u; left = k .0; top = k .1; full = k .2; none = eb }
-      slot ℓ u v k none (some i) ea eb = record { asked = r; inHand = e; part = refl; unheld = u; left = k .0; top = k .1; full = k .2; first = v; slot = inr (ea, eb) }
-      slot ℓ u v k (some i) b ea eb = record { asked = r; inHand = e; part = refl; unheld = u; left = k .0; top = k .1; full = k .2; first = v; slot = inl ea }
+      slot : (ℓ : ℕ) → Request.held r ≡ false → ((m : ℕ) → r .level ≤ m → m < ℓ → Request.costs s q m ≡ false) → (r .level ≤ ℓ) × (ℓ < s .shape .L) × (Request.costs s q ℓ ≡ true) → (a : Option ℕ) → Request.slotRead s q (s .place (r .block)) ℓ ≡ a
+          → Decided s (Turn.readStep q ℓ a)
+      slot ℓ u v k none ea = record { asked = r; level = ℓ; inHand = e; unheld = u; left = k .0; top = k .1; cost = k .2; none = ea }
+      slot ℓ u v k (some i) ea = record { asked = r; inHand = e; part = refl; unheld = u; left = k .0; top = k .1; full = costs-filled s q ℓ (k .2); first = v; slot = slot-cases s (r .block) q ℓ i ea }
 
-      first : (ls : List ℕ) → Request.levelsLeft s r ≡ ls → Request.held r ≡ false → All (λ ℓ. (r .level ≤ ℓ) × (ℓ < s .shape .L) × (filled (s .counter q) ℓ ≡ true)) ls
-          → IfSome (Decided s) (Turn.firstRead q (s .place (r .block)) (Request.dummy s q) ls)
+      first : (ls : List ℕ) → Request.levelsLeft s r ≡ ls → Request.held r ≡ false → All (λ ℓ. (r .level ≤ ℓ) × (ℓ < s .shape .L) × (Request.costs s q ℓ ≡ true)) ls
+          → IfSome (Decided s) (Turn.firstRead q (Request.slotRead s q (s .place (r .block))) ls)
       first [] e u nil = tt
-      first (ℓ ∷ ls) e u (cons k t) = slot ℓ u (λ m a b. unfold Request.levelsLeft in (keep-first (filled (s .counter q)) (r .level) (s .shape .L - r .level) ℓ ls e m a b)) k (Request.slotIn ℓ (s .place (r .block))) (Request.dummy s q ℓ) refl refl
+      first (ℓ ∷ ls) e u (cons k t) = slot ℓ u (λ m a b. unfold Request.levelsLeft in (keep-first (Request.costs s q) (r .level) (s .shape .L - r .level) ℓ ls e m a b)) k (Request.slotRead s q (s .place (r .block)) ℓ) refl
 
-      go : (t : Bool) → Request.held r ≡ t → IfSome (Decided s) (if t then none else Turn.firstRead q (s .place (r .block)) (Request.dummy s q) (Request.levelsLeft s r))
+      go : (t : Bool) → Request.held r ≡ t → IfSome (Decided s) (if t then none else Turn.firstRead q (Request.slotRead s q (s .place (r .block))) (Request.levelsLeft s r))
       go true u = tt
       go false u = first (Request.levelsLeft s r) refl u (levels-left r)
 
-  job-decided : (l : List ℕ) → s .queue ≡ l → Decided s (Turn.jobStep s l)
+  -- where the request has no step, a request that is not held has no level left
+  step-behind : (o : Option Request) → s .request ≡ o → Turn.requestStep s o ≡ none → Behind s
+  unfolding Turn.requestStep Turn.firstRead
+  step-behind none e w r k u = let z : _≡_ {A = ℕ} 0 1 = cc in absurd (omega arith)
+  step-behind (some x) e w r k u = let v : x ≡ r = cc in rw (← v) (go (Request.held x) (Request.levelsLeft s x) (ap Request.held v ∙ u) w)
+    where
+      go : (t : Bool) (ls : List ℕ) → t ≡ false → (if t then none else Turn.firstRead (s .partition (x .block)) (Request.slotRead s (s .partition (x .block)) (s .place (x .block))) ls) ≡ none → ls ≡ []
+      go true ls f w = absurd (true≢false f)
+      go false [] f w = refl
+      go false (ℓ ∷ ls) f w = let z : _≡_ {A = ℕ} 0 1 = cc in absurd (omega arith)
+
+  -- no released request is in hand for q
+  looks-none : (q : ℕ) (o : Option Request) → s .request ≡ o → Request.releasedFor (s .partition) o q ≡ false → (r : Request) → s .request ≡ some r → Request.held r ≡ false → ¬ (s .partition (r .block) ≡ q)
+  unfolding Request.releasedFor
+  looks-none q none e w r k u z = let y : _≡_ {A = ℕ} 0 1 = cc in absurd (omega arith)
+  looks-none q (some x) e w r k u z =
+      let v : x ≡ r = cc in
+      let u′ : Request.held x ≡ false = ap Request.held v ∙ u in
+      let z′ : s .partition (x .block) ≡ q = ap (λ (y : Request). s .partition (y .block)) v ∙ z in
+      true≢false (sym (and-true (ap not u′) (eq-eqb (s .partition (x .block)) q z′)) ∙ w)
+
+  job-decided : Behind s → (l : List ℕ) → s .queue ≡ l → Decided s (Turn.jobStep s l)
   unfolding Turn.jobStep Turn.rebuildStep Turn.writeStep Turn.gatherStep
-  job-decided [] e = tt
-  job-decided (q ∷ l) e = go (eqb (s .sent) 0) refl
+  job-decided bh [] e = tt
+  job-decided bh (q ∷ l) e = go (eqb (s .sent) 0) refl
     where
       goal : ℕ
       goal = target (s .shape) (s .counter q)
 
-      draws : s .sent ≡ 0 → Rebuild.unread s q ≡ none → (t : Bool) → Search.any (λ (c : Command). eqb (c .partition) q) (s .outstanding) ≡ t → Decided s (if t then idle else rebuild q goal)
+      draws : s .sent ≡ 0 → Rebuild.unread s q ≡ none → (t : Bool) → (Search.any (λ (c : Command). eqb (c .partition) q) (s .outstanding) || Request.releasedFor (s .partition) (s .request) q) ≡ t → Decided s (if t then idle else rebuild q goal)
       draws z u true a = tt
-      draws z u false a = record { rest = l; front = e; calm = z; goal = refl; read = unfold Rebuild.unread in (scan-none (s .cursor) (sources (s .shape) (s .counter q)) (Blocks.isUnread s q) (find-none _ _ u)); quiet = any-none _ _ a }
+      draws z u false a = record { rest = l; front = e; calm = z; goal = refl; read = unfold Rebuild.unread in (scan-none (s .cursor) (sources (s .shape) (s .counter q)) (Blocks.isUnread s q) (find-none _ _ u)); quiet = any-none _ _ (or-false-l (Search.any (λ (c : Command). eqb (c .partition) q) (s .outstanding)) (Request.releasedFor (s .partition) (s .request) q) a); apart = looks-none q (s .request) refl (or-false-r (Search.any (λ (c : Command). eqb (c .partition) q) (s .outstanding)) (Request.releasedFor (s .partition) (s .request) q) a) }
 
       reads : s .sent ≡ 0 → (o : Option (ℕ × ℕ)) → Rebuild.unread s q ≡ o → IfSome (λ (p : ℕ × ℕ). (Blocks.isUnread s q (p .0) (p .1) ≡ true) × ((p .0 < sources (s .shape) (s .counter q)) × (p .1 < slots (p .0)))) o
           → Decided s (Turn.gatherStep q o (Turn.rebuildStep s q))
-      reads z none u h = draws z u (Search.any (λ (c : Command). eqb (c .partition) q) (s .outstanding)) refl
+      reads z none u h = draws z u (Search.any (λ (c : Command). eqb (c .partition) q) (s .outstanding) || Request.releasedFor (s .partition) (s .request) q) refl
       reads z (some p) u h = record {
         rest = l;
         front = e;
@@ -135,6 +211,7 @@ module _ (s : State) where
         source = h .1 .0;
         slot = h .1 .1;
         unread = h .0;
+        behind = bh;
         next = unfold Rebuild.unread in (scan-least (s .cursor) (sources (s .shape) (s .counter q)) (Blocks.isUnread s q) p u);
       }
 
@@ -156,8 +233,8 @@ module _ (s : State) where
 
   pub decided : Decided s (decide s)
   unfolding decide
-  decided = go (Turn.requestStep s (s .request)) (request-decided (s .request) refl)
+  decided = go (Turn.requestStep s (s .request)) refl (request-decided (s .request) refl)
     where
-      go : (o : Option Step) → IfSome (Decided s) o → Decided s (Option·getD o (Turn.jobStep s (s .queue)))
-      go none h = job-decided (s .queue) refl
-      go (some x) h = h
+      go : (o : Option Step) → Turn.requestStep s (s .request) ≡ o → IfSome (Decided s) o → Decided s (Option·getD o (Turn.jobStep s (s .queue)))
+      go none w h = job-decided (step-behind (s .request) refl w) (s .queue) refl
+      go (some x) w h = h

@@ -1,4 +1,4 @@
--- Which slot a turn reads: the first unread one of the sources, the lowest dummy item's.
+-- Which slot a turn reads: the first unread one of the sources, the lowest dummy item's, or in a source the lowest unread item's.
 use mathlib.Core.Option.{Option·getD, none, some}
 use mathlib.Core.Path.{_≡_, refl, ap, sym, _∙_}
 use mathlib.Core.Logic.{_⊎_, inl, inr, ⊎-elim}
@@ -11,7 +11,7 @@ use lib.Dec.{eqb, leb}
 use borrow.Author.Tests.{eqb-true, eqb-false, ne-eqb, eq-eqb, leb-false}
 use Rattle.lists.specs.All.{all-map, find-same}
 use Rattle.lists.specs.Members.{find-first}
-use Rattle.lists.specs.Search.{orElse, find, below, isNone}
+use Rattle.lists.specs.Search.{find, below, isNone}
 use Rattle.lists.specs.Tests.{if_then_else_, and-l, and-r, and-true}
 use Rattle.rules.specs.Blocks
 use Rattle.rules.specs.Laws.Answers.{step-accepted, step-refused}
@@ -27,12 +27,12 @@ use Rattle.rules.specs.Shape.{cell, offset, slots}
 use Rattle.rules.specs.State.{State, Command, cmd, read, Request}
 use Rattle.rules.specs.Turn
 use Rattle.rules.specs.Turn.{Step, idle, noDummy, readForRequest, readForJob, rebuild, writeNext, decide, command}
-use Rattle.reachable.specs.Consequences.{block-lt, unqueued, named-zero, job-full}
-use Rattle.reachable.specs.Decided.{JobReads, RequestReads, decided, Decided}
+use Rattle.reachable.specs.Consequences.{block-lt, unread-mark, read-mark, reads-count, named-zero, job-full}
+use Rattle.reachable.specs.Decided.{JobReads, OwnSlot, DummySlot, ItemSlot, RequestReads, decided, Decided, if-unread}
 use Rattle.reachable.specs.Invariant.{Reached}
-use Rattle.reachable.specs.Live.{front-is, counted-other, not-front}
+use Rattle.reachable.specs.Live.{front-is}
 use Rattle.reachable.specs.Never.{named-none}
-use Rattle.reachable.specs.Terms.{Numbered, LowestDummy}
+use Rattle.reachable.specs.Terms.{Numbered, LowestUnread}
 
 module _ (s : State) (f : Reached s) where
   -- what the front job has gone over is read
@@ -62,15 +62,15 @@ module _ (s : State) (f : Reached s) where
       go (yes k) = over-read q (d .rest) (d .front) (d .calm) m j (before l .0) hj k
       go (no k) = d .next m j (before l .0) hj (omega arith) (before l .1)
 
-  pub lowest-dummy : (q ℓ i : ℕ) → RequestReads s q ℓ i → (r : Request) → s .request ≡ some r → Request.slotIn ℓ (s .place (r .block)) ≡ none
-      → (n : ℕ) × (Numbered (s .shape) (s .order) (s .mark) (s .holds) q ℓ n × LowestDummy (s .shape) (s .order) (s .mark) q ℓ n i)
-  lowest-dummy q ℓ i d r e u = (
+  pub lowest-dummy : (q ℓ i : ℕ) → RequestReads s q ℓ i → Request.isSource s q ℓ ≡ false → (r : Request) → s .request ≡ some r → Request.slotIn ℓ (s .place (r .block)) ≡ none
+      → (n : ℕ) × (Numbered (s .shape) (s .order) (s .mark) (s .holds) q ℓ n × LowestUnread (s .shape) (s .order) (s .mark) q ℓ n i)
+  lowest-dummy q ℓ i d o r e u = (
     n .0,
     (
       n .1,
       record {
         item = k;
-        isDummy = late (decLt k (n .0));
+        from = late (decLt k (n .0));
         inLevel = omega (arith, x .1 .1);
         slot = x .1 .2;
         unread = rw (x .1 .2) at (free .0);
@@ -83,7 +83,7 @@ module _ (s : State) (f : Reached s) where
       hq = rw (← d .part) (f .range .partitions (d .asked .block) (block-lt s f (d .asked) (d .inHand)))
 
       n : (n : ℕ) × Numbered (s .shape) (s .order) (s .mark) (s .holds) q ℓ n
-      n = f .items q ℓ hq (d .top) (ap (λ c. filled c ℓ) (counted-other s q (not-front (s .queue) q (unqueued s f q ℓ i d))) ∙ d .full)
+      n = f .items q ℓ hq (d .top) (ap (λ c. filled c ℓ) (reads-count s f q ℓ i d) ∙ d .full)
 
       order : ℕ → ℕ
       order k = s .order (cell (s .shape) q ℓ k)
@@ -92,7 +92,7 @@ module _ (s : State) (f : Reached s) where
       test j = Blocks.isUnread s q ℓ j && isNone (Blocks.holder s q ℓ j)
 
       is-dummy : Request.dummy s q ℓ ≡ some i
-      is-dummy = ⊎-elim (λ z. let w : r ≡ d .asked = cc (e, d .inHand) in absurd (let v : none ≡ some i = sym u ∙ ap (λ (y : Request). Request.slotIn ℓ (s .place (y .block))) w ∙ z in let y : _≡_ {A = ℕ} 0 1 = cc in omega arith)) (λ z. z .1) (d .slot)
+      is-dummy = ⊎-elim (λ z. let w : r ≡ d .asked = cc (e, d .inHand) in absurd (let v : none ≡ some i = sym u ∙ ap (λ (y : Request). Request.slotIn ℓ (s .place (y .block))) w ∙ z .0 in let y : _≡_ {A = ℕ} 0 1 = cc in omega arith)) (⊎-elim (λ z. z .2) (λ z. absurd (true≢false (sym (z .0) ∙ o)))) (d .slot)
 
       x : (k : ℕ) × ((0 ≤ k) × (k < 0 + slots ℓ) × (order k ≡ i) × (test (order k) ≡ true) × ((j : ℕ) → 0 ≤ j → j < k → test (order j) ≡ false))
       x = find-first order test 0 (slots ℓ) i (unfold Request.dummy below in is-dummy)
@@ -118,6 +118,46 @@ module _ (s : State) (f : Reached s) where
           let z = n .1 .dummies j l (omega arith) in
           let t : test (order j) ≡ false = x .1 .4 j (omega arith) m in
           let y : s .mark (cell (s .shape) q ℓ (order j)) ≡ 1 → ⊥ = λ w. true≢false (sym (free-is (order j) w z) ∙ t) in
+          omega (arith, f .range .marks q ℓ (order j) hq (d .top) (f .range .orders q ℓ j hq (d .top) (omega arith)))
+
+  pub lowest-item : (q ℓ i : ℕ) → RequestReads s q ℓ i → Request.isSource s q ℓ ≡ true → (r : Request) → s .request ≡ some r → Request.ifUnread (Blocks.isUnread s q ℓ) (Request.slotIn ℓ (s .place (r .block))) ≡ none
+      → LowestUnread (s .shape) (s .order) (s .mark) q ℓ 0 i
+  lowest-item q ℓ i d o r e u = record {
+    item = x .0;
+    from = omega arith;
+    inLevel = omega (arith, x .1 .1);
+    slot = x .1 .2;
+    unread = rw (x .1 .2) at (unread-mark s q ℓ (order (x .0)) (x .1 .3));
+    lower = λ j l m. passed j m (omega (arith, x .1 .1));
+  }
+    where
+      hq : q < s .shape .P
+      hq = rw (← d .part) (f .range .partitions (d .asked .block) (block-lt s f (d .asked) (d .inHand)))
+
+      order : ℕ → ℕ
+      order k = s .order (cell (s .shape) q ℓ k)
+
+      same : r ≡ d .asked
+      same = cc (e, d .inHand)
+
+      is-lowest : OwnSlot s (d .asked .block) q ℓ i ⊎ (DummySlot s (d .asked .block) q ℓ i ⊎ ItemSlot s (d .asked .block) q ℓ i) → Request.lowest s q ℓ ≡ some i
+      is-lowest (inl z) = absurd (⊎-elim (λ w. true≢false (sym o ∙ w)) (λ w. own-unread z w) (z .1))
+        where
+          own-unread : OwnSlot s (d .asked .block) q ℓ i → Blocks.isUnread s q ℓ i ≡ true → ⊥
+          own-unread z w =
+              let v : Request.ifUnread (Blocks.isUnread s q ℓ) (some i) ≡ none = ap (Request.ifUnread (Blocks.isUnread s q ℓ)) (sym (z .0)) ∙ ap (λ (y : Request). Request.ifUnread (Blocks.isUnread s q ℓ) (Request.slotIn ℓ (s .place (y .block)))) (sym same) ∙ u in
+              let v′ : some i ≡ none = sym (if-unread (Blocks.isUnread s q ℓ) i w) ∙ v in
+              let y : _≡_ {A = ℕ} 0 1 = cc in omega arith
+      is-lowest (inr (inl z)) = absurd (true≢false (sym o ∙ z .0))
+      is-lowest (inr (inr z)) = z .2
+
+      x : (k : ℕ) × ((0 ≤ k) × (k < 0 + slots ℓ) × (order k ≡ i) × (Blocks.isUnread s q ℓ (order k) ≡ true) × ((j : ℕ) → 0 ≤ j → j < k → Blocks.isUnread s q ℓ (order j) ≡ false))
+      x = find-first order (Blocks.isUnread s q ℓ) 0 (slots ℓ) i (unfold Request.lowest below in (is-lowest (d .slot)))
+
+      passed : (j : ℕ) → j < x .0 → x .0 < slots ℓ → s .mark (cell (s .shape) q ℓ (order j)) ≡ 0
+      passed j m hk =
+          let t : Blocks.isUnread s q ℓ (order j) ≡ false = x .1 .4 j (omega arith) m in
+          let y : s .mark (cell (s .shape) q ℓ (order j)) ≡ 1 → ⊥ = read-mark s q ℓ (order j) t in
           omega (arith, f .range .marks q ℓ (order j) hq (d .top) (f .range .orders q ℓ j hq (d .top) (omega arith)))
 
   -- a read is sent to a filled level
@@ -153,12 +193,12 @@ sent-turn s k q ℓ i e = go (eqb (number s k) 0) refl
 
 -- a request that isn't held and has a level left is read for
 pub request-decides : (s : State) (r : Request) → s .request ≡ some r → Request.held r ≡ false → (ℓ : ℕ) (ls : List ℕ) → Request.levelsLeft s r ≡ ℓ ∷ ls
-    → decide s ≡ Turn.readStep (s .partition (r .block)) ℓ (orElse (Request.slotIn ℓ (s .place (r .block))) (Request.dummy s (s .partition (r .block)) ℓ))
+    → decide s ≡ Turn.readStep (s .partition (r .block)) ℓ (Request.slotRead s (s .partition (r .block)) (s .place (r .block)) ℓ)
 unfolding decide Turn.requestStep Turn.firstRead
 request-decides s r e u ℓ ls v =
     ap (λ o. Option·getD (Turn.requestStep s o) (Turn.jobStep s (s .queue))) e
-    ∙ ap (λ t. Option·getD (if t then none else Turn.firstRead q (s .place (r .block)) (Request.dummy s q) (Request.levelsLeft s r)) (Turn.jobStep s (s .queue))) u
-    ∙ ap (λ l. Option·getD (Turn.firstRead q (s .place (r .block)) (Request.dummy s q) l) (Turn.jobStep s (s .queue))) v
+    ∙ ap (λ t. Option·getD (if t then none else Turn.firstRead q (Request.slotRead s q (s .place (r .block))) (Request.levelsLeft s r)) (Turn.jobStep s (s .queue))) u
+    ∙ ap (λ l. Option·getD (Turn.firstRead q (Request.slotRead s q (s .place (r .block))) l) (Turn.jobStep s (s .queue))) v
   where
     q : ℕ
     q = s .partition (r .block)

@@ -5,7 +5,7 @@ use mathlib.Core.Bool.{Bool, true, false, _&&_}
 use mathlib.Core.List.{List, [], _∷_}
 use mathlib.Core.Option.{Option, some}
 use Prim.Native.Nat.{ℕ, zero, suc, _+_, _-_, _%_, _^_, _≤_, _<_}
-use lib.ListN.{length}
+use lib.ListN.{length, drop}
 use lib.Dec.{eqb}
 use Rattle.lists.specs.All.{All}
 use Rattle.lists.specs.Distinct.{Mem, NoDup}
@@ -16,7 +16,9 @@ use Rattle.rules.specs.Levels.{filled, sources, target}
 use Rattle.rules.specs.Request
 use Rattle.rules.specs.Shape.{Shape, cell, offset, slots}
 use Rattle.rules.specs.State.{State, Command, Place, nowhere, stored, Request, read, write}
-use Rattle.reachable.specs.Live.{storedIn, counted, Gathers, readsOf, pending, isFront, passedBy}
+use Rattle.rules.specs.Request.{isFront}
+use Rattle.rules.specs.Blocks.{readsOf}
+use Rattle.reachable.specs.Live.{storedIn, counted, Gathers, Alone, pending, passedBy}
 use Rattle.reachable.specs.Terms.{Numbered, Apart}
 
 -- ---- Blocks and slots
@@ -73,8 +75,8 @@ Taken h holds = (q ℓ : ℕ) → q < h .P → ℓ < h .L → holdsOf h holds q 
 abbrev pub Begun : State → Type 0
 Begun s = (s .sent ≡ 0 → ⊥) → (q : ℕ) × (rest : List ℕ) × ((s .queue ≡ q ∷ rest) × (s .sent ≤ slots (target (s .shape) (s .counter q))))
 
--- A live level that is not gathered has been read at most once for each job since it was written, and once more while a request or
--- a job that is not drawn is pending
+-- A live level that is not gathered has been read at most once for each job that was drawn since it was written, and once for each job and
+-- each request that is pending
 abbrev pub Reads : State → Type 0
 Reads s = (q ℓ : ℕ) → q < s .shape .P → ℓ < s .shape .L → filled (counted s q) ℓ ≡ true
     → Gathers s q ℓ ⊎ (readsOf (s .shape) (s .mark) q ℓ ≤ counted s q % 2 ^ ℓ + pending s q ℓ)
@@ -83,11 +85,23 @@ Reads s = (q ℓ : ℕ) → q < s .shape .P → ℓ < s .shape .L → filled (co
 abbrev pub Unheld : State → Type 0
 Unheld s = (r : Request) → s .request ≡ some r → (r .level ≡ 0) ⊎ (Request.held r ≡ false)
 
--- The partition of a request that is not held has no job
+-- The partition of a request that is not held has no job, or only one, at the front and not drawn
 abbrev pub Released : State → Type 0
-Released s = (r : Request) → s .request ≡ some r → Request.held r ≡ false → ¬ Mem (s .partition (r .block)) (s .queue)
+Released s = (r : Request) → s .request ≡ some r → Request.held r ≡ false → (¬ Mem (s .partition (r .block)) (s .queue)) ⊎ Alone s (s .partition (r .block))
 
--- The request in hand is for b and has sent its read to level ℓ
+-- ..and of the levels that it has yet to pass, those that no job gathers have been read less than 2^ℓ times
+abbrev pub Unworn : State → Type 0
+Unworn s = (r : Request) → s .request ≡ some r → Request.held r ≡ false → (ℓ : ℕ) → r .level ≤ ℓ → ℓ < s .shape .L → filled (s .counter (s .partition (r .block))) ℓ ≡ true
+    → ¬ Gathers s (s .partition (r .block)) ℓ → readsOf (s .shape) (s .mark) (s .partition (r .block)) ℓ < 2 ^ ℓ
+
+-- ..and an outstanding command of its partition that it does not await is of a level that the job gathers, and not of its block's slot
+abbrev pub Aside : State → Request → Command → Type 0
+Aside s r c = c .partition ≡ s .partition (r .block) → Gathers s (s .partition (r .block)) (c .level) × ¬ (s .place (r .block) ≡ stored (c .level) (c .slot))
+
+abbrev pub Unawaited : State → Type 0
+Unawaited s = (r : Request) → s .request ≡ some r → Request.held r ≡ false → All (Aside s r) (drop (r .awaits) (s .outstanding))
+
+-- The request in hand is for b and has passed level ℓ
 abbrev pub Own : State → ℕ → ℕ → Type 0
 Own s b ℓ = (r : Request) × ((s .request ≡ some r) × (r .block ≡ b) × (ℓ < r .level))
 
@@ -103,9 +117,13 @@ Fetched s = (r : Request) (ℓ i : ℕ) → s .request ≡ some r → s .place (
 abbrev pub Scanned : State → Type 0
 Scanned s = (q ℓ i : ℕ) → isFront (s .queue) q ≡ true → s .sent ≡ 0 → ℓ < sources (s .shape) (s .counter q) → i < slots ℓ → offset ℓ i < s .cursor → s .mark (cell (s .shape) q ℓ i) ≡ 0
 
--- With no job queued, none has gone over anything
+-- With no job queued, none has begun
 abbrev pub Jobless : State → Type 0
-Jobless s = s .queue ≡ [] → s .cursor ≡ 0
+Jobless s = s .queue ≡ [] → s .begun ≡ 0
+
+-- A job that has not begun has gone over nothing and sent no write
+abbrev pub Unbegun : State → Type 0
+Unbegun s = s .begun ≡ 0 → (s .cursor ≡ 0) × (s .sent ≡ 0)
 
 -- While a job is drawn, the levels below its target are read throughout
 abbrev pub Spent : State → Type 0
@@ -153,10 +171,13 @@ pub record Reached (s : State) : Type 0 where
   pub reads : Reads s
   pub unheld : Unheld s
   pub released : Released s
+  pub unworn : Unworn s
+  pub unawaited : Unawaited s
   pub unread : Unread s
   pub fetched : Fetched s
   pub scanned : Scanned s
   pub jobless : Jobless s
+  pub unbegun : Unbegun s
   pub spent : Spent s
   pub apart : Apart (s .outstanding)  -- a slot never has two commands outstanding
   pub commands : Commands s

@@ -14,10 +14,12 @@ pub mod Kept
 pub mod Decided
 pub mod Consequences
 pub mod Never
--- For the theorems: each block has one place; when a request is held, and runs without where blocks were found; which slot a turn reads; the commands
--- sent to one slot over a run
+pub mod Worn
+-- For the theorems: each block has one place; when a request is held; that the block collected leaves the job; which slot a turn reads; the commands sent to
+-- one slot over a run
 pub mod Counts
 pub mod Settled
+pub mod Leaves
 pub mod Found
 pub mod Sends
 -- Underneath: bits of counters, cells of levels, a search from a cursor, pending jobs and requests, stored and gathered blocks by places

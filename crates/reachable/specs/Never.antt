@@ -1,23 +1,22 @@
 -- States that calls left never lack a dummy, and never gather more blocks than the target holds.
 use mathlib.Core.Path.{_≡_, refl, ap, sym, _∙_}
 use mathlib.Core.Logic.{_⊎_, inl, inr, ⊎-elim}
-use mathlib.Core.Bool.{Bool, true, false, _&&_, _||_, true≢false}
+use mathlib.Core.Bool.{Bool, true, false, not, _&&_, _||_, true≢false}
 use mathlib.Core.List.{List, [], _∷_, _++_, map}
 use mathlib.Core.Option.{Option, none, some}
-use Prim.Native.Nat.{ℕ, zero, suc, _+_, _-_, _%_, _^_, _≤_, _<_}
-use native.Mathlib.Nat.{mod-lt}
+use Prim.Native.Nat.{ℕ, zero, suc, _+_, _-_, _^_, _≤_, _<_}
 use native.Mathlib.Omega.{arith}
 use native.Mathlib.Decide.{decLt}
 use lib.ListN.{length, length-append}
 use lib.Dec.{ltb}
-use lib.Pow.{pow-pos, pow-mono}
+use lib.Pow.{pow-mono}
 use borrow.Author.Tests.{eq-eqb, lt-ltb, le-leb, ltb-true}
-use Rattle.lists.specs.All.{All, cons, find-none}
+use Rattle.lists.specs.All.{All, cons, find-none, any-all, below-below}
 use Rattle.lists.specs.Distinct.{Mem}
 use Rattle.lists.specs.Members.{all-mem, below-mem, decMem, nodup-le, nodup-sub, mem-member, map-mem, append-right, member-append}
 use Rattle.lists.specs.Search
 use Rattle.lists.specs.Search.{below, member}
-use Rattle.lists.specs.Tests.{and-l, and-true, or-left, or-right}
+use Rattle.lists.specs.Tests.{if_then_else_, and-l, and-r, and-true, or-left, or-right}
 use Rattle.lists.specs.Totals.{total-gap}
 use Rattle.rules.specs.Blocks
 use Rattle.rules.specs.Laws.Levels.{sources-le}
@@ -31,12 +30,12 @@ use Rattle.rules.specs.Shape.{cell, slots}
 use Rattle.rules.specs.State.{State, stored, Request}
 use Rattle.rules.specs.Turn.{decide, Step, idle, noDummy, readForRequest, readForJob, rebuild, writeNext}
 use Rattle.reachable.specs.Blocks.{in-why, is-below, why-in, lt-below, why-at, in-is, nodup-in, nodup-gathered, gathered-lt, target-min}
-use Rattle.reachable.specs.Consequences.{block-lt}
-use Rattle.reachable.specs.Decided.{Lacks, Decided, decided}
+use Rattle.reachable.specs.Consequences.{block-lt, released-count, lowest-none}
+use Rattle.reachable.specs.Decided.{Lacks, Decided, decided, costs-filled}
 use Rattle.reachable.specs.Invariant.{taken, Reached, holdsOf, storedAt}
 use Rattle.reachable.specs.Live
-use Rattle.reachable.specs.Live.{readsOf, counted, counted-other, not-front, pending, Gathers, front-mem}
-use Rattle.reachable.specs.Pending.{undrawn-mem, passed-why, pending-cases}
+use Rattle.rules.specs.Blocks.{readsOf}
+use Rattle.reachable.specs.Live.{counted, gathers-source}
 use Rattle.reachable.specs.Slots.{gathered-why, chosen-room, front-in}
 
 taken-none : (n : ℕ) → taken n ≡ 0 → n ≡ 0
@@ -48,10 +47,15 @@ pub named-none : (n : ℕ) → n ≡ 0 → Search.isNone (Blocks.named n) ≡ tr
 unfolding Blocks.named Search.isNone
 named-none n e = rw e
 
--- A request always finds an unread dummy
+else-none : (a b : Option ℕ) → Search.orElse a b ≡ none → b ≡ none
+unfolding Search.orElse
+else-none none b e = e
+else-none (some x) b e = let z : _≡_ {A = ℕ} 0 1 = cc in absurd (omega arith)
+
+-- A request always finds a slot to read: in a source that costs, an unread item; in another level an unread dummy
 never-lacks : (s : State) → Reached s → Lacks s → ⊥
 unfolding readsOf holdsOf
-never-lacks s f k = go (f .reads q ℓ hq (k .top) (ap (λ c. filled c ℓ) count ∙ k .full))
+never-lacks s f k = go (Request.isSource s q ℓ) refl (unfold Request.slotRead in (k .none))
   where
     r : Request
     r = k .asked
@@ -65,31 +69,48 @@ never-lacks s f k = go (f .reads q ℓ hq (k .top) (ap (λ c. filled c ℓ) coun
     hq : q < s .shape .P
     hq = f .range .partitions (r .block) (block-lt s f r (k .inHand))
 
-    unqueued : ¬ Mem q (s .queue)
-    unqueued = f .released r (k .inHand) (k .unheld)
+    full : filled (s .counter q) ℓ ≡ true
+    full = costs-filled s q ℓ (k .cost)
 
-    count : counted s q ≡ s .counter q
-    count = counted-other s q (not-front (s .queue) q unqueued)
+    live : filled (counted s q) ℓ ≡ true
+    live = ap (λ c. filled c ℓ) (released-count s f r (k .inHand) (k .unheld)) ∙ full
 
-    free : pending s q ℓ ≡ 0
-    free = ⊎-elim (λ z. z) (λ x. ⊎-elim (λ j. absurd (unqueued (undrawn-mem q (s .queue) (s .sent) j)))
-        (λ j. let w = passed-why (s .partition) (s .request) r q ℓ (k .inHand) j in absurd (omega (arith, k .left, w .1))) x) (pending-cases s q ℓ)
+    -- each slot is an item's
+    item : (i : ℕ) → i < slots ℓ → Mem i (map (λ j. s .order (cell (s .shape) q ℓ j)) (below (slots ℓ)))
+    item i hi =
+        let o = f .orders .each q ℓ i hq (k .top) live hi in
+        rw (o .1 .1) at (map-mem (λ j. s .order (cell (s .shape) q ℓ j)) (o .0) (below (slots ℓ)) (below-mem (slots ℓ) (o .0) (o .1 .0)))
 
-    found : (i : ℕ) → i < slots ℓ → s .mark (cell (s .shape) q ℓ i) ≡ 1 → taken (s .holds (cell (s .shape) q ℓ i)) ≡ 0 → ⊥
-    found i hi hm ht =
-        let o = f .orders .each q ℓ i hq (k .top) (ap (λ c. filled c ℓ) count ∙ k .full) hi in
-        let a : All (λ j. (Blocks.isUnread s q ℓ j && Search.isNone (Blocks.holder s q ℓ j)) ≡ false) (map (λ j. s .order (cell (s .shape) q ℓ j)) (below (slots ℓ))) = unfold Request.dummy in (find-none _ _ (k .none)) in
-        let m : Mem i (map (λ j. s .order (cell (s .shape) q ℓ j)) (below (slots ℓ))) = rw (o .1 .1) at (map-mem (λ j. s .order (cell (s .shape) q ℓ j)) (o .0) (below (slots ℓ)) (below-mem (slots ℓ) (o .0) (o .1 .0))) in
+    found : Request.dummy s q ℓ ≡ none → (i : ℕ) → i < slots ℓ → s .mark (cell (s .shape) q ℓ i) ≡ 1 → taken (s .holds (cell (s .shape) q ℓ i)) ≡ 0 → ⊥
+    found n i hi hm ht =
+        let a : All (λ j. (Blocks.isUnread s q ℓ j && Search.isNone (Blocks.holder s q ℓ j)) ≡ false) (map (λ j. s .order (cell (s .shape) q ℓ j)) (below (slots ℓ))) = unfold Request.dummy in (find-none _ _ n) in
         let yes-i : (Blocks.isUnread s q ℓ i && Search.isNone (Blocks.holder s q ℓ i)) ≡ true = unfold Blocks.isUnread Blocks.holder in (and-true (eq-eqb _ 1 hm) (named-none _ (taken-none _ ht))) in
-        true≢false (sym yes-i ∙ all-mem a i m)
+        true≢false (sym yes-i ∙ all-mem a i (item i hi))
 
-    go : Gathers s q ℓ ⊎ (readsOf (s .shape) (s .mark) q ℓ ≤ counted s q % 2 ^ ℓ + pending s q ℓ) → ⊥
-    go (inl g) = unqueued (front-mem (s .queue) q (g .0))
-    go (inr h) =
+    few : Request.isSource s q ℓ ≡ false → readsOf (s .shape) (s .mark) q ℓ < 2 ^ ℓ
+    few u = f .unworn r (k .inHand) (k .unheld) ℓ (k .left) (k .top) full (λ g. true≢false (sym (gathers-source s q ℓ g) ∙ u))
+
+    go : (t : Bool) → Request.isSource s q ℓ ≡ t
+        → (if t then Search.orElse (Request.ifUnread (Blocks.isUnread s q ℓ) (Request.slotIn ℓ (s .place (r .block)))) (Request.lowest s q ℓ) else Search.orElse (Request.slotIn ℓ (s .place (r .block))) (Request.dummy s q ℓ)) ≡ none → ⊥
+    go true u e =
+        let n : Request.lowest s q ℓ ≡ none = else-none (Request.ifUnread (Blocks.isUnread s q ℓ) (Request.slotIn ℓ (s .place (r .block)))) (Request.lowest s q ℓ) e in
+        let a : All (λ j. Blocks.isUnread s q ℓ j ≡ false) (map (λ j. s .order (cell (s .shape) q ℓ j)) (below (slots ℓ))) = lowest-none s q ℓ n in
+        let some-open : Search.any (Blocks.isUnread s q ℓ) (below (slots ℓ)) ≡ true = cost-open u in
+        let x = any-all (Blocks.isUnread s q ℓ) (below-below (slots ℓ)) some-open in
+        true≢false (sym (x .1 .0) ∙ all-mem a (x .0) (item (x .0) (x .1 .1)))
+      where
+        cost-open : Request.isSource s q ℓ ≡ true → Search.any (Blocks.isUnread s q ℓ) (below (slots ℓ)) ≡ true
+        cost-open u = by (Request.isSource s q ℓ) (Search.any (Blocks.isUnread s q ℓ) (below (slots ℓ))) u (and-r (filled (s .counter q) ℓ) (not (Request.isSource s q ℓ) || Search.any (Blocks.isUnread s q ℓ) (below (slots ℓ))) (unfold Request.costs in (k .cost)))
+          where
+            by : (a c : Bool) → a ≡ true → (not a || c) ≡ true → c ≡ true
+            by true c w z = z
+            by false c w z = absurd (true≢false (sym w))
+    go false u e =
+        let n : Request.dummy s q ℓ ≡ none = else-none (Request.slotIn ℓ (s .place (r .block))) (Request.dummy s q ℓ) e in
         let t = f .taken q ℓ hq (k .top) in
         let gap = total-gap (slots ℓ) (λ i. 1 - s .mark (cell (s .shape) q ℓ i)) (λ i. taken (s .holds (cell (s .shape) q ℓ i)))
-        (omega (arith, h, t, free, mod-lt (counted s q) (pow-pos ℓ), pow-mono {i = ℓ + 1} {j = suc ℓ} (omega arith), pow-mono {i = suc ℓ} {j = ℓ + 1} (omega arith))) in
-        found (gap .0) (gap .1 .0) (omega (arith, gap .1 .1, f .range .marks q ℓ (gap .0) hq (k .top) (gap .1 .0))) (gap .1 .2)
+        (omega (arith, few u, t, pow-mono {i = ℓ + 1} {j = suc ℓ} (omega arith), pow-mono {i = suc ℓ} {j = ℓ + 1} (omega arith))) in
+        found n (gap .0) (gap .1 .0) (omega (arith, gap .1 .1, f .range .marks q ℓ (gap .0) hq (k .top) (gap .1 .0))) (gap .1 .2)
 
 -- The levels below n store fewer than 2^n blocks
 module _ (s : State) (f : Reached s) (q : ℕ) (hq : q < s .shape .P) where

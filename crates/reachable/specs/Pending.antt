@@ -1,25 +1,28 @@
 -- Jobs that are not drawn, requests that have passed a level, and the reads of a level.
 use mathlib.Core.Path.{_≡_, refl, ap, sym, _∙_}
-use mathlib.Core.Logic.{_⊎_, inl, inr, ⊎-elim}
-use mathlib.Core.Bool.{Bool, true, false, _||_, true≢false, _&&_}
+use mathlib.Core.Logic.{inl, inr}
+use mathlib.Core.Bool.{Bool, true, false, true≢false, _&&_}
 use mathlib.Core.List.{List, [], _∷_, _++_}
 use mathlib.Core.Option.{Option, none, some}
 use Prim.Native.Nat.{ℕ, zero, suc, _+_, _-_, _≤_, _<_}
 use native.Mathlib.Omega.{arith}
 use native.Mathlib.Decide.{ℕ-discrete}
 use lib.Dec.{eqb, ltb}
-use borrow.Author.Tests.{eqb-true, eq-eqb, lt-ltb, ltb-true}
+use lib.ListN.{length}
+use Rattle.lists.specs.Lengths.{bit}
+use borrow.Author.Tests.{eqb-true, eq-eqb, ne-eqb, lt-ltb, ltb-true}
 use Rattle.lists.specs.Distinct.{Mem}
-use Rattle.lists.specs.Members.{mem-member, member-mem}
-use Rattle.lists.specs.Search.{member}
+use Rattle.lists.specs.Search.{keep, keep-yes, keep-no}
 use Rattle.lists.specs.Tables.{put, put-same, put-other}
-use Rattle.lists.specs.Tests.{if_then_else_, or-true, or-right, and-l, and-r, and-true}
+use Rattle.lists.specs.Tests.{and-l, and-r, and-true}
 use Rattle.lists.specs.Totals.{total-one, total-same}
 use Rattle.rules.specs.Laws.Layout.{cell-inj}
 use Rattle.rules.specs.Request
 use Rattle.rules.specs.Shape.{Shape, cell, slots}
 use Rattle.rules.specs.State.{State, Request}
-use Rattle.reachable.specs.Live.{undrawn, isFront, pending, passedBy, readsOf}
+use Rattle.rules.specs.Request.{isFront}
+use Rattle.rules.specs.Blocks.{readsOf}
+use Rattle.reachable.specs.Live.{undrawn, times, pending, passedBy}
 
 pub undrawn-mem : (x : ℕ) (qs : List ℕ) (n : ℕ) → Mem x (undrawn qs n) → Mem x qs
 unfolding undrawn
@@ -61,39 +64,44 @@ pub front-more : (qs xs : List ℕ) (q p : ℕ) (rest : List ℕ) → qs ≡ p �
 unfolding isFront
 front-more qs xs q p rest e = rw e
 
-module _ (s : State) (p ℓ : ℕ) where
-  pending-job : Mem p (undrawn (s .queue) (s .sent)) → pending s p ℓ ≡ 1
-  unfolding pending
-  pending-job m = rw (mem-member p (undrawn (s .queue) (s .sent)) m)
+pub times-here : (q : ℕ) (qs : List ℕ) → times q (q ∷ qs) ≡ suc (times q qs)
+unfolding times
+times-here q qs = ap length (keep-yes (eqb q) q qs (eq-eqb q q refl))
 
-  pub pending-request : passedBy (s .partition) (s .request) p ℓ ≡ true → pending s p ℓ ≡ 1
-  unfolding pending
-  pending-request e = rw (or-right (member p (undrawn (s .queue) (s .sent))) (passedBy (s .partition) (s .request) p ℓ) e)
+pub times-else : (q p : ℕ) (qs : List ℕ) → ¬ (q ≡ p) → times q (p ∷ qs) ≡ times q qs
+unfolding times
+times-else q p qs n = ap length (keep-no (eqb q) p qs (ne-eqb q p n))
 
-  pub pending-cases : (pending s p ℓ ≡ 0) ⊎ (Mem p (undrawn (s .queue) (s .sent)) ⊎ (passedBy (s .partition) (s .request) p ℓ ≡ true))
-  unfolding pending
-  pending-cases = go (member p (undrawn (s .queue) (s .sent)) || passedBy (s .partition) (s .request) p ℓ) refl
-    where
-      go : (t : Bool) → (member p (undrawn (s .queue) (s .sent)) || passedBy (s .partition) (s .request) p ℓ) ≡ t
-          → (_≡_ {A = ℕ} (if t then 1 else 0) 0) ⊎ (Mem p (undrawn (s .queue) (s .sent)) ⊎ (passedBy (s .partition) (s .request) p ℓ ≡ true))
-      go false e = inl refl
-      go true e = inr (⊎-elim (λ k. inl (member-mem p (undrawn (s .queue) (s .sent)) k)) inr (or-true (member p (undrawn (s .queue) (s .sent))) (passedBy (s .partition) (s .request) p ℓ) e))
+pub times-append : (q : ℕ) (xs ys : List ℕ) → times q (xs ++ ys) ≡ times q xs + times q ys
+times-append q [] ys = let z : times q [] ≡ 0 = unfold times keep in refl in omega (arith, z)
+times-append q (x ∷ xs) ys = go (ℕ-discrete q x) (times-append q xs ys)
+  where
+    go : Dec (q ≡ x) → times q (xs ++ ys) ≡ times q xs + times q ys → times q (x ∷ (xs ++ ys)) ≡ times q (x ∷ xs) + times q ys
+    go (yes e) h = rw (← e) (omega (arith, times-here q (xs ++ ys), times-here q xs))
+    go (no e) h = omega (arith, times-else q x (xs ++ ys) e, times-else q x xs e)
 
-pub pending-le : (s : State) (p ℓ : ℕ) → pending s p ℓ ≤ 1
+pub times-none : (q : ℕ) (qs : List ℕ) → ¬ Mem q qs → times q qs ≡ 0
+times-none q [] n = unfold times keep in refl
+times-none q (p ∷ qs) n = times-else q p qs (λ e. n (inl e)) ∙ times-none q qs (λ m. n (inr m))
+
+pub bit-le : (a b : Bool) → (a ≡ true → b ≡ true) → bit a ≤ bit b
+unfolding bit
+bit-le true b h = rw (h refl) (omega arith)
+bit-le false b h = omega arith
+
+pub bit-yes : (a : Bool) → a ≡ true → bit a ≡ 1
+unfolding bit
+bit-yes a e = rw e
+
+pub bit-no : (a : Bool) → ¬ (a ≡ true) → bit a ≡ 0
+unfolding bit
+bit-no true n = absurd (n refl)
+bit-no false n = refl
+
+pub pending-more : (s u : State) (p ℓ : ℕ) → times p (undrawn (s .queue) (s .sent)) ≤ times p (undrawn (u .queue) (u .sent))
+    → (passedBy (s .partition) (s .request) p ℓ ≡ true → passedBy (u .partition) (u .request) p ℓ ≡ true) → pending s p ℓ ≤ pending u p ℓ
 unfolding pending
-pending-le s p ℓ = go (member p (undrawn (s .queue) (s .sent)) || passedBy (s .partition) (s .request) p ℓ)
-  where
-    go : (t : Bool) → (if t then 1 else 0) ≤ 1
-    go true = omega arith
-    go false = omega arith
-
-pub pending-more : (s u : State) (p ℓ : ℕ) → (Mem p (undrawn (s .queue) (s .sent)) → Mem p (undrawn (u .queue) (u .sent)) ⊎ (passedBy (u .partition) (u .request) p ℓ ≡ true))
-    → (passedBy (s .partition) (s .request) p ℓ ≡ true → Mem p (undrawn (u .queue) (u .sent)) ⊎ (passedBy (u .partition) (u .request) p ℓ ≡ true)) → pending s p ℓ ≤ pending u p ℓ
-pending-more s u p ℓ a b = ⊎-elim (λ e. omega arith) (λ k. ⊎-elim (λ m. one (a m)) (λ m. one (b m)) k) (pending-cases s p ℓ)
-  where
-    one : Mem p (undrawn (u .queue) (u .sent)) ⊎ (passedBy (u .partition) (u .request) p ℓ ≡ true) → pending s p ℓ ≤ pending u p ℓ
-    one (inl m) = omega (arith, pending-job u p ℓ m, pending-le s p ℓ)
-    one (inr e) = omega (arith, pending-request u p ℓ e, pending-le s p ℓ)
+pending-more s u p ℓ a b = omega (arith, a, bit-le (passedBy (s .partition) (s .request) p ℓ) (passedBy (u .partition) (u .request) p ℓ) b)
 
 -- one slot read
 module _ (h : Shape) (q ℓ i : ℕ) (hℓ : ℓ < h .L) (hi : i < slots ℓ) (mark : ℕ → ℕ) (p m : ℕ) (hm : m < h .L) where
@@ -125,6 +133,6 @@ pub passed-none : (partition : ℕ → ℕ) (o : Option Request) (p m : ℕ) →
 unfolding passedBy
 passed-none partition o p m e = rw e
 
-pub passed-level : (partition : ℕ → ℕ) (o : Option Request) (r : Request) (ℓ p m : ℕ) → o ≡ some r → partition (r .block) ≡ p → m < suc ℓ → passedBy partition (Request.passLevel ℓ o) p m ≡ true
+pub passed-level : (partition : ℕ → ℕ) (o : Option Request) (r : Request) (ℓ n p m : ℕ) → o ≡ some r → partition (r .block) ≡ p → m < suc ℓ → passedBy partition (Request.passLevel ℓ n o) p m ≡ true
 unfolding passedBy Request.passLevel
-passed-level partition o r ℓ p m e k l = rw e (and-true (eq-eqb (partition (r .block)) p k) (lt-ltb m (suc ℓ) l))
+passed-level partition o r ℓ n p m e k l = rw e (and-true (eq-eqb (partition (r .block)) p k) (lt-ltb m (suc ℓ) l))

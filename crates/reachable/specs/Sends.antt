@@ -35,13 +35,14 @@ use Rattle.rules.specs.Shape.{Shape, cell, slots}
 use Rattle.rules.specs.State.{State, Command, cmd, read, write, Request, closed}
 use Rattle.rules.specs.Turn
 use Rattle.rules.specs.Turn.{Step, idle, noDummy, readForRequest, readForJob, rebuild, writeNext, decide, command, doStep}
-use Rattle.reachable.specs.Consequences.{request-unread, unqueued, job-unread}
+use Rattle.reachable.specs.Consequences.{request-unread, front-calm, job-unread}
 use Rattle.reachable.specs.Decided.{Decided, Rebuilds, decided}
 use Rattle.reachable.specs.Invariant.{Reached}
 use Rattle.reachable.specs.Kept.Completion.{completed-kept}
 use Rattle.reachable.specs.Kept.Rebuild.Drawing.{drawing}
 use Rattle.reachable.specs.Kept.Rebuild.Marks.{mark-else}
-use Rattle.reachable.specs.Live.{Target, front-mem, isFront, front-is, front-eq}
+use Rattle.rules.specs.Request.{isFront}
+use Rattle.reachable.specs.Live.{Target, front-is, front-eq}
 use Rattle.reachable.specs.Outstanding.{decOne, is-command}
 use Rattle.reachable.specs.Pending.{front-more}
 use Rattle.reachable.specs.Reached.{Was, was-reached, step-was, shut}
@@ -101,7 +102,7 @@ module _ (q ℓ i : ℕ) where
     turn-last noDummy js d h w = ((λ e. absurd (omega (arith, ap (λ (c : Command). c .kind) e))), rw (kind-none k) fresh)
     turn-last (readForRequest p m j) js d h w =
         let un = request-unread s f p m j d in
-        let out : ¬ Target s p m = λ t. unqueued s f p m j d (front-mem (s .queue) p (t .0)) in
+        let out : ¬ Target s p m = λ t. t .1 (front-calm s f p m j d (t .0)) in
         (read-after s p m j (h .1) (h .2) un out k fresh, read-last s p m j (h .1) (h .2) un out k fresh)
     turn-last (readForJob p m j) js d h w =
         let un = job-unread s f p m j d in

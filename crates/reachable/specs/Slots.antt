@@ -31,7 +31,7 @@ use Rattle.reachable.specs.Live.{isBelow, storedIn}
 pub front-in : (s : State) → Reached s → (q : ℕ) (rest : List ℕ) → s .queue ≡ q ∷ rest → q < s .shape .P
 front-in s f q rest e = all-mem (f .range .queue) q (rw e (inl refl))
 
-is-chosen : (o : Option ℕ) (b : ℕ) → Rebuild.isChosen o b ≡ true → o ≡ some b
+pub is-chosen : (o : Option ℕ) (b : ℕ) → Rebuild.isChosen o b ≡ true → o ≡ some b
 unfolding Rebuild.isChosen
 is-chosen none b e = absurd (true≢false (sym e))
 is-chosen (some a) b e = ap some (eqb-true a b e)
@@ -52,7 +52,7 @@ module _ (s : State) (f : Reached s) (q : ℕ) (hq : q < s .shape .P) where
       let a = f .agree .held q (r .0) (r .1) b hq hℓ (r .2 .1) e′ in
       (r .0, r .1, (r .2 .0, r .2 .2, omega (arith, f .range .holds q (r .0) (r .1) hq hℓ (r .2 .1), e′), a .0, a .1))
 
-  entry-why : (top b : ℕ) → top ≤ s .shape .L → Mem (suc b) (entries s q top) → (b < s .shape .N) × (s .partition b ≡ q) × (isBelow top (s .place b) ≡ true)
+  pub entry-why : (top b : ℕ) → top ≤ s .shape .L → Mem (suc b) (entries s q top) → (b < s .shape .N) × (s .partition b ≡ q) × (isBelow top (s .place b) ≡ true)
   unfolding entries
   entry-why top b ht m =
       let r = mem-map (λ j. s .holds (cell (s .shape) q 0 j)) (suc b) (below (slots top - 2)) m in

@@ -44,9 +44,9 @@ pub record Numbered (h : Shape) (order mark holds : ℕ → ℕ) (q ℓ n : ℕ)
   pub dummies : (k : ℕ) → n ≤ k → k < slots ℓ → holds (cell h q ℓ (order (cell h q ℓ k))) ≡ 0
 
 -- Slot i is that of an unread item from n on, and the items between n and it have been read
-pub record LowestDummy (h : Shape) (order mark : ℕ → ℕ) (q ℓ n i : ℕ) : Type 0 where
+pub record LowestUnread (h : Shape) (order mark : ℕ → ℕ) (q ℓ n i : ℕ) : Type 0 where
   pub item : ℕ
-  pub isDummy : n ≤ item
+  pub from : n ≤ item
   pub inLevel : item < slots ℓ
   pub slot : order (cell h q ℓ item) ≡ i
   pub unread : mark (cell h q ℓ i) ≡ 1

@@ -2,45 +2,49 @@
 -- the invariant. Whatever state was before the open, and also if the open is refused; refused calls among the others. The list may have
 -- further opens, but where it is said that it has none.
 use mathlib.Core.Path.{_≡_, refl, ap, sym, _∙_}
-use mathlib.Core.Logic.{_⊎_, inl, inr}
-use mathlib.Core.Bool.{true, false, true≢false}
-use mathlib.Core.List.{List, [], _∷_, _++_, map}
+use mathlib.Core.Logic.{_⊎_, inl, inr, ⊎-elim}
+use mathlib.Core.Bool.{Bool, true, false, not, _&&_, true≢false}
+use mathlib.Core.List.{List, [], _∷_, _++_}
 use mathlib.Core.Option.{Option, none, some}
 use Prim.Native.Nat.{ℕ, _+_, _-_, _^_, _≤_, _<_}
 use native.Mathlib.Omega.{arith}
 use lib.ListN.{length}
 use borrow.Author.Tests.{leb-false}
 use Rattle.lists.specs.All.{All}
-use Rattle.lists.specs.Search.{find, any, orElse}
+use Rattle.lists.specs.Distinct.{Mem}
+use Rattle.lists.specs.Members.{mem-not}
+use Rattle.lists.specs.Search.{find, any, member}
+use Rattle.lists.specs.Tests.{and-true, and-false}
 use Rattle.lists.specs.Totals.{total}
-use Rattle.rules.specs.Before.{untold, heldByRule, stepBefore, before}
 use Rattle.rules.specs.Blocks.{isUnread}
 use Rattle.rules.specs.Completion.{isCommand}
 use Rattle.rules.specs.Figures.{nowhereBlocks, storedBlocks, waitingBlocks, jobsFor}
 use Rattle.rules.specs.Laws.Answers.{opens, open-first}
-use Rattle.rules.specs.Laws.Before.{step-before}
 use Rattle.rules.specs.Laws.Figures.{places-add, ColumnsAdd, columns-add, front-counts}
 use Rattle.rules.specs.Levels.{filled, sources}
 use Rattle.rules.specs.Memory.{needed}
 use Rattle.rules.specs.Questions
-use Rattle.rules.specs.Questions.{opening, request, turn, Call, possible, questions, firstNo, number}
-use Rattle.rules.specs.Rebuild.{places, unread, gathered}
-use Rattle.rules.specs.Request.{held, blocked, levelsLeft, dummy, slotIn}
+use Rattle.rules.specs.Questions.{opening, request, turn, Call, possible, questions, firstNo, number, collect}
+use Rattle.rules.specs.Rebuild.{places, unread, gathered, chosen}
+use Rattle.rules.specs.Request.{held, undrawnOnly, isSource, levelsLeft, slotIn, ifUnread, slotRead}
 use Rattle.rules.specs.Run.{Outcome, step, run, after}
 use Rattle.rules.specs.Shape.{Shape, slots}
-use Rattle.rules.specs.State.{State, Command, cmd, read, write, Request, closed}
+use Rattle.rules.specs.State.{State, Command, cmd, read, write, Request, closed, nowhere}
 use Rattle.rules.specs.Turn
 use Rattle.rules.specs.Turn.{idle, Step, noDummy, readForRequest, readForJob, rebuild, decide, command}
 use Rattle.rules.specs.Unfold.{model}
 use Rattle.reachable.specs.Counts.{waiting-all, begun-front}
 use Rattle.reachable.specs.Decided.{Rebuilds, decided, JobReads}
-use Rattle.reachable.specs.Found.{request-decides, scan-all, lower-read, lowest-dummy, decided-filled, sent-turn}
+use Rattle.reachable.specs.Found.{request-decides, scan-all, lower-read, lowest-dummy, lowest-item, decided-filled, sent-turn}
+use Rattle.reachable.specs.Leaves.{gathered-chosen, collected-nowhere, Unwritten, after-stays}
+use Rattle.reachable.specs.Live.{alone-only}
 use Rattle.reachable.specs.Never.{always-possible, never-many, late-two, never-full, full-ready}
-use Rattle.reachable.specs.Reached.{Was, reachable, live, shut, ready-memory, was-reached}
+use Rattle.reachable.specs.Reached.{Was, reachable, after-was, live, shut, ready-memory, was-reached}
 use Rattle.reachable.specs.Sends.{write-within, reads-after-writes, behind, read-is}
-use Rattle.reachable.specs.Settled.{Settled, closed-settled, step-settles, after-settled, held-is, runs-before}
+use Rattle.reachable.specs.Settled.{Settled, no-request, closed-settled, step-settles, after-settled}
 use Rattle.reachable.specs.Slots.{front-in}
-use Rattle.reachable.specs.Terms.{Apart, none-apart, Numbered, LowestDummy, EachAfterWrite}
+use Rattle.reachable.specs.Worn.{blocked-why}
+use Rattle.reachable.specs.Terms.{Apart, none-apart, Numbered, LowestUnread, EachAfterWrite}
 
 -- a closed state sends nothing
 closed-idle : decide closed ≡ idle
@@ -56,6 +60,9 @@ closed-reads : (s : State) → s ≡ closed → (q ℓ i : ℕ) → command (dec
 unfolding command
 closed-reads s w q ℓ i e = omega (arith, ap (λ (c : Command). c .kind) (sym (ap command (ap decide w ∙ closed-idle)) ∙ e))
 
+closed-hand : (s : State) → s ≡ closed → (r : Request) → s .request ≡ some r → ⊥
+closed-hand s w r e = let z : s .request ≡ none = unfold closed in (ap (λ (x : State). x .request) w) in no-request r (sym z ∙ e)
+
 no-queue : (q : ℕ) (rest : List ℕ) → [] ≡ q ∷ rest → ⊥
 no-queue q rest e = let z : _≡_ {A = ℕ} 0 1 = cc in omega arith
 
@@ -66,10 +73,6 @@ module _ (s : State) (c : Call) (h : Shape) (first : c .ask ≡ opening h) (cs :
 
   was : Was left
   was = reachable s c h first cs
-
-  -- what the open left
-  opened-was : Was (step s c .0)
-  opened-was = unfold after in (reachable s c h first [])
 
   opened-settled : Settled (step s c .0)
   opened-settled = rw (open-first s c h first) (step-settles closed c closed-settled)
@@ -87,33 +90,68 @@ module _ (s : State) (c : Call) (h : Shape) (first : c .ask ≡ opening h) (cs :
       go (live f) = true≢false (sym (always-possible left f) ∙ ap (possible left) e ∙ unfold possible in refl)
       go (shut w) = closed-decides left w noDummy e (unfold Questions.sends in refl)
 
-  -- ---- "The request is held while a job for p is queued or running", and no longer
-  pub held-while : (r : Request) → left .request ≡ some r → held r ≡ blocked left r
-  held-while = held-is left was settled
+  -- ---- "The request is held while a job for p is queued or running." P4: "If the only job for p is at the front of the queue and hasn't drawn its order,
+  -- the request is no longer held." Exactly then: a request that may be released is released by the call that makes it so, and that another level has
+  -- been read 2^ℓ times never holds one here
+  held-why : (r : Request) → left .request ≡ some r → held r ≡ true → (member (left .partition (r .block)) (left .queue) ≡ true) × (undrawnOnly left (left .partition (r .block)) ≡ false)
+  held-why r e u = go was
+    where
+      go : Was left → (member (left .partition (r .block)) (left .queue) ≡ true) × (undrawnOnly left (left .partition (r .block)) ≡ false)
+      go (live f) = blocked-why left f r e u (settled r e u)
+      go (shut w) = absurd (closed-hand left w r e)
 
-  -- ---- Document 02, P2: "Nothing the host is sent may change by it": numbers, words, commands and bytes of every run are those of document 01's rules,
-  -- which ask at each call whether the request is held and know nothing of where its block was found
-  pub as-before : map untold (run s (c ∷ cs)) ≡ before s (c ∷ cs)
-  unfolding run before
-  as-before =
-      let same : step s c ≡ step (heldByRule s) c = open-first s c h first ∙ sym (open-first (heldByRule s) c h first) in
-      let told = ap (λ (x : State × Outcome). untold (x .1)) same ∙ step-before (heldByRule s) c .0 in
-      let rest = runs-before cs (step s c .0) (stepBefore (heldByRule s) c .0) opened-was opened-settled (ap (λ (x : State × Outcome). heldByRule (x .0)) same ∙ step-before (heldByRule s) c .1) in
-      λ i. told i ∷ rest i
+  released-why : (r : Request) → left .request ≡ some r → held r ≡ false
+      → (member (left .partition (r .block)) (left .queue) ≡ false) ⊎ (undrawnOnly left (left .partition (r .block)) ≡ true)
+  released-why r e u = go was
+    where
+      go : Was left → (member (left .partition (r .block)) (left .queue) ≡ false) ⊎ (undrawnOnly left (left .partition (r .block)) ≡ true)
+      go (live f) = ⊎-elim (λ n. inl (mem-not (left .partition (r .block)) (left .queue) n)) (λ a. inr (alone-only left (left .partition (r .block)) a)) (f .released r e u)
+      go (shut w) = absurd (closed-hand left w r e)
 
-  -- ---- "Then it sends one read to each filled level of p": while a request that isn't held has a filled level left, a turn reads the first of
-  -- these levels; no turn is idle then
-  pub read-due : (r : Request) → left .request ≡ some r → held r ≡ false → (ℓ : ℕ) (ls : List ℕ) → levelsLeft left r ≡ ℓ ∷ ls
-      → (i : ℕ) × (decide left ≡ readForRequest (left .partition (r .block)) ℓ i)
-  read-due r e u ℓ ls v = go (orElse (slotIn ℓ (left .place (r .block))) (dummy left q ℓ)) refl
+  pub held-while : (r : Request) → left .request ≡ some r → held r ≡ (member (left .partition (r .block)) (left .queue) && not (undrawnOnly left (left .partition (r .block))))
+  held-while r e = go (held r) refl
     where
       q : ℕ
       q = left .partition (r .block)
 
-      decides : decide left ≡ Turn.readStep q ℓ (orElse (slotIn ℓ (left .place (r .block))) (dummy left q ℓ))
+      go : (t : Bool) → held r ≡ t → held r ≡ (member q (left .queue) && not (undrawnOnly left q))
+      go true u = let w = held-why r e u in u ∙ sym (and-true (w .0) (ap not (w .1)))
+      go false u = u ∙ sym (⊎-elim (λ w. ap (λ t. t && not (undrawnOnly left q)) w) (λ w. and-false (member q (left .queue)) (ap not w)) (released-why r e u))
+
+  -- P4: "and the job draws its order only after the request is collected"
+  pub draws-later : (q t : ℕ) → decide left ≡ rebuild q t → (r : Request) → left .request ≡ some r → held r ≡ false → ¬ (left .partition (r .block) ≡ q)
+  draws-later q t e r h u = let d : Rebuilds left q t = rw e at (decided left) in d .apart r h u
+
+  -- P4: "and the wanted block leaves the job": the next order that is drawn after a collect, the first write since it, gathers its block only if that is
+  -- the one chosen from the cache, as any block that waits
+  pub wanted-leaves : (k : Call) → k .ask ≡ collect → number left k ≡ 0 → (r : Request) → left .request ≡ some r
+      → (ds : List Call) → Unwritten (run (step left k .0) ds) → (q t : ℕ) → decide (after (step left k .0) ds) ≡ rebuild q t
+      → Mem (r .block) (gathered (after (step left k .0) ds) q) → chosen (after (step left k .0) ds) q ≡ some (r .block)
+  wanted-leaves k a z r e ds n q t d m = go (unfold after in (after-was (k ∷ ds) left was))
+    where
+      s′ : State
+      s′ = after (step left k .0) ds
+
+      away : s′ .place (r .block) ≡ nowhere
+      away = after-stays ds (step left k .0) (r .block) (collected-nowhere left k a z r e) n
+
+      go : Was s′ → chosen s′ q ≡ some (r .block)
+      go (live f) = let x : Rebuilds s′ q t = rw d at (decided s′) in gathered-chosen s′ f q (r .block) (front-in s′ f q (x .rest) (x .front)) away m
+      go (shut w) = absurd (closed-decides s′ w (rebuild q t) d (unfold Questions.sends in refl))
+
+  -- ---- "Then it sends one read to each filled level of p": while a request that isn't held has a level left that costs a read, a turn reads the
+  -- first of these levels; no turn is idle then
+  pub read-due : (r : Request) → left .request ≡ some r → held r ≡ false → (ℓ : ℕ) (ls : List ℕ) → levelsLeft left r ≡ ℓ ∷ ls
+      → (i : ℕ) × (decide left ≡ readForRequest (left .partition (r .block)) ℓ i)
+  read-due r e u ℓ ls v = go (slotRead left q (left .place (r .block)) ℓ) refl
+    where
+      q : ℕ
+      q = left .partition (r .block)
+
+      decides : decide left ≡ Turn.readStep q ℓ (slotRead left q (left .place (r .block)) ℓ)
       decides = request-decides left r e u ℓ ls v
 
-      go : (o : Option ℕ) → orElse (slotIn ℓ (left .place (r .block))) (dummy left q ℓ) ≡ o → (i : ℕ) × (decide left ≡ readForRequest q ℓ i)
+      go : (o : Option ℕ) → slotRead left q (left .place (r .block)) ℓ ≡ o → (i : ℕ) × (decide left ≡ readForRequest q ℓ i)
       go none k = absurd (never-lacks-dummy (decides ∙ ap (Turn.readStep q ℓ) k ∙ unfold Turn.readStep in refl))
       go (some i) k = (i, decides ∙ ap (Turn.readStep q ℓ) k ∙ unfold Turn.readStep in refl)
 
@@ -163,17 +201,21 @@ module _ (s : State) (c : Call) (h : Shape) (first : c .ask ≡ opening h) (cs :
       go (live f) = columns-add left (f .range)
       go (shut w) = rw w (unfold total model in record { stored = refl; waiting = refl; jobs = refl })
 
-  -- "A begun job counts as queued": one that has gone over slots or sent a write is the front of the queue, and counts for its partition
-  pub begun-counts : ((left .cursor ≡ 0 → ⊥) ⊎ (left .sent ≡ 0 → ⊥)) → (q : ℕ) × ((rest : List ℕ) × ((left .queue ≡ q ∷ rest) × (1 ≤ jobsFor left q)))
+  -- "A begun job counts as queued": it is the front of the queue, and counts for its partition
+  pub begun-counts : (left .begun ≡ 0 → ⊥) → (q : ℕ) × ((rest : List ℕ) × ((left .queue ≡ q ∷ rest) × (1 ≤ jobsFor left q)))
   begun-counts n = go was
     where
-      idle-closed : (left .cursor ≡ 0) × (left .sent ≡ 0) → ((left .cursor ≡ 0 → ⊥) ⊎ (left .sent ≡ 0 → ⊥)) → ⊥
-      idle-closed z (inl m) = m (z .0)
-      idle-closed z (inr m) = m (z .1)
-
       go : Was left → (q : ℕ) × ((rest : List ℕ) × ((left .queue ≡ q ∷ rest) × (1 ≤ jobsFor left q)))
       go (live f) = let w = begun-front left f n in (w .0, (w .1 .0, (w .1 .1, front-counts left (w .0) (w .1 .0) (w .1 .1))))
-      go (shut w) = absurd (idle-closed (rw w (unfold closed in (refl, refl))) n)
+      go (shut w) = absurd (n (rw w (unfold closed in refl)))
+
+  -- .. and while none has begun, the front job has gone over no slot and sent no write
+  pub begun-first : left .begun ≡ 0 → (left .cursor ≡ 0) × (left .sent ≡ 0)
+  begun-first z = go was
+    where
+      go : Was left → (left .cursor ≡ 0) × (left .sent ≡ 0)
+      go (live f) = f .unbegun z
+      go (shut w) = rw w (unfold closed in (refl, refl))
 
   -- ---- "A slot never has two commands outstanding"
   pub one-command : Apart (left .outstanding)
@@ -201,15 +243,25 @@ module _ (s : State) (c : Call) (h : Shape) (first : c .ask ≡ opening h) (cs :
       go (live f) = let d : JobReads left q ℓ i = rw e at (decided left) in (d .unread, lower-read left f q ℓ i d)
       go (shut w) = absurd (closed-decides left w (readForJob q ℓ i) e (unfold Questions.sends in refl))
 
-  -- ---- "The block's slot if its place is there, else the slot of the lowest-numbered unread dummy item." The items of
+  -- ---- "The block's slot if its place is there, else the slot of the lowest-numbered unread dummy item", in a level that is no source. The items of
   -- a level below some n are blocks or have been read, and those from n on are dummies: a slot read for a dummy is that of an unread item k of these,
   -- and those below k have been read
-  pub dummy-is-lowest : (q ℓ i : ℕ) → decide left ≡ readForRequest q ℓ i → (r : Request) → left .request ≡ some r → slotIn ℓ (left .place (r .block)) ≡ none
-      → (n : ℕ) × (Numbered (left .shape) (left .order) (left .mark) (left .holds) q ℓ n × LowestDummy (left .shape) (left .order) (left .mark) q ℓ n i)
-  dummy-is-lowest q ℓ i e r p u = go was
+  pub dummy-is-lowest : (q ℓ i : ℕ) → decide left ≡ readForRequest q ℓ i → isSource left q ℓ ≡ false → (r : Request) → left .request ≡ some r → slotIn ℓ (left .place (r .block)) ≡ none
+      → (n : ℕ) × (Numbered (left .shape) (left .order) (left .mark) (left .holds) q ℓ n × LowestUnread (left .shape) (left .order) (left .mark) q ℓ n i)
+  dummy-is-lowest q ℓ i e o r p u = go was
     where
-      go : Was left → (n : ℕ) × (Numbered (left .shape) (left .order) (left .mark) (left .holds) q ℓ n × LowestDummy (left .shape) (left .order) (left .mark) q ℓ n i)
-      go (live f) = lowest-dummy left f q ℓ i (rw e at (decided left)) r p u
+      go : Was left → (n : ℕ) × (Numbered (left .shape) (left .order) (left .mark) (left .holds) q ℓ n × LowestUnread (left .shape) (left .order) (left .mark) q ℓ n i)
+      go (live f) = lowest-dummy left f q ℓ i (rw e at (decided left)) o r p u
+      go (shut w) = absurd (closed-decides left w (readForRequest q ℓ i) e (unfold Questions.sends in refl))
+
+  -- P4: "For a source level with unread slots it reads the block's slot if the block is there unread, else the lowest-numbered unread item": the
+  -- slot read is that of an unread item k, and the items below k have been read
+  pub item-is-lowest : (q ℓ i : ℕ) → decide left ≡ readForRequest q ℓ i → isSource left q ℓ ≡ true → (r : Request) → left .request ≡ some r → ifUnread (isUnread left q ℓ) (slotIn ℓ (left .place (r .block))) ≡ none
+      → LowestUnread (left .shape) (left .order) (left .mark) q ℓ 0 i
+  item-is-lowest q ℓ i e o r p u = go was
+    where
+      go : Was left → LowestUnread (left .shape) (left .order) (left .mark) q ℓ 0 i
+      go (live f) = lowest-item left f q ℓ i (rw e at (decided left)) o r p u
       go (shut w) = absurd (closed-decides left w (readForRequest q ℓ i) e (unfold Questions.sends in refl))
 
   -- ---- Reads are of slots that were written: a call that sends a read is given a state in which the slot's level is filled

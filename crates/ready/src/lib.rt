@@ -28,6 +28,7 @@ fn request_fits(h: Shape, r: Request) -> bool
         & (r.evict < h.p)
         & (r.level <= h.l)
         & (r.found < h.l + 3)
+        & (r.awaits <= h.w)
 }
 
 // So are the counts.
@@ -37,7 +38,11 @@ fn counts_fit(c: Client) -> bool
 {
     let slots = bits::pow2(c.shape.l + 1) - 2;
     let writes = bits::pow2(c.shape.l);
-    (c.cursor <= slots) & (c.sent <= writes) & (c.out <= c.shape.w) & (c.waiting <= c.shape.e)
+    (c.begun <= 1)
+        & (c.cursor <= slots)
+        & (c.sent <= writes)
+        & (c.out <= c.shape.w)
+        & (c.waiting <= c.shape.e)
 }
 
 // With a request in hand there is room for its jobs and its block.

@@ -13,7 +13,7 @@ use Rattle.lists.specs.Members.{getD-map-below}
 use Rattle.lists.specs.Tables.{putAll}
 use Rattle.rules.specs.Shape.{Shape, slots, cell}
 use Rattle.rules.specs.State.{State}
-use Rattle.rules.specs.Setters.{_▷_, setPlace, setWaiting, setOrder, setMark, setHolds, setSent}
+use Rattle.rules.specs.Setters.{_▷_, setPlace, setWaiting, setOrder, setMark, setHolds, setBegun, setSent}
 use Rattle.rules.specs.Levels.{sources}
 use Rattle.rules.specs.Rebuild.{cleared, newPlace, newHolds, chosen, gathered, leave, doRebuild}
 use Rattle.rules.specs.Laws.Layout.{cell-from}
@@ -41,7 +41,7 @@ rebuilt h q t n bs o s =
     ▷ setHolds (putAll (cell h q t 0) (newHolds (slots t) bs o) (cleared (cell h q 0 0) (slots n - 2) (s .holds)))
 
 pub rebuild-is : (q t : ℕ) (o : List ℕ) (s : State) → doRebuild q t o s ≡
-    rebuilt (s .shape) q t (sources (s .shape) (s .counter q)) (gathered s q) o s ▷ setWaiting (leave (chosen s q) (s .waiting)) ▷ setSent 1
+    rebuilt (s .shape) q t (sources (s .shape) (s .counter q)) (gathered s q) o s ▷ setWaiting (leave (chosen s q) (s .waiting)) ▷ setBegun 1 ▷ setSent 1
 unfolding doRebuild
 rebuild-is q t o s = refl
 

@@ -1,11 +1,11 @@
-// A held request that no job holds any longer is released: the place of its block is looked up.
+// A held request that nothing holds any longer is released: the place of its block is looked up.
 use client::Client;
-use client::Request;
 use contract::Answer;
 ghost use mathlib.Core.Path.{_≡_};
 ghost use Prim.Native.Nat.{suc, _<_, _≤_};
 ghost use Rattle.rules.specs.State.{foundNumber};
 ghost use Rattle.rules.specs.Blocks.{lookUp};
+ghost use Rattle.rules.specs.Request.{undrawnOnly, heldFor};
 ghost use Rattle.client.specs.View.{stateOf};
 ghost use Rattle.client.specs.Moves.{Room};
 ghost use Rattle.releasing.specs.Performs.{Settled};
@@ -27,7 +27,38 @@ fn look_up(c: Client, m: &[u8]) -> usize
     }
 }
 
-// The queue is gone over only while a request is held.
+// Whether the only job for partition q is at the front of the queue and has not drawn its order.
+fn is_undrawn_only(c: Client, m: &[u8], q: usize) -> bool
+    requires { ⌜ Room c (now m) × (c .jobs ≤ 64) ⌝ }
+    ensures { λ r. ⌜ r ≡ undrawnOnly (stateOf c (now (m .entry))) q ⌝ }
+{
+    if c.sent != 0 {
+        return false;
+    }
+    if c.jobs == 0 {
+        return false;
+    }
+    if jobs::front(c, m) != q {
+        return false;
+    }
+    !jobs::is_queued(c, m, q, 1)
+}
+
+// Whether a request for a block of partition q is held: a job for q is queued, but for the only one, at the front and undrawn, if no other level is worn.
+fn is_held_for(c: Client, m: &[u8], q: usize) -> bool
+    requires { ⌜ Room c (now m) × (c .jobs ≤ 64) × (q < c .shape .p) ⌝ }
+    ensures { λ r. ⌜ r ≡ heldFor (stateOf c (now (m .entry))) q ⌝ }
+{
+    if !jobs::is_queued(c, m, q, 0) {
+        return false;
+    }
+    if !is_undrawn_only(c, m, q) {
+        return true;
+    }
+    reading::is_worn(c, m, q)
+}
+
+// The queue is gone over only while a request is held. What is outstanding at its release is awaited.
 pub fn release(c: Client, m: &[u8]) -> Client
     requires { ⌜ Releasable c (now m) ⌝ }
     ensures { λ r. ⌜ Released c (now (m .entry)) r ⌝ }
@@ -40,18 +71,11 @@ pub fn release(c: Client, m: &[u8]) -> Client
         return c;
     }
     let q = memory::tables::partition(c.shape, m, r.block);
-    if jobs::is_queued(c, m, q) {
+    if is_held_for(c, m, q) {
         return c;
     }
     let found = look_up(c, m);
-    c.with_request(Request {
-        kind: r.kind,
-        block: r.block,
-        next: r.next,
-        evict: r.evict,
-        level: r.level,
-        found,
-    })
+    c.with_request(r.at_found(found, c.out))
 }
 
 // The answer to an accepted call, whose client is released now.

@@ -62,6 +62,7 @@ byHand = record {
   mark = λ c. 0;
   holds = λ c. 0;
   queue = 1 ∷ 0 ∷ 1 ∷ [];
+  begun = 0;
   cursor = 0;
   sent = 0;
   outstanding = [];

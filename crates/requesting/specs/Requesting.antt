@@ -138,21 +138,21 @@ contents-is h k bs v e = go (eqb k write) e
 
 hand-is : (c : Client) (k b : ℕ) (bs v tape : List ℕ) (next evict : ℕ) → within (shapeOf (c .shape)) ≡ true → 1 ≤ k → length bs ≡ bytesOf (shapeOf (c .shape)) k → 2 ≤ length (wordsOf tape)
     → next ≡ getD (wordsOf tape) 0 0 % c .shape .p → evict ≡ getD (wordsOf tape) 1 0 % c .shape .p
-    → requestOf (record { kind = k; block = b; next = next; evict = evict; level = 0; found = 0 }) (if eqb k write then bs else v)
-    ≡ some (record { kind = k; block = b; bytes = bs; next = getD (drawnBy c tape) 0 0; evict = getD (drawnBy c tape) 1 0; level = 0; found = none })
+    → requestOf (record { kind = k; block = b; next = next; evict = evict; level = 0; found = 0; awaits = 0 }) (if eqb k write then bs else v)
+    ≡ some (record { kind = k; block = b; bytes = bs; next = getD (drawnBy c tape) 0 0; evict = getD (drawnBy c tape) 1 0; level = 0; found = none; awaits = 0 })
 unfolding requestOf foundBy
 hand-is c k b bs v tape next evict h l e w n u =
     let ms : List ℕ = c .shape .p ∷ c .shape .p ∷ [] in
     let first = n ∙ sym (draws-number ms (wordsOf tape) (straight c tape h) w 0 (omega arith)) in
     let second = u ∙ sym (draws-number ms (wordsOf tape) (straight c tape h) w 1 (omega arith)) in
-    rw (ne-eqb k 0 (λ z. omega arith)) (λ i. some (record { kind = k; block = b; bytes = contents-is (c .shape) k bs v e i; next = first i; evict = second i; level = 0; found = none }))
+    rw (ne-eqb k 0 (λ z. omega arith)) (λ i. some (record { kind = k; block = b; bytes = contents-is (c .shape) k bs v e i; next = first i; evict = second i; level = 0; found = none; awaits = 0 }))
 
 pub taken-stands : (c : Client) (m₀ m : List ℕ) (k b : ℕ) (bs tape : List ℕ) (next evict : ℕ) → Kept (c .shape) k bs m₀ m → within (shapeOf (c .shape)) ≡ true → 1 ≤ k → length bs ≡ bytesOf (shapeOf (c .shape)) k → 2 ≤ length (wordsOf tape)
     → next ≡ getD (wordsOf tape) 0 0 % c .shape .p → evict ≡ getD (wordsOf tape) 1 0 % c .shape .p
-    → Stands (withRequest (record { kind = k; block = b; next = next; evict = evict; level = 0; found = 0 }) c) m₀ m (Taken c m₀ k b bs tape)
+    → Stands (withRequest (record { kind = k; block = b; next = next; evict = evict; level = 0; found = 0; awaits = 0 }) c) m₀ m (Taken c m₀ k b bs tape)
 unfolding stateOf view accept tablesOf
 taken-stands c m₀ m k b bs tape next evict t h l e w n u =
-    let c′ : Client = withRequest (record { kind = k; block = b; next = next; evict = evict; level = 0; found = 0 }) c in
+    let c′ : Client = withRequest (record { kind = k; block = b; next = next; evict = evict; level = 0; found = 0; awaits = 0 }) c in
     stands c′ m₀ m _ (Taken c m₀ k b bs tape) t refl
     (view-asked c′ (tablesOf (shapeOf (c .shape)) m₀) _ ∙ ap (λ r. setRequest r (stateOf c m₀)) (hand-is c k b bs _ tape next evict h l e w n u))
 

@@ -86,9 +86,9 @@ fn keep(h: Shape, m: &mut [u8], kind: usize, contents: &[u8])
     memory::blocks::store(h, m, h.n, contents);
 }
 
-// The request is in hand from now on, and it is held only if a job for its block's partition is queued.
+// The request is in hand from now on, and is released at once if nothing holds it.
 fn take(c: Client, m: &mut [u8], kind: usize, block: usize, contents: &[u8], tape: &[u8]) -> Client
-    requires { ⌜ Room c (now m) × (c .jobs ≤ 64) × (c .waiting ≤ c .shape .n) × (block < c .shape .n) × (within (shapeOf (c .shape)) ≡ true) × (1 ≤ kind) × (length (now contents) ≡ bytesOf (shapeOf (c .shape)) kind) × (2 ≤ length (wordsOf (now tape))) ⌝ }
+    requires { ⌜ Room c (now m) × (c .jobs ≤ 64) × (c .waiting ≤ c .shape .n) × (c .out ≤ 32) × (block < c .shape .n) × (within (shapeOf (c .shape)) ≡ true) × (1 ≤ kind) × (length (now contents) ≡ bytesOf (shapeOf (c .shape)) kind) × (2 ≤ length (wordsOf (now tape))) ⌝ }
     ensures { λ r. ⌜ Stands r (now (m .entry)) (now (m .exit)) (release (Taken c (now (m .entry)) kind block (now (contents .entry)) (now (tape .entry)))) ⌝ }
 {
     let p = c.shape.p;
@@ -102,6 +102,7 @@ fn take(c: Client, m: &mut [u8], kind: usize, block: usize, contents: &[u8], tap
         evict,
         level: 0,
         found: 0,
+        awaits: 0,
     });
     releasing::release(d, m)
 }

@@ -6,8 +6,9 @@ use Prim.Native.Nat.{ℕ, zero, suc, _-_}
 use lib.ListN.{length, replicate}
 use lib.Dec.{ltb, eqb}
 use Rattle.lists.specs.Tests.{if_then_else_}
+use Rattle.lists.specs.Totals.{total}
 use Rattle.lists.specs.Search.{keep, below, member}
-use Rattle.rules.specs.Shape.{slots, cell}
+use Rattle.rules.specs.Shape.{Shape, slots, cell}
 use Rattle.rules.specs.State.{Place, nowhere, stored, Found, foundNowhere, foundCache, foundLevel, State}
 
 -- the block that an entry of `holds` names
@@ -30,6 +31,10 @@ blocksIn s q top = length (keep (ltb 0) (entries s q top))
 -- "Which slots have been read since the level was written": this one has not
 unfoldable pub isUnread : State → ℕ → ℕ → ℕ → Bool
 isUnread s q ℓ i = eqb (s .mark (cell (s .shape) q ℓ i)) 1
+
+-- how many slots of level ℓ of q have been read since it was written
+unfoldable pub readsOf : Shape → (ℕ → ℕ) → ℕ → ℕ → ℕ
+readsOf h mark q ℓ = total (slots ℓ) (λ i. 1 - mark (cell h q ℓ i))
 
 -- "A dummy is B zeros."
 unfoldable pub zeros : State → List ℕ

@@ -5,4 +5,7 @@ pub mod SessionsA
 pub mod SessionsB
 pub mod SessionsC
 pub mod SessionsD
+pub mod SessionsE
+pub mod SessionsF
 pub mod Even
+pub mod Beside

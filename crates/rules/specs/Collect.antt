@@ -3,7 +3,7 @@ use mathlib.Core.Bool.{Bool, not, _&&_}
 use mathlib.Core.List.{List, [], _∷_, _++_}
 use mathlib.Core.Option.{Option, none, some, Option·getD}
 use Prim.Native.Nat.{ℕ}
-use lib.ListN.{length}
+use lib.ListN.{length, take}
 use lib.Dec.{eqb}
 use Rattle.lists.specs.Tests.{if_then_else_}
 use Rattle.lists.specs.Search.{any}
@@ -15,11 +15,13 @@ use Rattle.rules.specs.Ranges.{others}
 use Rattle.rules.specs.Blocks.{contents}
 use Rattle.rules.specs.Request.{held, levelsLeft}
 
--- "A request is finished when it isn't held and all its reads are sent and completed": nothing of its partition is outstanding
+-- "A request is finished when it isn't held and all its reads are sent and completed." P4: ".. only when every job read sent by that moment has
+-- completed too": of the commands that it awaits none is outstanding
 unfoldable pub finished : State → Request → Bool
-finished s r = not (held r) && eqb (length (levelsLeft s r)) 0 && not (any (λ c. eqb (c .partition) (s .partition (r .block))) (s .outstanding))
+finished s r = not (held r) && eqb (length (levelsLeft s r)) 0 && not (any (λ c. eqb (c .partition) (s .partition (r .block))) (take (r .awaits) (s .outstanding)))
 
--- the slot that a block leaves holds nothing more; `at` has the cells of its partition
+-- the slot that a block leaves holds nothing more; `at` has the cells of its partition. P4: "and the wanted block leaves the job", which gathers what
+-- slots hold
 unfoldable pub emptied : (ℕ → ℕ → ℕ) → Place → (ℕ → ℕ) → ℕ → ℕ
 emptied at nowhere f = f
 emptied at (stored ℓ i) f = put (at ℓ i) 0 f

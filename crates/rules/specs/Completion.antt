@@ -1,23 +1,27 @@
 -- Document 01, "Completion names a kind and a slot (partition, level, slot), with B bytes for a read."
 use mathlib.Core.Bool.{Bool, not, _&&_}
 use mathlib.Core.List.{List, [], _∷_}
-use mathlib.Core.Option.{Option, none, some}
+use mathlib.Core.Option.{Option, none, some, Option·map}
 use Prim.Native.Nat.{ℕ}
 use lib.Dec.{eqb}
 use Rattle.lists.specs.Tests.{if_then_else_}
-use Rattle.lists.specs.Search.{any, without}
+use Rattle.lists.specs.Search.{any, without, firstLeft}
 use Rattle.lists.specs.Tables.{put}
 use Rattle.rules.specs.Shape.{slots}
-use Rattle.rules.specs.State.{Command, read, write, State}
-use Rattle.rules.specs.Setters.{_▷_, setBytes, setCounter, setQueue, setCursor, setSent, setOutstanding}
+use Rattle.rules.specs.State.{Command, read, write, Request, State}
+use Rattle.rules.specs.Setters.{_▷_, setBytes, setCounter, setQueue, setBegun, setCursor, setSent, setOutstanding, setRequest}
 use Rattle.rules.specs.Levels.{target, grown}
 use Rattle.rules.specs.Blocks.{holder}
 
 unfoldable pub isCommand : Command → Command → Bool
 isCommand c d = eqb (c .kind) (d .kind) && eqb (c .partition) (d .partition) && eqb (c .level) (d .level) && eqb (c .slot) (d .slot)
 
+-- of the commands that a request awaits this one is done
+abbrev pub awaitsLess : Command → List Command → Request → Request
+awaitsLess c os r = record { kind = r .kind; block = r .block; bytes = r .bytes; next = r .next; evict = r .evict; level = r .level; found = r .found; awaits = firstLeft (isCommand c) (r .awaits) os }
+
 unfoldable pub completed : Command → State → State
-completed c s = s ▷ setOutstanding (without (isCommand c) (s .outstanding))
+completed c s = s ▷ setRequest (Option·map (awaitsLess c (s .outstanding)) (s .request)) ▷ setOutstanding (without (isCommand c) (s .outstanding))
 
 -- a read's bytes are those of the block in its slot
 unfoldable pub gatherBytes : Option ℕ → List ℕ → State → State
@@ -33,7 +37,7 @@ jobDone s q = eqb (s .sent) (slots (target (s .shape) (s .counter q))) && not (a
 
 -- "The counter grows by 1, or from 2^L − 1 falls to 2^(L−1), and the job leaves the queue."
 unfoldable pub endJob : ℕ → List ℕ → State → State
-endJob q qs s = s ▷ setCounter (put q (grown (s .shape) (s .counter q)) (s .counter)) ▷ setQueue qs ▷ setCursor 0 ▷ setSent 0
+endJob q qs s = s ▷ setCounter (put q (grown (s .shape) (s .counter q)) (s .counter)) ▷ setQueue qs ▷ setBegun 0 ▷ setCursor 0 ▷ setSent 0
 
 unfoldable pub finishJob : List ℕ → State → State
 finishJob [] s = s

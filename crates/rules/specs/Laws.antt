@@ -16,5 +16,6 @@ pub mod Released
 pub mod Asked
 pub mod Lengths
 pub mod Figures
-pub mod Before
+pub mod Silent
 pub mod Found
+pub mod Awaited

@@ -15,9 +15,9 @@ pub mod Completion
 pub mod Collect
 pub mod Questions
 pub mod Run
--- Document 02: the figures of a page; and the runs of document 01 before blocks told where they were found
+-- Document 02: the figures of a page; and runs that look nothing up to tell where a block was
 pub mod Figures
-pub mod Before
+pub mod Silent
 -- Theorems: sessions and edges that the checker computes, and laws
 pub mod Unfold
 pub mod Checked

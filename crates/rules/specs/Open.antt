@@ -19,6 +19,7 @@ fresh h js = record {
   mark = λ c. 0;
   holds = λ c. 0;
   queue = [];
+  begun = 0;
   cursor = 0;
   sent = 0;
   outstanding = [];

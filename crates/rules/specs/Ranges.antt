@@ -41,7 +41,8 @@ rangeRequest h (some r) = every
     ∷ ltb (r .next) (h .P)
     ∷ ltb (r .evict) (h .P)
     ∷ leb (r .level) (h .L)
-    ∷ rangeFound (h .L) (r .found) ∷ [])
+    ∷ rangeFound (h .L) (r .found)
+    ∷ leb (r .awaits) (h .W) ∷ [])
 
 -- "A queue of at most 64 jobs"; "with one (a request in hand), at most 62 jobs"
 unfoldable pub queueFits : List ℕ → Option Request → Bool
@@ -73,6 +74,7 @@ ranges s = let h = s .shape in
     ∷ all (λ b. ltb b (h .N)) (s .waiting)
     ∷ all (λ q. ltb q (h .P)) (s .queue)
     ∷ all (rangeCommand h) (s .outstanding)
+    ∷ leb (s .begun) 1
     ∷ leb (s .cursor) (slots (h .L) - 2)
     ∷ leb (s .sent) (2 ^ h .L)
     ∷ leb (length (s .outstanding)) (h .W)  -- "W commands outstanding at most"

@@ -1,5 +1,5 @@
 -- Document 01, "Turn": the rebuild that a job makes of its partition q.
-use mathlib.Core.Bool.{Bool, true, false, _&&_, _||_}
+use mathlib.Core.Bool.{Bool, false, _&&_, _||_}
 use mathlib.Core.List.{List, _++_, map, []}
 use mathlib.Core.Option.{Option, none, some}
 use Prim.Native.Nat.{ℕ, zero, suc, _+_, _-_, _^_}
@@ -10,7 +10,7 @@ use Rattle.lists.specs.Search.{find, keep, without, below, member, indexOf}
 use Rattle.lists.specs.Tables.{putAll}
 use Rattle.rules.specs.Shape.{slots, cell, offset}
 use Rattle.rules.specs.State.{Place, stored, State}
-use Rattle.rules.specs.Setters.{_▷_, setPlace, setWaiting, setOrder, setMark, setHolds, setSent}
+use Rattle.rules.specs.Setters.{_▷_, setPlace, setWaiting, setOrder, setMark, setHolds, setBegun, setSent}
 use Rattle.rules.specs.Levels.{sources}
 use Rattle.rules.specs.Blocks.{entries, blocksIn, isUnread}
 
@@ -71,4 +71,5 @@ doRebuild q t o s =
     ▷ setOrder (putAll (cell (s .shape) q t 0) o (s .order))
     ▷ setMark (putAll (cell (s .shape) q t 0) (replicate (slots t) 1) (s .mark))
     ▷ setHolds (putAll (cell (s .shape) q t 0) (newHolds (slots t) (gathered s q) o) (cleared (cell (s .shape) q 0 0) (slots (sources (s .shape) (s .counter q)) - 2) (s .holds)))
+    ▷ setBegun 1
     ▷ setSent 1

@@ -39,7 +39,8 @@ foundNumber foundCache = 1
 foundNumber (foundLevel ℓ) = ℓ + 2
 
 -- "A request in hand": what was asked, its two draws, the level from which its reads are still to be sent. Document 02, P2: "the request carries it",
--- where its block was found; nothing while it is held
+-- where its block was found; nothing while it is held. P4: how many of the commands outstanding, which are in the order of sending, were sent before it
+-- ceased to be held or not after its last own read: it awaits those of its partition among them
 pub record Request : Type 0 where
   pub kind : ℕ
   pub block : ℕ
@@ -48,6 +49,7 @@ pub record Request : Type 0 where
   pub evict : ℕ
   pub level : ℕ
   pub found : Option Found
+  pub awaits : ℕ
 
 pub record State : Type 0 where
   pub shape : Shape
@@ -60,6 +62,7 @@ pub record State : Type 0 where
   pub mark : ℕ → ℕ  -- "which slots have been read since the level was written": 1 if written and not read since, at the slot's cell
   pub holds : ℕ → ℕ  -- which block is in a slot: 0 for a dummy, b + 1 for block b, at the slot's cell
   pub queue : List ℕ  -- "a first-in first-out queue of jobs, each a partition number", front first
+  pub begun : ℕ  -- "a job has begun once one of its commands is sent": 1 once the front job has, else 0
   pub cursor : ℕ  -- how many slots of its sources the front job has gone over
   pub sent : ℕ  -- how many writes the front job has sent: 0 until its order is drawn
   pub outstanding : List Command
@@ -78,6 +81,7 @@ closed = record {
   mark = λ c. 0;
   holds = λ c. 0;
   queue = [];
+  begun = 0;
   cursor = 0;
   sent = 0;
   outstanding = [];

@@ -1,22 +1,24 @@
 -- Document 01, "Turn sends one command": what it is, and what it changes.
+use mathlib.Core.Bool.{_||_}
 use mathlib.Core.List.{List, [], _∷_, _++_}
 use mathlib.Core.Option.{Option, none, some, Option·getD}
 use Prim.Native.Nat.{ℕ, suc}
+use lib.ListN.{length}
 use lib.Dec.{ltb, eqb}
 use Rattle.lists.specs.Tests.{if_then_else_}
-use Rattle.lists.specs.Search.{any, orElse}
+use Rattle.lists.specs.Search.{any}
 use Rattle.lists.specs.Tables.{put}
 use Rattle.rules.specs.Shape.{slots, cell, offset}
-use Rattle.rules.specs.State.{Command, cmd, read, write, Place, Request, State}
-use Rattle.rules.specs.Setters.{_▷_, setMark, setCursor, setSent, setOutstanding, setRequest}
+use Rattle.rules.specs.State.{Command, cmd, read, write, Request, State}
+use Rattle.rules.specs.Setters.{_▷_, setMark, setBegun, setCursor, setSent, setOutstanding, setRequest}
 use Rattle.rules.specs.Draws.{newOrder, orderBounds}
 use Rattle.rules.specs.Levels.{target}
-use Rattle.rules.specs.Request.{held, levelsLeft, slotIn, dummy, passLevel}
+use Rattle.rules.specs.Request.{held, isSource, levelsLeft, slotRead, passLevel, releasedFor}
 use Rattle.rules.specs.Rebuild.{unread, doRebuild}
 
 pub data Step : Type 0 where
   idle : Step  -- there is no command to send
-  noDummy : Step  -- the request lacks an unread dummy
+  noDummy : Step  -- the request lacks an unread dummy, or in a source an unread item
   readForRequest : ℕ → ℕ → ℕ → Step  -- partition, level, slot
   readForJob : ℕ → ℕ → ℕ → Step
   rebuild : ℕ → ℕ → Step  -- partition, target: draws the order and sends the first write
@@ -28,25 +30,26 @@ unfoldable pub readStep : ℕ → ℕ → Option ℕ → Step
 readStep q ℓ none = noDummy
 readStep q ℓ (some i) = readForRequest q ℓ i
 
--- "One read to each filled level of p, level 0 first: the block's slot if its place is there, else the slot of the lowest-numbered unread dummy
--- item": the read of the first of these levels. A block waiting or nowhere has its place in none
-unfoldable pub firstRead : ℕ → Place → (ℕ → Option ℕ) → List ℕ → Option Step
-firstRead q place dummyOf [] = none
-firstRead q place dummyOf (ℓ ∷ _) = some (readStep q ℓ (orElse (slotIn ℓ place) (dummyOf ℓ)))
+-- "One read to each filled level of p, level 0 first": the read of the first of the levels that are left, of the slot that `slotOf` says. A block waiting or
+-- nowhere has its place in none
+unfoldable pub firstRead : ℕ → (ℕ → Option ℕ) → List ℕ → Option Step
+firstRead q slotOf [] = none
+firstRead q slotOf (ℓ ∷ _) = some (readStep q ℓ (slotOf ℓ))
 
 unfoldable pub requestStep : State → Option Request → Option Step
 requestStep s none = none
 requestStep s (some r) = let q = s .partition (r .block) in
-    if held r then none else firstRead q (s .place (r .block)) (dummy s q) (levelsLeft s r)
+    if held r then none else firstRead q (slotRead s q (s .place (r .block))) (levelsLeft s r)
 
 -- the job's next read, if a slot of its sources is left to read
 unfoldable pub gatherStep : ℕ → Option (ℕ × ℕ) → Step → Step
 gatherStep q none after = after
 gatherStep q (some p) after = readForJob q (p .0) (p .1)
 
--- "When those have completed, the next turn .. draws an order of 2^(t+1) slots .. and sends the first of 2^(t+1) writes": nothing of q is outstanding
+-- "When those have completed, the next turn .. draws an order of 2^(t+1) slots .. and sends the first of 2^(t+1) writes": nothing of q is
+-- outstanding. P4: "and the job draws its order only after the request is collected"
 unfoldable pub rebuildStep : State → ℕ → Step
-rebuildStep s q = if any (λ c. eqb (c .partition) q) (s .outstanding) then idle else rebuild q (target (s .shape) (s .counter q))
+rebuildStep s q = if any (λ c. eqb (c .partition) q) (s .outstanding) || releasedFor (s .partition) (s .request) q then idle else rebuild q (target (s .shape) (s .counter q))
 
 -- ".. of 2^(t+1) writes, slots ascending"
 unfoldable pub writeStep : State → ℕ → Step
@@ -87,10 +90,15 @@ send c s = s ▷ setOutstanding (s .outstanding ++ (c ∷ []))
 unfoldable pub markRead : ℕ → ℕ → ℕ → State → State
 markRead q ℓ i s = s ▷ setMark (put (cell (s .shape) q ℓ i) 0 (s .mark))
 
+-- "A job has begun once one of its commands is sent"; P4: a request's read of a source's slot "counts as read for the job too, and begins it"
 unfoldable pub doStep : Step → List ℕ → State → State
 doStep idle js s = s
 doStep noDummy js s = s
-doStep (readForRequest q ℓ i) js s = s ▷ markRead q ℓ i ▷ setRequest (passLevel ℓ (s .request)) ▷ send (cmd read q ℓ i)
-doStep (readForJob q ℓ i) js s = s ▷ markRead q ℓ i ▷ setCursor (suc (offset ℓ i)) ▷ send (cmd read q ℓ i)
+doStep (readForRequest q ℓ i) js s =
+    s ▷ markRead q ℓ i
+    ▷ setRequest (passLevel ℓ (suc (length (s .outstanding))) (s .request))
+    ▷ setBegun (if isSource s q ℓ then 1 else s .begun)
+    ▷ send (cmd read q ℓ i)
+doStep (readForJob q ℓ i) js s = s ▷ markRead q ℓ i ▷ setBegun 1 ▷ setCursor (suc (offset ℓ i)) ▷ send (cmd read q ℓ i)
 doStep (rebuild q t) js s = s ▷ doRebuild q t (newOrder (slots t) js) ▷ send (cmd write q t 0)
 doStep (writeNext q t i) js s = s ▷ setSent (suc i) ▷ send (cmd write q t i)

@@ -2,17 +2,18 @@
 use mathlib.Core.List.{List, [], _∷_}
 use Prim.Native.Nat.{ℕ}
 use Rattle.lists.specs.Tests.{every, between}
-use Rattle.lists.specs.Search.{find, keep, any, all, without, isNone, orElse, count, below, member, indexFrom, indexOf}
+use Rattle.lists.specs.Search.{find, keep, any, all, without, firstLeft, isNone, orElse, count, below, member, indexFrom, indexOf}
 use Rattle.lists.specs.Tables.{put, putAll}
+use Rattle.lists.specs.Totals.{total, under, same}
 use Rattle.rules.specs.Shape.{within, cell, offset}
 use Rattle.rules.specs.State.{foundNumber, closed}
 use Rattle.rules.specs.Ranges.{isKind, bytesOf, rangePlace, rangeCommand, rangeFound, rangeRequest, queueFits, others, cacheFits, eachCell, ranges, inRange}
 use Rattle.rules.specs.Memory.{needed}
 use Rattle.rules.specs.Draws.{limit, draw, drawnFirst, passOver, draws, exchange, shuffle, newOrder, orderBounds}
 use Rattle.rules.specs.Levels.{filled, trailingOnes, sources, target, grown}
-use Rattle.rules.specs.Blocks.{named, holder, entries, blocksIn, isUnread, zeros, isNowhere, contents, foundAt, lookUp, slotBytes}
+use Rattle.rules.specs.Blocks.{named, holder, entries, blocksIn, isUnread, readsOf, zeros, isNowhere, contents, foundAt, lookUp, slotBytes}
 use Rattle.rules.specs.Open.{fresh}
-use Rattle.rules.specs.Request.{accept, blocked, held, releasedIn, levelsLeft, slotIn, dummy, passLevel}
+use Rattle.rules.specs.Request.{accept, isFront, behindFront, undrawnOnly, isSource, worn, heldFor, blocked, held, releasedIn, costs, levelsLeft, slotIn, dummy, ifUnread, lowest, slotRead, passLevel, releasedFor}
 use Rattle.rules.specs.Rebuild.{places, unread, chosen, isChosen, gathered, itemPlace, newPlace, itemHolds, newHolds, cleared, leave, doRebuild}
 use Rattle.rules.specs.Turn.{readStep, firstRead, requestStep, gatherStep, rebuildStep, writeStep, jobStep, decide, command, stepBounds, send, markRead, doStep}
 use Rattle.rules.specs.Completion.{isCommand, completed, gatherBytes, completeRead, jobDone, endJob, finishJob, completeWrite, complete}
@@ -26,7 +27,7 @@ use Rattle.rules.specs.Questions.{Ask, Call}
 use Rattle.rules.specs.Run.{Outcome}
 
 unfoldable pub model : Unit {0}
-unfolding every between find keep any all without isNone orElse count below member indexFrom indexOf put putAll within cell offset foundNumber closed isKind bytesOf rangePlace rangeCommand rangeFound rangeRequest queueFits others cacheFits eachCell ranges inRange needed limit draw drawnFirst passOver draws exchange shuffle newOrder orderBounds filled trailingOnes sources target grown named holder entries blocksIn isUnread zeros isNowhere contents foundAt lookUp slotBytes fresh accept blocked held releasedIn levelsLeft slotIn dummy passLevel places unread chosen isChosen gathered itemPlace newPlace itemHolds newHolds cleared leave doRebuild readStep firstRead requestStep gatherStep rebuildStep writeStep jobStep decide command stepBounds send markRead doStep isCommand completed gatherBytes completeRead jobDone endJob finishJob completeWrite complete finished emptied finish collected answer carried bounds ready sends possible inHand questions firstNo number perform act refuse sentCommand written handed handedFound numbersOf takenOf refused accepted step run after nowhereBlocks storedBlocks waitingBlocks inPartition jobsFor figures allFigures
+unfolding every between find keep any all without firstLeft isNone orElse count below member indexFrom indexOf put putAll total under same within cell offset foundNumber closed isKind bytesOf rangePlace rangeCommand rangeFound rangeRequest queueFits others cacheFits eachCell ranges inRange needed limit draw drawnFirst passOver draws exchange shuffle newOrder orderBounds filled trailingOnes sources target grown named holder entries blocksIn isUnread readsOf zeros isNowhere contents foundAt lookUp slotBytes fresh accept isFront behindFront undrawnOnly isSource worn heldFor blocked held releasedIn costs levelsLeft slotIn dummy ifUnread lowest slotRead passLevel releasedFor places unread chosen isChosen gathered itemPlace newPlace itemHolds newHolds cleared leave doRebuild readStep firstRead requestStep gatherStep rebuildStep writeStep jobStep decide command stepBounds send markRead doStep isCommand completed gatherBytes completeRead jobDone endJob finishJob completeWrite complete finished emptied finish collected answer carried bounds ready sends possible inHand questions firstNo number perform act refuse sentCommand written handed handedFound numbersOf takenOf refused accepted step run after nowhereBlocks storedBlocks waitingBlocks inPartition jobsFor figures allFigures
 model = tt
 
 -- short forms, for sessions and the table of edges

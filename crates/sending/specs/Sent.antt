@@ -12,10 +12,10 @@ use Rattle.lists.specs.Tests.{if_then_else_}
 use Rattle.lists.specs.Search.{isNone}
 use Rattle.rules.specs.Shape.{slots, cell, offset}
 use Rattle.rules.specs.State.{State, cmd, read, write, foundNumber}
-use Rattle.rules.specs.Setters.{setRequest, setCursor, setSent, setWaiting}
+use Rattle.rules.specs.Setters.{setRequest, setBegun, setCursor, setSent, setWaiting}
 use Rattle.rules.specs.Draws.{draws, newOrder}
 use Rattle.rules.specs.Levels.{sources}
-use Rattle.rules.specs.Request.{passLevel}
+use Rattle.rules.specs.Request.{isSource, passLevel}
 use Rattle.rules.specs.Blocks.{holder, slotBytes, named, zeros}
 use Rattle.rules.specs.Rebuild.{gathered, doRebuild}
 use Rattle.rules.specs.Turn.{Step, idle, noDummy, readForRequest, readForJob, rebuild, writeNext, decide, command, stepBounds, markRead, send, doStep}
@@ -31,9 +31,8 @@ use Rattle.memory.specs.Fits.{shapeOf, fit, fit-lt}
 use Rattle.memory.specs.Tables.{tablesOf}
 use Rattle.client.specs.declared.Client.{Client}
 use Rattle.client.specs.View.{stateOf, view, handBy, requestOf, bytesIn}
-use Rattle.client.specs.Rows.{length-rows}
-use Rattle.client.specs.Readings.{hand-none}
-use Rattle.client.specs.Moves.{atLevel, withRequest, withCursor, withSent, withOut, Stands, restated, then as next}
+use Rattle.client.specs.Readings.{hand-none, out-count}
+use Rattle.client.specs.Moves.{atLevel, withRequest, withBegun, withCursor, withSent, withOut, Stands, restated, then as next}
 use Rattle.tape.specs.Tape.{wordsOf}
 use Rattle.ready.specs.Usable.{Usable}
 use Rattle.contract.specs.declared.Answer.{Answer}
@@ -71,10 +70,6 @@ pub record Left (c e : Client) (m m′ : List ℕ) (s : State) : Type 0 where
 -- ---- The number
 
 module _ (c : Client) (m : List ℕ) where
-  out-is : length (stateOf c m .outstanding) ≡ c .out
-  unfolding stateOf view
-  out-is = length-rows _ (c .out)
-
   bytes-is : stateOf c m .shape .B ≡ c .shape .b
   unfolding stateOf view
   bytes-is = refl
@@ -97,7 +92,7 @@ module _ (c : Client) (m tape b : List ℕ) (x : Step) (d : Due c m x) where
 
   pub turn-number : number s (callOf turn m tape b) ≡ firstNo asked
   unfolding number questions bounds firstNo
-  turn-number = rw (d .ready, d .step, out-is c m, window-is c m, lt-ltb (c .out) (c .shape .w) (d .free), bytes-is c m)
+  turn-number = rw (d .ready, d .step, out-count c m, window-is c m, lt-ltb (c .out) (c .shape .w) (d .free), bytes-is c m)
 
   -- a turn that is refused
   pub refuses : (n : ℕ) → firstNo asked ≡ n → (n ≡ 0 → ⊥) → Performs c s turn m tape b (refusedWith n c) m b
@@ -110,7 +105,7 @@ module _ (c : Client) (m tape b : List ℕ) (x : Step) (d : Due c m x) where
 
   -- the state that it leaves answers the first question too
   left-ready : (e : Client) (m′ js : List ℕ) → length m′ ≡ length m → Left c e m m′ (doStep x js s) → ready (stateOf e m′) (length m′) ≡ true
-  left-ready e m′ js l f = ready-after c e m m′ (doStep x js s) (d .usable .room) l (f .stands .state) shape (doStep-in s (d .usable .range) x js (unfold stateOf view in (d .inside)) (omega (arith, out-is c m, window-is c m, d .free)))
+  left-ready e m′ js l f = ready-after c e m m′ (doStep x js s) (d .usable .room) l (f .stands .state) shape (doStep-in s (d .usable .range) x js (unfold stateOf view in (d .inside)) (omega (arith, out-count c m, window-is c m, d .free)))
     where
       shape : doStep x js s .shape ≡ shapeOf (c .shape)
       shape = subst (λ y. doStep y js s .shape ≡ shapeOf (c .shape)) (d .step) (unfold act perform stateOf view in (act-shape s turn js (unfold opens in refl)))
@@ -174,40 +169,52 @@ asked-for c m q l i k z = reads-asked (stateOf c m) q l i (k .step) (hand-none c
 
 -- the request goes on from the level above l
 abbrev pub passed : ℕ → Client → Client
-passed l c = withRequest (atLevel (l + 1) (c .request)) c
+passed l c = withRequest (atLevel (l + 1) (c .out + 1) (c .request)) c
 
-passed-is : (l : ℕ) (c : Client) (m : List ℕ) → stateOf (passed l c) m ≡ setRequest (passLevel l (stateOf c m .request)) (stateOf c m)
-unfolding stateOf view requestOf passLevel
-passed-is l c m = ap (λ o. setRequest o (stateOf c m)) (go (eqb (c .request .kind) 0))
+passed-is : (l n : ℕ) (c : Client) (m : List ℕ) → stateOf (passed l (withBegun n c)) m ≡ setBegun n (setRequest (passLevel l (suc (length (stateOf c m .outstanding))) (stateOf c m .request)) (stateOf c m))
+passed-is l n c m = ap (λ k. stateOf (withRequest (atLevel (l + 1) k (c .request)) (withBegun n c)) m) (omega (arith, out-count c m)) ∙ asked-is ∙ ap (λ o. setBegun n (setRequest o (stateOf c m))) (asked ∙ sym same)
   where
     bs : List ℕ
     bs = tablesOf (shapeOf (c .shape)) m .blocks (c .shape .n)
 
-    go : (t : Bool) → (if t then none else some (handBy (atLevel (l + 1) (c .request)) bs)) ≡ passLevel l (if t then none else some (handBy (c .request) bs))
-    go true = refl
-    go false = ap (λ n. some (handBy (atLevel n (c .request)) bs)) (omega arith)
+    k : ℕ
+    k = suc (length (stateOf c m .outstanding))
+
+    go : (t : Bool) → (if t then none else some (handBy (atLevel (l + 1) k (c .request)) bs)) ≡ passLevel l k (if t then none else some (handBy (c .request) bs))
+    go true = unfold passLevel in refl
+    go false = unfold passLevel in (ap (λ n. some (handBy (atLevel n k (c .request)) bs)) (omega arith))
+
+    asked : requestOf (atLevel (l + 1) k (c .request)) bs ≡ passLevel l k (requestOf (c .request) bs)
+    asked = unfold requestOf in (go (eqb (c .request .kind) 0))
+
+    asked-is : stateOf (withRequest (atLevel (l + 1) k (c .request)) (withBegun n c)) m ≡ setBegun n (setRequest (requestOf (atLevel (l + 1) k (c .request)) bs) (stateOf c m))
+    asked-is = unfold stateOf view in refl
+
+    same : passLevel l k (stateOf c m .request) ≡ passLevel l k (requestOf (c .request) bs)
+    same = unfold stateOf view in refl
 
 module _ (c d e : Client) (m m₁ m₂ : List ℕ) where
   abbrev S : State
   S = stateOf c m
 
-  pub request-sent : (q l i : ℕ) → (c .request .kind ≡ 0 → ⊥) → Stands c m m₁ (markRead q l i S) → d ≡ passed l c → e ≡ withOut (d .out + 1) d → Stands e m₁ m₂ (send (cmd 1 q l i) (stateOf d m₁))
-      → (js : List ℕ) → Left c e m m₂ (doStep (readForRequest q l i) js S)
+  pub request-sent : (q l i n : ℕ) → (c .request .kind ≡ 0 → ⊥) → Stands c m m₁ (markRead q l i S) → n ≡ (if isSource S q l then 1 else S .begun) → d ≡ passed l (withBegun n c) → e ≡ withOut (d .out + 1) d
+      → Stands e m₁ m₂ (send (cmd 1 q l i) (stateOf d m₁)) → (js : List ℕ) → Left c e m m₂ (doStep (readForRequest q l i) js S)
   unfolding doStep markRead
-  request-sent q l i k a x y b js =
+  request-sent q l i n k a w x y b js =
       let shape : e .shape ≡ c .shape = ap (λ (z : Client). z .shape) y ∙ ap (λ (z : Client). z .shape) x in
       let kind : e .request .kind ≡ c .request .kind = ap (λ (z : Client). z .request .kind) y ∙ ap (λ (z : Client). z .request .kind) x in
-      left (λ z. absurd (k (sym kind ∙ z))) (restated (next c e m m₁ m₂ _ _ shape a b) (ap (send (cmd 1 q l i)) (ap (λ z. stateOf z m₁) x ∙ passed-is l c m₁ ∙ ap (λ (z : State). setRequest (passLevel l (z .request)) z) (a .state))))
+      left (λ z. absurd (k (sym kind ∙ z))) (restated (next c e m m₁ m₂ _ _ shape a b) (ap (send (cmd 1 q l i)) (ap (λ z. stateOf z m₁) x ∙ passed-is l n c m₁ ∙ ap (λ (z : State). setBegun n (setRequest (passLevel l (suc (length (z .outstanding))) (z .request)) z)) (a .state)
+      ∙ ap (λ j. setBegun j (setRequest (passLevel l (suc (length (S .outstanding))) (S .request)) (markRead q l i S))) w)))
 
-  pub job-sent : (q l i n : ℕ) → Stands c m m₁ (markRead q l i S) → n ≡ suc (offset l i) → d ≡ withCursor n c → e ≡ withOut (d .out + 1) d → Stands e m₁ m₂ (send (cmd 1 q l i) (stateOf d m₁))
+  pub job-sent : (q l i n : ℕ) → Stands c m m₁ (markRead q l i S) → n ≡ suc (offset l i) → d ≡ withCursor n (withBegun 1 c) → e ≡ withOut (d .out + 1) d → Stands e m₁ m₂ (send (cmd 1 q l i) (stateOf d m₁))
       → (js : List ℕ) → Left c e m m₂ (doStep (readForJob q l i) js S)
   unfolding doStep
   job-sent q l i n a z x y b js =
       let shape : e .shape ≡ c .shape = ap (λ (w : Client). w .shape) y ∙ ap (λ (w : Client). w .shape) x in
       left (λ _. ap (λ (w : Client). w .request) y ∙ ap (λ (w : Client). w .request) x)
-      (restated (next c e m m₁ m₂ _ _ shape a b) (ap (send (cmd 1 q l i)) (ap (λ w. stateOf w m₁) x ∙ cursor-is ∙ ap (setCursor n) (a .state) ∙ ap (λ k. setCursor k (markRead q l i S)) z)))
+      (restated (next c e m m₁ m₂ _ _ shape a b) (ap (send (cmd 1 q l i)) (ap (λ w. stateOf w m₁) x ∙ cursor-is ∙ ap (λ w. setCursor n (setBegun 1 w)) (a .state) ∙ ap (λ k. setCursor k (setBegun 1 (markRead q l i S))) z)))
     where
-      cursor-is : stateOf (withCursor n c) m₁ ≡ setCursor n (stateOf c m₁)
+      cursor-is : stateOf (withCursor n (withBegun 1 c)) m₁ ≡ setCursor n (setBegun 1 (stateOf c m₁))
       cursor-is = unfold stateOf view in refl
 
   pub write-sent : (q t i : ℕ) → d ≡ withSent (i + 1) c → e ≡ withOut (d .out + 1) d → Stands e m m₁ (send (cmd 2 q t i) (stateOf d m))
@@ -269,21 +276,21 @@ module _ (c : Client) (m tape b : List ℕ) (x : Step) (d : Due c m x) where
 pub rebuilt-stands : (c d : Client) (m m₁ m₂ : List ℕ) (q t n : ℕ) (bs o : List ℕ) (x : Found) → d .shape ≡ c .shape
     → Stands c m m₁ (rebuilt (shapeOf (c .shape)) q t n bs o (stateOf c m)) → Stands d m₁ m₂ (setWaiting (leftBy x (stateOf c m₁ .waiting)) (stateOf c m₁))
     → Chosen (stateOf c m) q x → bs ≡ gathered (stateOf c m) q → n ≡ sources (shapeOf (c .shape)) (stateOf c m .counter q)
-    → Stands (withSent 1 d) m m₂ (doRebuild q t o (stateOf c m))
+    → Stands (withSent 1 (withBegun 1 d)) m m₂ (doRebuild q t o (stateOf c m))
 rebuilt-stands c d m m₁ m₂ q t n bs o x h a b k e f =
-    restated (next c (withSent 1 d) m m₁ m₂ _ (setSent 1 (setWaiting (leftBy x (stateOf c m₁ .waiting)) (stateOf c m₁))) h a (record { state = sent-is ∙ ap (setSent 1) (b .state); tail = b .tail }))
-    (ap (λ (z : State). setSent 1 (setWaiting (leftBy x (z .waiting)) z)) (a .state) ∙ same)
+    restated (next c (withSent 1 (withBegun 1 d)) m m₁ m₂ _ (setSent 1 (setBegun 1 (setWaiting (leftBy x (stateOf c m₁ .waiting)) (stateOf c m₁)))) h a (record { state = sent-is ∙ ap (λ z. setSent 1 (setBegun 1 z)) (b .state); tail = b .tail }))
+    (ap (λ (z : State). setSent 1 (setBegun 1 (setWaiting (leftBy x (z .waiting)) z))) (a .state) ∙ same)
   where
     s : State
     s = stateOf c m
 
-    sent-is : stateOf (withSent 1 d) m₂ ≡ setSent 1 (stateOf d m₂)
+    sent-is : stateOf (withSent 1 (withBegun 1 d)) m₂ ≡ setSent 1 (setBegun 1 (stateOf d m₂))
     sent-is = unfold stateOf view in refl
 
     shape-is : s .shape ≡ shapeOf (c .shape)
     shape-is = unfold stateOf view in refl
 
-    same : setSent 1 (setWaiting (leftBy x (s .waiting)) (rebuilt (shapeOf (c .shape)) q t n bs o s)) ≡ doRebuild q t o s
+    same : setSent 1 (setBegun 1 (setWaiting (leftBy x (s .waiting)) (rebuilt (shapeOf (c .shape)) q t n bs o s))) ≡ doRebuild q t o s
     same = rw (e, f, k .gone, sym shape-is) (sym (rebuild-is q t o s))
 
 -- ---- Turns that are refused before a step is decided
@@ -297,4 +304,4 @@ module _ (c : Client) (m tape b : List ℕ) where
   window-full e l = record { refused = λ _. meets-no c (stateOf c m) turn m tape b 9 (sym (unfold number questions firstNo in (rw (e, full)))) (λ z. omega arith) refl; accepted = λ z. absurd (omega arith) }
     where
       full : ltb (length (stateOf c m .outstanding)) (stateOf c m .shape .W) ≡ false
-      full = le-ltb (length (stateOf c m .outstanding)) (stateOf c m .shape .W) (omega (arith, out-is c m, window-is c m))
+      full = le-ltb (length (stateOf c m .outstanding)) (stateOf c m .shape .W) (omega (arith, out-count c m, window-is c m))

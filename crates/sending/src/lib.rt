@@ -2,12 +2,12 @@
 use client::Client;
 use client::Found;
 use client::READ;
-use client::Request;
 use client::WRITE;
 use contract::Answer;
 ghost use mathlib.Core.Path.{_≡_};
 ghost use Prim.Native.Nat.{_+_, _<_, _≤_, _^_};
 ghost use lib.ListN.{length, take};
+ghost use Rattle.lists.specs.Tests.{if_then_else_};
 ghost use Rattle.rules.specs.Shape.{slots};
 ghost use Rattle.rules.specs.Setters.{setWaiting};
 ghost use Rattle.rules.specs.Draws.{newOrder, draws, orderBounds};
@@ -27,29 +27,29 @@ ghost use Rattle.releasing.specs.Performs.{Performs};
 ghost use Rattle.sending.specs.Chosen.{PlaceBelow, Chosen, extraAt, leftBy};
 ghost use Rattle.sending.specs.Sent.{Due, Reads, Writes, passed};
 
-// The request goes on from the level above l.
-fn pass_level(c: Client, l: usize) -> Client
-    requires { ⌜ l < 8 ⌝ }
-    ensures { λ r. ⌜ r ≡ passed l c ⌝ }
+// Whether the front job has begun (1): a read of a source begins it.
+fn begun(c: Client, source: bool) -> usize
+    ensures { λ r. ⌜ r ≡ (if source then 1 else c .begun) ⌝ }
 {
-    let r = c.request;
-    c.with_request(Request {
-        kind: r.kind,
-        block: r.block,
-        next: r.next,
-        evict: r.evict,
-        level: l + 1,
-        found: r.found,
-    })
+    if source { 1 } else { c.begun }
 }
 
-// Sends the request's read.
+// The request goes on from the level above l, and awaits all that is outstanding once its read there is sent.
+fn pass_level(c: Client, l: usize) -> Client
+    requires { ⌜ (l < 8) × (c .out < 32) ⌝ }
+    ensures { λ r. ⌜ r ≡ passed l c ⌝ }
+{
+    c.with_request(c.request.at_level(l + 1, c.out + 1))
+}
+
+// Sends the request's read. That of a source's slot counts for the job too.
 pub fn read_for_request(c: Client, m: &mut [u8], q: usize, l: usize, i: usize) -> Answer
     requires { ⌜ Due c (now m) (readForRequestOf q l i) ⌝ }
     ensures { λ r. ⌜ Reads c (now (m .entry)) r (now (m .exit)) ⌝ }
 {
+    let n = begun(c, l < reading::sources(c, m, q));
     levels::mark_read(c, m, q, l, i);
-    let d = pass_level(c, l);
+    let d = pass_level(c.with_begun(n), l);
     let e = commands::send(d, m, READ, q, l, i);
     contract::sent(e, 0, READ, q, l, i)
 }
@@ -60,7 +60,7 @@ pub fn read_for_job(c: Client, m: &mut [u8], q: usize, l: usize, i: usize) -> An
     ensures { λ r. ⌜ Reads c (now (m .entry)) r (now (m .exit)) ⌝ }
 {
     levels::mark_read(c, m, q, l, i);
-    let d = c.with_cursor(bits::pow2(l + 1) - 2 + i + 1);
+    let d = c.with_begun(1).with_cursor(bits::pow2(l + 1) - 2 + i + 1);
     let e = commands::send(d, m, READ, q, l, i);
     contract::sent(e, 0, READ, q, l, i)
 }
@@ -172,7 +172,7 @@ fn write_level(
 {
     let sources = bits::sources(memory::tables::counter(c.shape, m, q), c.shape.l);
     rebuild::rebuild_tables(c, m, q, t, sources, list, k, tape);
-    leave(c, m, x).with_sent(1)
+    leave(c, m, x).with_begun(1).with_sent(1)
 }
 
 // Rebuilds q into level t by an order that takes these words, and sends the first write.

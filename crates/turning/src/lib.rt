@@ -7,7 +7,7 @@ ghost use Rattle.client.specs.View.{stateOf};
 ghost use Rattle.contract.specs.Meets.{Meets};
 ghost use Rattle.releasing.specs.Performs.{Performs};
 
-// What a turn does by document 01. A request is released after it.
+// What a turn does before a request is released.
 pub fn perform(c: Client, m: &mut [u8], tape: &[u8], buffer: &mut [u8]) -> Answer
     ensures { λ r. ⌜ Performs c (stateOf c (now (m .entry))) turnOf (now (m .entry)) (now (tape .entry)) (now (buffer .entry)) r (now (m .exit)) (now (buffer .exit)) ⌝ }
 {

@@ -1,17 +1,22 @@
 //! Runs pairs of compared lists with every tape of words, for words of few
 //! bits, and compares the transcripts: with the right rules each occurs equally
-//! often in both lists. With each of some planted mistakes some pair differs,
-//! and so it does for a caller who lends words again.
+//! often in both lists, look-ups while a partition is rebuilt among them. With
+//! each of some planted mistakes some pair differs, and so it does for a caller
+//! who lends words again.
 
-use plain::lists::{Pair, drawn_again, layered, lent_again, pair, two_stored};
+use plain::lists::{Pair, pair};
+use plain::lists::{above_sources, source_read, source_spent, source_unread};
+use plain::lists::{drawn_again, layered, lent_again, two_stored};
 use plain::mistakes::Mistake;
 use plain::shape::Shape;
+use plain::situations::Situation;
 use plain::transcripts::Transcripts;
 use plain::walk::transcripts;
 use plain::words::{Caller, Words};
+use std::collections::BTreeMap;
 use std::process::ExitCode;
 
-const SHAPES: [Shape; 10] = [
+const SHAPES: [Shape; 12] = [
     Shape::new(2, 2, 1, 1, 2, 1),
     Shape::new(2, 2, 2, 1, 2, 1),
     Shape::new(1, 1, 1, 1, 1, 1),
@@ -22,21 +27,27 @@ const SHAPES: [Shape; 10] = [
     Shape::new(2, 1, 2, 1, 2, 1),
     Shape::new(2, 2, 2, 1, 2, 2),
     Shape::new(1, 1, 2, 1, 1, 2),
+    Shape::new(2, 1, 3, 1, 2, 3),
+    Shape::new(2, 1, 2, 1, 2, 3),
 ];
 
-const PAIRS: usize = 400;
+const PAIRS: usize = 600;
 /// The bits of the largest words.
 const WIDEST: u32 = 3;
 /// In so many pairs at least a word has to be passed over, and in so many a
 /// turn lent as many words as it makes draws has to be answered 3.
 const FEWEST: usize = 100;
+/// In so many a request has to be released while its partition is rebuilt.
+const FEWEST_BESIDE: usize = 300;
 
 /// The mistakes that demand 3 itself has to shut out. With words of few bits
 /// draws are far from even if words that should be passed over are taken: the
 /// slot of the third item of an order of four is then told from the others'. A
 /// word passed over that does not count is followed by words that were drawn
-/// from and are lent again, as the caller goes by the count.
-const TOLD: [Mistake; 10] = [
+/// from and are lent again, as the caller goes by the count. Of the mistakes in
+/// look-ups while a partition is rebuilt, these depend on what the host must
+/// not learn.
+const TOLD: [Mistake; 16] = [
     Mistake::LowestDummySlot,
     Mistake::WaitingSendsNothing,
     Mistake::FinishedEarly,
@@ -47,6 +58,12 @@ const TOLD: [Mistake; 10] = [
     Mistake::LimitTaken,
     Mistake::PassedNotCounted,
     Mistake::NothingPassed,
+    Mistake::LowestUnreadSlot,
+    Mistake::SourceReadsDummy,
+    Mistake::SlotReadTwice,
+    Mistake::WaitingSkipsRebuild,
+    Mistake::FinishedByOwnRead,
+    Mistake::OwnJobReadAwaited,
 ];
 
 /// A pair, and at how many different runs its lists end.
@@ -63,12 +80,17 @@ fn pairs() -> impl Iterator<Item = Limited> {
         drawn_again(),
         two_stored(3),
         layered(3),
+        source_unread(2),
+        source_read(2),
+        source_spent(2),
+        above_sources(2),
+        above_sources(3),
     ];
     let random = (0..).map(|seed: usize| {
         let (shape, round) = (SHAPES[seed % SHAPES.len()], seed / SHAPES.len());
         let least = shape.levels as u32;
         let width = least + round as u32 % (WIDEST + 1 - least);
-        let most = if shape.levels == 1 { 1_000 } else { 4_000 };
+        let most = if shape.levels == 1 { 1_000 } else { 12_000 };
         (pair(shape, width, seed as u64), most)
     });
     let made = made.map(|pair| (pair, usize::MAX));
@@ -111,6 +133,10 @@ struct Met {
     longest: usize,
     passed: usize,
     unsettled: usize,
+    /// The pairs with a release beside a rebuild, and with what is met there.
+    beside: usize,
+    collected: usize,
+    situations: BTreeMap<Situation, usize>,
 }
 
 impl Met {
@@ -123,6 +149,11 @@ impl Met {
         self.longest = self.longest.max(longest);
         self.passed += usize::from(found.passed);
         self.unsettled += usize::from(found.unsettled);
+        self.beside += usize::from(!found.met.is_empty());
+        self.collected += usize::from(found.collected);
+        for situation in &found.met {
+            *self.situations.entry(*situation).or_default() += 1;
+        }
         self.pairs.push(pair);
     }
 
@@ -140,6 +171,31 @@ impl Met {
             "None: a turn with a word for each draw is answered 3 in {} pairs",
             self.unsettled
         );
+        let Met {
+            beside, collected, ..
+        } = self;
+        println!("None: a request is released beside a rebuild in {beside} pairs");
+        println!("None: such a request is collected in {collected} pairs");
+        for (situation, pairs) in &self.situations {
+            println!("None: beside a rebuild, {situation:?} in {pairs} pairs");
+        }
+    }
+
+    /// There are enough pairs of each kind.
+    fn suffices(&self) -> Result<(), String> {
+        if self.passed.min(self.unsettled) < FEWEST {
+            return Err(format!("None: fewer than {FEWEST} pairs of either kind"));
+        }
+        if self.beside.min(self.collected) < FEWEST_BESIDE {
+            return Err(format!("None: fewer than {FEWEST_BESIDE} beside a rebuild"));
+        }
+        let missing = Situation::AT_RELEASE
+            .iter()
+            .filter(|s| !self.situations.contains_key(s));
+        match missing.collect::<Vec<_>>()[..] {
+            [] => Ok(()),
+            ref missing => Err(format!("None: no pair has {missing:?}")),
+        }
     }
 }
 
@@ -158,9 +214,7 @@ fn honest() -> Result<Met, String> {
         met.add(pair, &found);
     }
     met.print();
-    if met.passed.min(met.unsettled) < FEWEST {
-        return Err(format!("None: fewer than {FEWEST} pairs of either kind"));
-    }
+    met.suffices()?;
     Ok(met)
 }
 

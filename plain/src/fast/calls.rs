@@ -29,9 +29,11 @@ impl Store {
             partition,
             next: usize::from(words[0]) & mask,
             evict: usize::from(words[1]) & mask,
+            own: 0,
+            end: 0,
             room,
         };
-        self.release(partition);
+        self.release();
         Answer::sent(Command::default(), 2)
     }
 
@@ -57,29 +59,41 @@ impl Store {
         if words < 2 { 3 } else { 0 }
     }
 
-    /// Lets a request that is held by the partition go, if no job is left. Its
-    /// block is looked up only now, as the jobs may have moved it.
-    #[inline]
-    pub(super) fn release(&mut self, partition: usize) {
-        let record = &self.partitions[partition];
-        let held = self.request.found == HELD;
-        if held && self.request.partition == partition && record.jobs == 0 {
-            self.request.pending = u32::from(record.counter);
-            self.request.found = self.look_up(self.request.block);
+    /// Lets a held request go if its partition has no job, or only one that
+    /// is at the front and has not drawn. This may become so at acceptance and
+    /// when a job ends, also one of another partition.
+    #[inline(always)]
+    pub(super) fn release(&mut self) {
+        let Request {
+            found, partition, ..
+        } = self.request;
+        if found != HELD {
+            return;
+        }
+        match self.partitions[partition].jobs {
+            0 => self.look_up(),
+            1 if self.job.partition == partition && !self.job.has_drawn() => {
+                self.look_up();
+                self.go_beside();
+            }
+            _ => {}
         }
     }
 
-    /// Where a block is, as answers tell it. In its partition, slot s of level
-    /// l has index 2^(l+1) + s.
-    fn look_up(&self, block: usize) -> u8 {
-        match self.blocks[block].place {
-            NOWHERE => 0,
-            WAITING => 1,
+    /// Looks the request's block up, which jobs may have moved before. In its
+    /// partition, slot s of level l has index 2^(l+1) + s.
+    #[inline]
+    fn look_up(&mut self) {
+        let request = &mut self.request;
+        request.pending = u32::from(self.partitions[request.partition].counter);
+        (request.found, request.own) = match self.blocks[request.block].place {
+            NOWHERE => (0, 0),
+            WAITING => (1, 0),
             place => {
                 let index = place & ((2 << self.levels) - 1);
-                index.ilog2() as u8 + 1
+                (index.ilog2() as u8 + 1, usize::from(index))
             }
-        }
+        };
     }
 
     pub fn completion(&mut self, command: Command, bytes: &[u8]) -> u8 {
@@ -91,9 +105,8 @@ impl Store {
             if bytes.len() != self.bytes {
                 return 12;
             }
-            let at = self.sent.remove(index);
-            let requests = usize::from(command.partition) != self.job.partition;
-            self.request.outstanding -= usize::from(requests);
+            let (at, awaited) = self.sent.remove(index);
+            self.request.outstanding -= usize::from(awaited);
             self.contents[at..at + self.bytes].copy_from_slice(bytes);
         } else {
             if !bytes.is_empty() {
@@ -121,10 +134,7 @@ impl Store {
         let room = self.room_of[request.block];
         let at = self.at(room);
         answer.copy_from_slice(&self.contents[at..at + self.bytes]);
-        if request.kind == WRITE {
-            self.give_back(room);
-            self.room_of[request.block] = request.room;
-        }
+        self.room_of[request.block] = self.kept(room);
         self.leave(request.block);
         self.wait(request.block, request.next);
         self.request = Request::default();
@@ -136,6 +146,20 @@ impl Store {
             self.next_job();
         }
         Answer::collected(request.found)
+    }
+
+    /// The room of the block's contents after its request, given the one of
+    /// those before.
+    #[inline]
+    fn kept(&mut self, room: u16) -> u16 {
+        if self.is_jobs(room) {
+            return self.leave_job(room);
+        }
+        if self.request.kind == READ {
+            return room;
+        }
+        self.give_back(room);
+        self.request.room
     }
 
     pub(super) fn give_back(&mut self, room: u16) {

@@ -1,14 +1,15 @@
 //! A fast plain implementation of document 01's block store, for benchmarks,
-//! with where a block was found and even draws (document 02, P2 and P3). It
-//! answers the documents' numbers. It owns its memory, so the questions about
-//! the length of lent memory are left out, and as a refused open hands back no
-//! store, so is the closed state.
+//! with where a block was found, even draws and look-ups while a partition is
+//! rebuilt (document 02, P2 to P4). It answers the documents' numbers. It owns
+//! its memory, so the questions about the length of lent memory are left out,
+//! and as a refused open hands back no store, so is the closed state.
 //!
 //! A slot has an index in its partition like a node in a heap: slot s of
 //! level l is at 2^(l+1) + s. A rebuild's reads, levels ascending and slots
 //! ascending within a level, are then the unread bits from 2 upward. An
 //! index in the store has the partition in the bits above.
 
+mod beside;
 mod calls;
 mod parts;
 mod rebuild;
@@ -68,7 +69,7 @@ impl Answer {
 }
 
 /// The room that is always zeros, the one for bytes that nobody wants, and
-/// the first of those for the blocks that a job reads.
+/// the first of those for the blocks that a job gathers.
 const ZEROS: u16 = 0;
 const JUNK: u16 = 1;
 const GATHER: u16 = 2;
@@ -101,7 +102,8 @@ pub struct Store {
     room_of: Vec<u16>,
     /// A stack of free rooms, so that few are in use again and again.
     free: Vec<u16>,
-    /// The blocks of a rebuild, each with its room in the lower half.
+    /// The blocks of a rebuild, each with its room in the lower half, and GONE
+    /// in place of one that has left.
     gathered: [u32; SLOTS],
     /// By slot of the level being written: where its contents lie.
     outgoing: [u32; SLOTS],
@@ -109,7 +111,7 @@ pub struct Store {
     inverse: [u32; SLOTS + 1],
     /// Rooms of B bytes, after a gap of `start` bytes that puts them on a
     /// cache line's border: ZEROS, JUNK, those for the blocks that a job
-    /// reads, and one for each block and for a request's contents.
+    /// gathers, and one for each block and for a request's contents.
     contents: Vec<u8>,
     start: usize,
 }

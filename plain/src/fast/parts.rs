@@ -45,7 +45,8 @@ pub struct Partition {
     /// The slots that no request has read since their level was written. The
     /// bits of an empty level mean nothing.
     pub unread: [u64; WORDS],
-    /// By level, the lowest-numbered unread dummy item.
+    /// By level, the lowest-numbered unread dummy item. That of a job's source
+    /// means nothing once one of its slots was read beside the job.
     pub dummy: [u16; LEVELS],
     pub counter: u16,
     /// The blocks its levels hold.
@@ -78,11 +79,17 @@ pub struct Request {
     pub found: u8,
     /// The levels whose read is yet to be sent, as bits; 0 while held.
     pub pending: u32,
+    /// The reads outstanding that it waits for.
     pub outstanding: usize,
     pub block: usize,
     pub partition: usize,
     pub next: usize,
     pub evict: usize,
+    /// The index in the partition of the slot to read the block from, or 0.
+    pub own: usize,
+    /// Beside a job of its partition, the index at which the sources end, or
+    /// 0.
+    pub end: usize,
     /// The room of a write's contents.
     pub room: u16,
 }
@@ -115,8 +122,9 @@ pub struct Job {
     /// A word of the sources' slots that are yet to be read, and which it is.
     pub unread: u64,
     pub word: usize,
-    /// The blocks gathered so far.
+    /// The blocks gathered so far, and how many of them have left since.
     pub count: usize,
+    pub gone: usize,
     /// The next write, and how many are left.
     pub write: Command,
     pub left: usize,
@@ -133,6 +141,7 @@ pub const IDLE: Job = Job {
     unread: 0,
     word: 0,
     count: 0,
+    gone: 0,
     write: Command {
         kind: 0,
         partition: 0,
@@ -143,8 +152,24 @@ pub const IDLE: Job = Job {
     room: 0,
 };
 
-/// The commands outstanding. The lower half of an entry is the command, the
-/// upper half says where the bytes of a read go.
+impl Job {
+    pub fn has_drawn(&self) -> bool {
+        matches!(self.phase, Phase::Write | Phase::Written)
+    }
+
+    /// The index in the partition of the next slot to read, or `end`. All the
+    /// sources' slots below have been read.
+    pub fn next(&self) -> usize {
+        match self.phase {
+            Phase::Read => 64 * self.word + self.unread.trailing_zeros() as usize,
+            _ => self.end,
+        }
+    }
+}
+
+/// The commands outstanding. The lower half of an entry is the command. In the
+/// upper half the lowest bit says whether the request in hand waits for it,
+/// and the others where the bytes of a read go.
 #[derive(Clone, Copy, Default)]
 pub struct Sent {
     entries: [u64; MOST_SENT],
@@ -153,9 +178,17 @@ pub struct Sent {
 
 impl Sent {
     #[inline]
-    pub fn push(&mut self, command: Command, at: usize) {
-        self.entries[self.count % MOST_SENT] = (at as u64) << 32 | u64::from(packed(command));
+    pub fn push(&mut self, command: Command, at: usize, awaited: bool) {
+        let upper = (at as u64) << 1 | u64::from(awaited);
+        self.entries[self.count % MOST_SENT] = upper << 32 | u64::from(packed(command));
         self.count += 1;
+    }
+
+    /// The request in hand waits for all of them.
+    pub fn await_all(&mut self) {
+        for entry in &mut self.entries[..self.count.min(MOST_SENT)] {
+            *entry |= 1 << 32;
+        }
     }
 
     #[inline]
@@ -173,13 +206,14 @@ impl Sent {
         entries.iter().position(|entry| *entry as u32 == packed)
     }
 
-    /// Takes a command out and hands back where its bytes go.
+    /// Takes a command out and hands back where its bytes go, and whether the
+    /// request waited for it.
     #[inline]
-    pub fn remove(&mut self, index: usize) -> usize {
-        let at = self.entries[index % MOST_SENT] >> 32;
+    pub fn remove(&mut self, index: usize) -> (usize, bool) {
+        let upper = self.entries[index % MOST_SENT] >> 32;
         self.count -= 1;
         self.entries[index % MOST_SENT] = self.entries[self.count % MOST_SENT];
-        at as usize
+        ((upper >> 1) as usize, upper & 1 == 1)
     }
 }
 

@@ -15,13 +15,16 @@ impl Store {
             return Answer::refused(3);
         };
         let chosen = self.chosen();
-        if self.job.count + usize::from(chosen != NONE) > 1 << target {
+        let count = self.job.count - self.job.gone;
+        if count + usize::from(chosen != NONE) > 1 << target {
             return Answer::refused(2);
         }
         if chosen != NONE {
             self.take(chosen);
         }
+        // A block that has left comes behind all others.
         self.gathered[..self.job.count].sort_unstable();
+        self.job.count -= self.job.gone;
         self.draw_order(&words[..taken]);
         self.place();
         self.job.phase = Phase::Write;

@@ -15,44 +15,66 @@ impl Store {
             Phase::Read => self.job_read(),
             Phase::Write if buffer.len() == self.bytes => self.write(buffer, 0),
             Phase::Write => Answer::refused(15),
-            Phase::Gather if self.sent.count == self.request.outstanding => {
-                self.first_write(words, buffer)
-            }
+            Phase::Gather if self.may_draw() => self.first_write(words, buffer),
             _ => Answer::refused(10),
         }
     }
 
+    /// Whether all reads of the job have completed and no request is served
+    /// beside it.
+    #[inline]
+    fn may_draw(&self) -> bool {
+        self.sent.count == self.request.outstanding && self.request.end == 0
+    }
+
+    /// Sends the request's next read.
     #[inline(never)]
     fn request_read(&mut self) -> Answer {
-        let request = &mut self.request;
+        let request = &self.request;
         let level = request.pending.trailing_zeros() as usize;
-        let first = (request.partition << (self.levels + 1)) + (2 << level);
-        let partition = &mut self.partitions[request.partition];
-        // A place that is no slot lies in no level.
-        let own = usize::from(self.blocks[request.block].place).wrapping_sub(first);
-        let (slot, room) = if own < 2 << level {
-            let room = self.free.pop().unwrap_or(JUNK);
-            self.room_of[request.block] = room;
-            (own, room)
+        let first = 2 << level;
+        if first < request.end {
+            return self.source_read(level);
+        }
+        let (index, room) = if request.own.wrapping_sub(first) < first {
+            (request.own, self.own_room())
         } else {
-            let item = usize::from(partition.dummy[level]);
-            if item >= 2 << level {
+            let dummy = &mut self.partitions[request.partition].dummy[level];
+            let item = usize::from(*dummy);
+            if item >= first {
                 return Answer::refused(2);
             }
-            partition.dummy[level] += 1;
-            (usize::from(self.slot_of[first + item]), JUNK)
+            *dummy += 1;
+            let base = request.partition << (self.levels + 1);
+            (first + usize::from(self.slot_of[base + first + item]), JUNK)
         };
-        let index = (2 << level) + slot;
-        partition.unread[index / 64] &= !(1 << (index % 64));
+        self.send_request_read(level, index, room)
+    }
+
+    /// Gives the request's block a room.
+    #[inline(always)]
+    pub(super) fn own_room(&mut self) -> u16 {
+        let room = self.free.pop().unwrap_or(JUNK);
+        self.room_of[self.request.block] = room;
+        room
+    }
+
+    /// Sends the request's read of a level's slot, whose index in the partition
+    /// is given.
+    #[inline(always)]
+    pub(super) fn send_request_read(&mut self, level: usize, index: usize, room: u16) -> Answer {
+        let request = &mut self.request;
+        let unread = &mut self.partitions[request.partition].unread;
+        unread[index / 64 % WORDS] &= !(1 << (index % 64));
         request.pending &= request.pending - 1;
         request.outstanding += 1;
         let command = Command {
             kind: READ,
             partition: request.partition as u8,
             level: level as u8,
-            slot: slot as u8,
+            slot: (index - (2 << level)) as u8,
         };
-        self.sent.push(command, self.at(room));
+        self.sent.push(command, self.at(room), true);
         Answer::sent(command, 0)
     }
 
@@ -84,7 +106,7 @@ impl Store {
 
     /// Goes on to the next word with an unread slot, if this one has none.
     #[inline]
-    fn next_word(&mut self) {
+    pub(super) fn next_word(&mut self) {
         let job = &mut self.job;
         let unread = &self.partitions[job.partition].unread;
         while job.unread == 0 {
@@ -97,31 +119,38 @@ impl Store {
         }
     }
 
-    /// Sends the read of the job's next slot. A dummy's bytes go where nobody
-    /// looks, which costs less than to foresee whose they are.
+    /// Sends the read of the job's next slot.
     #[inline]
     fn job_read(&mut self) -> Answer {
-        let job = &mut self.job;
-        let index = 64 * job.word + job.unread.trailing_zeros() as usize;
+        let index = 64 * self.job.word + self.job.unread.trailing_zeros() as usize;
         let level = index.ilog2() - 1;
+        let room = self.gather(index);
+        let job = &mut self.job;
         let command = Command {
             kind: READ,
             partition: job.partition as u8,
             level: level as u8,
             slot: (index - (2 << level)) as u8,
         };
+        job.unread &= job.unread - 1;
+        if job.unread == 0 {
+            self.next_word();
+        }
+        self.sent.push(command, self.at(room), false);
+        Answer::sent(command, 0)
+    }
+
+    /// The room for what the read of a source's slot brings. A dummy's bytes go
+    /// where nobody looks, which costs less than to foresee whose they are.
+    #[inline(always)]
+    pub(super) fn gather(&mut self, index: usize) -> u16 {
+        let job = &mut self.job;
         let block = self.block_at[job.base + index];
         let dummy = usize::from(block) == self.blocks.len();
         let gather = GATHER + job.count as u16;
         self.gathered[job.count % SLOTS] = u32::from(block) << 16 | u32::from(gather);
         job.count += usize::from(!dummy);
-        job.unread &= job.unread - 1;
-        if job.unread == 0 {
-            self.next_word();
-        }
-        let room = if dummy { JUNK } else { gather };
-        self.sent.push(command, self.at(room));
-        Answer::sent(command, 0)
+        if dummy { JUNK } else { gather }
     }
 
     /// Sends the write of the job's next slot. The buffer has B bytes.
@@ -134,7 +163,7 @@ impl Store {
         if job.left == 0 {
             job.phase = Phase::Written;
         }
-        self.sent.push(command, 0);
+        self.sent.push(command, 0, false);
         let at = self.outgoing[usize::from(command.slot)] as usize;
         buffer.copy_from_slice(&self.contents[at..at + self.bytes]);
         Answer::sent(command, taken)
@@ -158,7 +187,7 @@ impl Store {
         if room != ZEROS {
             self.give_back(room);
         }
-        self.release(partition);
         self.next_job();
+        self.release();
     }
 }

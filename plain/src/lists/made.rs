@@ -91,14 +91,14 @@ pub fn drawn_again() -> Pair {
 }
 
 impl Builder {
-    fn opened(shape: Shape, width: u32) -> Builder {
+    pub(super) fn opened(shape: Shape, width: u32) -> Builder {
         let mut builder = builder(shape, width, 0);
         builder.same(Ask::Open(shape), shape.blocks, 0);
         builder
     }
 
     /// A request to read, lent the words that it takes.
-    fn read(&mut self, blocks: [usize; 2]) {
+    pub(super) fn read(&mut self, blocks: [usize; 2]) {
         let asks = blocks.map(|block| Ask::Request {
             kind: READ,
             block,
@@ -107,21 +107,21 @@ impl Builder {
         self.put(asks, self.shape.needed(), 2, 0);
     }
 
-    fn collect(&mut self) {
+    pub(super) fn collect(&mut self) {
         self.same(Ask::Collect, 0, self.shape.bytes);
     }
 
     /// The same request in both lists, collected at once.
-    fn serve(&mut self, block: usize) {
+    pub(super) fn serve(&mut self, block: usize) {
         self.read([block; 2]);
         self.collect();
     }
 
-    fn turn(&mut self, words: usize) {
+    pub(super) fn turn(&mut self, words: usize) {
         self.same(Ask::Turn, words, self.shape.bytes);
     }
 
-    fn complete(&mut self, kind: usize, [partition, level]: [usize; 2], slot: usize) {
+    pub(super) fn complete(&mut self, kind: usize, [partition, level]: [usize; 2], slot: usize) {
         let command = Command {
             kind,
             partition,
@@ -132,7 +132,13 @@ impl Builder {
     }
 
     /// Turns, each lent so many words, with completions of these commands.
-    fn commands(&mut self, words: usize, kind: usize, level: [usize; 2], slots: &[usize]) {
+    pub(super) fn commands(
+        &mut self,
+        words: usize,
+        kind: usize,
+        level: [usize; 2],
+        slots: &[usize],
+    ) {
         for slot in slots {
             self.turn(words);
             self.complete(kind, level, *slot);
@@ -140,7 +146,7 @@ impl Builder {
     }
 
     /// A turn, and completions of a read of each of so many slots.
-    fn any_read(&mut self, level: [usize; 2], slots: usize) {
+    pub(super) fn any_read(&mut self, level: [usize; 2], slots: usize) {
         self.turn(0);
         for slot in 0..slots {
             self.complete(READ, level, slot);

@@ -1,11 +1,13 @@
 //! What whole look-ups cost beside the plain implementation, in the same run:
 //! for each shape the commands of a look-up, nanoseconds per command of both,
 //! and their ratio; with a host in memory, and with one that does nothing. Then
-//! what a page costs, and how that grows with N and with P.
+//! for how many commands look-ups through the reader wait, and what a page costs,
+//! and how that grows with N and with P.
 //!
 //! `cargo bench` prints the tables. `cargo bench -- --docs ../docs` also puts
 //! them into MEASUREMENTS.md there, between its two marks, and writes the plot
-//! measurements.svg.
+//! measurements.svg. `cargo bench -- --waits` prints for how many commands
+//! look-ups wait, and nothing else is done.
 
 #[path = "../../tests/common/convert.rs"]
 mod convert;
@@ -14,6 +16,7 @@ mod plot;
 mod proved;
 mod reader;
 mod report;
+mod waits;
 
 use plain::fast;
 use plain::lookups::{Client, Host, LookUps, Measure, Memory, Nothing, SHAPES};
@@ -121,10 +124,15 @@ fn docs() -> Option<String> {
 }
 
 fn run() -> Result<(), Box<dyn Error>> {
+    let streams = waits::all()?;
+    if std::env::args().any(|argument| argument == "--waits") {
+        print!("{}", report::waits(&streams));
+        return Ok(());
+    }
     let shapes: Vec<Row> = SHAPES.into_iter().map(row).collect();
     let growing: Vec<Row> = GROWING.into_iter().map(row).collect();
     let looks: Result<Vec<Look>, _> = SHAPES.into_iter().map(reader::look).collect();
-    let text = report::text(&shapes, &growing, &looks?, &pages::all()?);
+    let text = report::text(&shapes, &growing, &looks?, &streams, &pages::all()?);
     print!("{text}");
     if let Some(docs) = docs() {
         let docs = Path::new(&docs);

@@ -12,9 +12,10 @@ pub struct Proved {
 }
 
 impl Proved {
-    /// How many blocks wait in the cache: number 15 of the state (docs/MEMORY.md).
+    /// How many blocks wait in the cache: the last number of the state but one
+    /// (docs/MEMORY.md).
     pub fn waiting(&self) -> u16 {
-        u16::from_le_bytes([self.state[4 * 15], self.state[4 * 15 + 1]])
+        u16::from_le_bytes([self.state[STATE - 8], self.state[STATE - 7]])
     }
 
     /// A number of the tables in the memory.

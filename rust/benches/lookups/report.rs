@@ -3,6 +3,7 @@
 use crate::Row;
 use crate::pages::{Page, Pages};
 use crate::reader::Look;
+use crate::waits::Stream;
 use plain::shape::Shape;
 use std::io;
 use std::path::Path;
@@ -79,6 +80,29 @@ fn reader(looks: &[Look]) -> String {
     text
 }
 
+/// For how many commands look-ups wait.
+pub fn waits(streams: &[Stream]) -> String {
+    let mut text = String::new();
+    text += "| N | P | L | B | jobs left | pause | contents: mean | most | return: mean | most |\n";
+    text += "|--:|--:|--:|--:|--:|--:|--:|--:|--:|--:|\n";
+    for stream in streams {
+        let (h, left, pause) = (stream.shape, stream.left, stream.pause);
+        let (contents, returned) = (stream.waits.contents(), stream.waits.returned());
+        text += &format!(
+            "| {} | {} | {} | {} | {left} | {pause} | {:.1} | {} | {:.1} | {} |\n",
+            h.blocks,
+            h.partitions,
+            h.levels,
+            h.bytes,
+            contents.mean(),
+            contents.most(),
+            returned.mean(),
+            returned.most(),
+        );
+    }
+    text
+}
+
 /// Pages in microseconds, and in nanoseconds for each block.
 fn table_of_pages(pages: &[Page]) -> String {
     let mut text = String::new();
@@ -127,16 +151,24 @@ fn pages(pages: &Pages) -> String {
     )
 }
 
-pub fn text(shapes: &[Row], growing: &[Row], looks: &[Look], pages: &Pages) -> String {
+pub fn text(
+    shapes: &[Row],
+    growing: &[Row],
+    looks: &[Look],
+    streams: &[Stream],
+    pages: &Pages,
+) -> String {
     format!(
         "Machine: {}.\n\n{}\n{}\nN alone grows; P = 64, L = 8 and B = 64 throughout:\n\n{}\n{}\n\
-         Look-ups through the reader, in microseconds each:\n\n{}\n{}",
+         Look-ups through the reader, in microseconds each:\n\n{}\n\
+         Commands for which look-ups through the reader wait, of those asked one after the other:\n\n{}\n{}",
         machine(),
         table(shapes),
         growth(shapes),
         table(growing),
         growth(growing),
         reader(looks),
+        waits(streams),
         self::pages(pages),
     )
 }

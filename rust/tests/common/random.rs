@@ -6,7 +6,7 @@ use plain::host::Host;
 use plain::mistakes::Mistake;
 use plain::rng::Rng;
 use plain::shape::Shape;
-use plain::state::{Command, READ, Step, WRITE};
+use plain::state::{Command, READ, State, Step, WRITE};
 
 pub struct Random {
     shape: Shape,
@@ -18,6 +18,8 @@ pub struct Random {
     /// Whether the host waits until no command can be sent, so that they fill
     /// the window.
     waits: bool,
+    /// Whether requests are made while their block's partition is rebuilt.
+    beside: bool,
     /// The most jobs queued; the rebuilds of a partition that stores all it
     /// may, and those of one with all levels filled.
     pub most_jobs: usize,
@@ -36,6 +38,17 @@ pub fn calls(few: usize) -> usize {
     })
 }
 
+/// Whether the front job, for q, has read the slot of a block, and that has
+/// completed.
+fn gathers(state: &State, q: usize) -> bool {
+    (0..state.shape.blocks).any(|block| {
+        let own = state.own_slot(block);
+        let reads = |c: &Command| (c.partition, Some((c.level, c.slot))) == (q, own);
+        let read = state.partition[block] == q && state.was_read(block);
+        read && !state.outstanding.iter().any(reads)
+    })
+}
+
 impl Random {
     pub fn new(shape: Shape, mistake: Mistake, seed: u64) -> Random {
         Random {
@@ -45,6 +58,7 @@ impl Random {
             host: Host::default(),
             hoards: false,
             waits: false,
+            beside: false,
             most_jobs: 0,
             full: 0,
             wraps: 0,
@@ -56,6 +70,7 @@ impl Random {
         if self.rng.below(400) == 0 {
             self.hoards = self.rng.chance(40);
             self.waits = self.rng.chance(40);
+            self.beside = !self.hoards && self.rng.chance(70);
         }
         let call = self.call();
         let (full, wraps) = self.rebuilds(&call);
@@ -115,25 +130,40 @@ impl Random {
         let Some(state) = &self.model.state else {
             return self.open();
         };
+        let [asks, collects, completes, sends] = self.weights(state);
+        let choice = self.rng.below((asks + collects + completes + sends).max(1));
+        if choice < asks {
+            self.request()
+        } else if choice < asks + collects {
+            self.collect()
+        } else if choice < asks + collects + completes {
+            self.completion()
+        } else {
+            // With nothing to send, jobs are left alone no longer.
+            self.hoards &= sends > 0;
+            self.turn()
+        }
+    }
+
+    /// How likely a request, a collect, a completion and a turn are. Beside a
+    /// rebuild requests come as soon as the job lets them pass, collects are also
+    /// asked for too early, and turns though the job waits for the collect.
+    fn weights(&self, state: &State) -> [usize; 4] {
         let pending = self.host.pending.len();
         let left_alone = self.hoards && !matches!(state.step(), Some(Step::RequestRead(_)));
         let sends = state.step().is_some() && pending < self.shape.window && !left_alone;
         let collects = state.request.as_ref().is_some_and(|r| state.finished(r));
         let asks = state.request.is_none();
         let completes = pending > 0 && !(self.waits && sends);
-        let weights = [asks, collects, completes, sends].map(usize::from);
-        let choice = self.rng.below(weights.iter().sum::<usize>().max(1));
-        if choice < weights[0] {
-            self.request()
-        } else if choice < weights[..2].iter().sum() {
-            self.collect()
-        } else if choice < weights[..3].iter().sum() {
-            self.completion()
-        } else {
-            // With nothing to send, jobs are left alone no longer.
-            self.hoards &= sends;
-            self.turn()
-        }
+        let front = state.queue.front().filter(|_| self.beside);
+        let Some(front) = front else {
+            return [asks, collects, completes, sends].map(usize::from);
+        };
+        let passes = asks && !state.holds(*front);
+        let asks = usize::from(passes) * if gathers(state, *front) { 8 } else { 1 };
+        let collects = 3 * usize::from(collects) + usize::from(state.request.is_some());
+        let sends = 4 * usize::from(sends) + usize::from(state.beside().is_some());
+        [asks, collects, 3 * usize::from(completes), sends]
     }
 
     fn lend(&mut self, ask: Ask, words: usize, buffer: usize) -> Call {
@@ -179,14 +209,30 @@ impl Random {
         call
     }
 
+    /// A block: where jobs are left alone one that none holds back, beside a
+    /// rebuild mostly one of its partition, and often one whose slot the job has
+    /// read; any, if there is none such.
+    fn block(&mut self) -> usize {
+        let any = self.rng.below(self.shape.blocks);
+        let (beside, read) = (self.beside && self.rng.chance(85), self.rng.chance(50));
+        let Some(state) = &self.model.state else {
+            return any;
+        };
+        let front = |b: &usize| state.queue.front() == Some(&state.partition[*b]);
+        let free = |b: &usize| !state.queue.contains(&state.partition[*b]);
+        let mut all = (any..self.shape.blocks).chain(0..any);
+        let mut again = all.clone();
+        let wanted = match (self.hoards, beside) {
+            (true, _) => all.find(free),
+            (_, true) if read => all.find(|b| front(b) && state.was_read(*b)),
+            _ => None,
+        };
+        let rebuilt = again.find(|b| beside && front(b));
+        wanted.or(rebuilt).unwrap_or(any)
+    }
+
     fn request(&mut self) -> Call {
-        let mut block = self.rng.below(self.shape.blocks);
-        if let (true, Some(state)) = (self.hoards, &self.model.state) {
-            // A block that no job holds back, if there is one.
-            let free = |b: &usize| !state.queue.contains(&state.partition[*b]);
-            let all = (block..self.shape.blocks).chain(0..block);
-            block = { all }.find(free).unwrap_or(block);
-        }
+        let block = self.block();
         let (kind, length) = match self.rng.chance(50) {
             true => (WRITE, self.shape.bytes),
             false => (READ, 0),

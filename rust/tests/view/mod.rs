@@ -1,19 +1,28 @@
-//! The state that 68 bytes and a memory stand for, by the layout in
+//! The state that 76 bytes and a memory stand for, by the layout in
 //! docs/MEMORY.md: every content stands for one, as an entry out of its range
 //! reads as 0. `step` has what the rules say of it, also of states that no
-//! call left (docs/DECISIONS.md), and `page` its page.
+//! call left (docs/DECISIONS.md), `beside` of look-ups while a partition is
+//! rebuilt, `met` what of these occurs, and `page` its page.
 
+mod beside;
+pub mod met;
 mod page;
-mod step;
-
-pub use step::step;
+pub mod step;
 
 use plain::found::Found;
 use plain::shape::Shape;
 use plain::state::{Command, READ, WRITE};
 
 /// The numbers of a state.
-pub const NUMBERS: usize = 17;
+pub const NUMBERS: usize = 19;
+
+/// Where the numbers stand that come behind the shape's and the request's.
+const JOBS: usize = 13;
+const BEGUN: usize = 14;
+const CURSOR: usize = 15;
+const SENT: usize = 16;
+const WAITING: usize = 17;
+const OUT: usize = 18;
 
 /// A request in hand; a read has no bytes.
 #[derive(Clone, Debug, PartialEq, Eq)]
@@ -27,6 +36,9 @@ pub struct Request {
     pub level: usize,
     /// Where its block was found; none while it is held.
     pub found: Option<Found>,
+    /// It waits for the commands of its block's partition among the first so
+    /// many outstanding ones.
+    pub awaits: usize,
 }
 
 /// A state in range.
@@ -46,10 +58,12 @@ pub struct View {
     pub holds: Vec<usize>,
     pub mark: Vec<usize>,
     pub queue: Vec<usize>,
-    /// The slots of its sources that the front job has gone over, and the
-    /// writes that it has sent.
+    /// 1 once the front job has begun; the slots of its sources that it has
+    /// gone over, and the writes that it has sent.
+    pub begun: usize,
     pub cursor: usize,
     pub sent: usize,
+    /// In the order of sending.
     pub outstanding: Vec<Command>,
     pub request: Option<Request>,
 }
@@ -138,9 +152,9 @@ pub fn decode(state: &[u8], memory: &[u8]) -> Option<View> {
     if !shape.in_bounds() || memory.len() < shape.needed() {
         return None;
     }
-    let [jobs, cursor, sent, waiting, out] = [c[12], c[13], c[14], c[15], c[16]];
-    let job = cursor <= slots(shape.levels) - 2 && sent <= 1 << shape.levels;
-    if !job || jobs > 64 || waiting > shape.places || out > shape.window {
+    let all = slots(shape.levels) - 2;
+    let job = c[BEGUN] <= 1 && c[CURSOR] <= all && c[SENT] <= 1 << shape.levels;
+    if !job || c[JOBS] > 64 || c[WAITING] > shape.places || c[OUT] > shape.window {
         return None;
     }
     let view = Tables { shape, memory }.view(&c);
@@ -163,18 +177,19 @@ impl Tables<'_> {
         };
         View {
             shape: self.shape,
-            queue: self.table(0, c[12], |_, q| fit(partitions, q)),
-            outstanding: self.outstanding(c[16]),
+            queue: self.table(0, c[JOBS], |_, q| fit(partitions, q)),
+            outstanding: self.outstanding(c[OUT]),
             counter: self.table(128, partitions, |_, c| fit(1 << levels, c)),
             partition: self.table(192, n, |_, p| fit(partitions, p)),
             place: self.table(192 + n, n, |_, number| self.place(number)),
-            waiting: self.table(192 + 2 * n, c[15], |_, b| fit(n, b)),
+            waiting: self.table(192 + 2 * n, c[WAITING], |_, b| fit(n, b)),
             order: self.table(192 + 3 * n, all, order),
             holds: self.table(192 + 3 * n + all, all, |_, b| fit(n + 1, b)),
             mark: self.table(192 + 3 * n + 2 * all, all, |_, mark| fit(2, mark)),
             bytes: (0..n).map(|b| self.block(b)).collect(),
-            cursor: c[13],
-            sent: c[14],
+            begun: c[BEGUN],
+            cursor: c[CURSOR],
+            sent: c[SENT],
             request: (c[6] != 0).then(|| self.request(c)),
         }
     }
@@ -193,6 +208,7 @@ impl Tables<'_> {
             evict: c[9],
             level: c[10],
             found: found(c[11]),
+            awaits: c[12],
         }
     }
 }
@@ -215,6 +231,7 @@ impl View {
             && r.evict < self.shape.partitions
             && r.level <= self.shape.levels
             && level < self.shape.levels
+            && r.awaits <= self.shape.window
             && self.queue.len() <= 62
             && others < self.shape.places
     }

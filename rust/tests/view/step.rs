@@ -75,6 +75,7 @@ impl View {
             holds: vec![0; cells(shape)],
             mark: vec![0; cells(shape)],
             queue: Vec::new(),
+            begun: 0,
             cursor: 0,
             sent: 0,
             outstanding: Vec::new(),
@@ -82,7 +83,7 @@ impl View {
         })
     }
 
-    /// After every accepted call a request is released that no job holds.
+    /// After every accepted call a request is released that nothing holds.
     fn call(&mut self, call: &Call, draws: &mut Draws) -> Result<Handed, u8> {
         let handed = match &call.ask {
             Ask::Open(_) => Err(2),
@@ -123,37 +124,13 @@ impl View {
             evict: draws.below(self.shape.partitions),
             level: 0,
             found: None,
+            awaits: 0,
         });
         Ok(Handed::default())
     }
 
-    /// Whether a request is held though no job for its block's partition is
-    /// queued, or the other way round, as no call leaves it.
-    pub fn is_held_oddly(&self) -> bool {
-        let queued = |r: &Request| self.queue.contains(&self.partition[r.block]);
-        let request = self.request.as_ref();
-        request.is_some_and(|r| r.found.is_none() != queued(r))
-    }
-
-    /// A request is held until its block is looked up, once no job for the
-    /// block's partition is queued.
-    fn release(&mut self) {
-        let held = self.request.as_ref().filter(|r| r.found.is_none());
-        let free = held.filter(|r| !self.queue.contains(&self.partition[r.block]));
-        let found = free.map(|r| self.look_up(r.block));
-        if let (Some(request), Some(_)) = (&mut self.request, found) {
-            request.found = found;
-        }
-    }
-
-    /// The first level to which the request has yet to send a read.
-    fn level_left(&self, request: &Request) -> Option<usize> {
-        let counter = self.counter[self.partition[request.block]];
-        (request.level..self.shape.levels).find(|level| counter >> level & 1 == 1)
-    }
-
     /// How many levels a rebuild of q reads, and the one that it writes.
-    fn sources(&self, q: usize) -> usize {
+    pub fn sources(&self, q: usize) -> usize {
         (self.counter[q].trailing_ones() as usize).min(self.shape.levels)
     }
 
@@ -161,24 +138,26 @@ impl View {
         self.sources(q).min(self.shape.levels - 1)
     }
 
-    fn busy(&self, q: usize) -> bool {
+    pub fn busy(&self, q: usize) -> bool {
         self.outstanding.iter().any(|c| c.partition == q)
     }
 
-    /// The slot of the lowest-numbered unread dummy item.
-    fn dummy(&self, q: usize, level: usize) -> Option<usize> {
-        let items = (0..slots(level)).map(|k| self.order[self.cell(q, level, k)]);
-        let unread = |i: &usize| self.mark[self.cell(q, level, *i)] == 1;
-        { items }.find(|i| unread(i) && self.holder(q, level, *i).is_none())
+    /// The next slot of its sources that the front job, for q, reads.
+    pub fn unread(&self, q: usize) -> Option<(usize, usize)> {
+        (0..self.sources(q))
+            .flat_map(|level| (0..slots(level)).map(move |slot| (level, slot)))
+            .find(|(level, slot)| {
+                let passed = slots(*level) - 2 + slot < self.cursor;
+                !passed && self.is_unread(q, *level, *slot)
+            })
     }
 
     fn decide(&self) -> Option<Step> {
         let request = self.request.as_ref().filter(|r| r.found.is_some());
         if let Some((r, level)) = request.and_then(|r| Some((r, self.level_left(r)?))) {
             let q = self.partition[r.block];
-            let own = self.place[r.block].filter(|(own, _)| *own == level);
-            let slot = own.map(|(_, slot)| slot).or_else(|| self.dummy(q, level));
             let read = |slot| Step::RequestRead(command(READ, q, level, slot));
+            let slot = self.slot_read(r.block, level);
             return Some(slot.map_or(Step::NoDummy, read));
         }
         let q = *self.queue.first()?;
@@ -187,15 +166,10 @@ impl View {
             let write = Step::Write(command(WRITE, q, target, self.sent));
             return (self.sent < slots(target)).then_some(write);
         }
-        let unread = (0..self.sources(q))
-            .flat_map(|level| (0..slots(level)).map(move |slot| (level, slot)))
-            .find(|(level, slot)| {
-                let passed = slots(*level) - 2 + slot < self.cursor;
-                !passed && self.mark[self.cell(q, *level, *slot)] == 1
-            });
-        match unread {
+        match self.unread(q) {
             Some((level, slot)) => Some(Step::JobRead(command(READ, q, level, slot))),
-            None if self.busy(q) => None,
+            // the order is drawn only after the request is collected
+            None if self.busy(q) || self.released_for(q).is_some() => None,
             None => Some(Step::Rebuild(command(WRITE, q, target, 0))),
         }
     }
@@ -208,12 +182,11 @@ impl View {
         let sent = match step {
             Step::NoDummy => return Err(2),
             Step::RequestRead(c) => {
-                if let Some(request) = &mut self.request {
-                    request.level = c.level + 1;
-                }
+                self.pass_level(c);
                 c
             }
             Step::JobRead(c) => {
+                self.begun = 1;
                 self.cursor = slots(c.level) - 2 + c.slot + 1;
                 c
             }
@@ -236,6 +209,18 @@ impl View {
         Ok((sent, bytes, Found::Nowhere))
     }
 
+    /// The request's read is the last outstanding command that it waits for, and
+    /// a source's is a command of the job, too.
+    fn pass_level(&mut self, read: Command) {
+        if self.is_source(read.partition, read.level) {
+            self.begun = 1;
+        }
+        if let Some(request) = &mut self.request {
+            request.level = read.level + 1;
+            request.awaits = self.outstanding.len() + 1;
+        }
+    }
+
     /// The block that has waited longest for q, if q has room.
     fn chosen(&self, q: usize) -> Option<usize> {
         let stored = self.held_in(q, self.shape.levels).count();
@@ -253,6 +238,7 @@ impl View {
         gathered.dedup();
         ask(gathered.len() <= 1 << target, 2)?;
         let order = order(slots(target), Mistake::None, draws);
+        self.begun = 1;
         if let Some(at) = self.waiting.iter().position(|b| Some(*b) == chosen) {
             self.waiting.remove(at);
         }
@@ -281,6 +267,9 @@ impl View {
         };
         ask(bytes.len() == length, 12)?;
         self.outstanding.remove(index);
+        if let Some(request) = &mut self.request {
+            request.awaits -= usize::from(index < request.awaits);
+        }
         if command.kind == WRITE {
             self.finish_job();
         } else if let Some(block) = self.holder(command.partition, command.level, command.slot) {
@@ -305,14 +294,14 @@ impl View {
             c => c + 1,
         };
         self.queue.remove(0);
-        (self.cursor, self.sent) = (0, 0);
+        (self.begun, self.cursor, self.sent) = (0, 0, 0);
     }
 
     fn collect(&mut self, buffer: usize) -> Result<Handed, u8> {
         let request = self.request.clone().ok_or(13)?;
         let (b, p) = (request.block, self.partition[request.block]);
         let found = request.found.ok_or(14)?;
-        ask(self.level_left(&request).is_none() && !self.busy(p), 14)?;
+        ask(self.is_finished(&request), 14)?;
         ask(buffer == self.shape.bytes, 15)?;
         let before = self.contents(b);
         self.bytes[b] = match request.kind {

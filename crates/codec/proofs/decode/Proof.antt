@@ -26,6 +26,9 @@ number-requires-4 c κs = omega arith
 number-requires-5 : tie.Need-number-requires-5
 number-requires-5 c κs = omega arith
 
+number-requires-6 : tie.Need-number-requires-6
+number-requires-6 c κs = omega arith
+
 returns : tie.Need-returns
 returns c = cc
 
@@ -40,4 +43,5 @@ decode-spec =
     number-requires-3
     number-requires-4
     number-requires-5
+    number-requires-6
     returns)

@@ -21,6 +21,9 @@ number-requires-5 c κs = omega arith
 number-requires-6 : tie.Need-number-requires-6
 number-requires-6 c κs = omega arith
 
+number-requires-7 : tie.Need-number-requires-7
+number-requires-7 c κs = omega arith
+
 returns : tie.Need-returns
 returns c = cc
 
@@ -34,4 +37,5 @@ request-spec =
     number-requires-4
     number-requires-5
     number-requires-6
+    number-requires-7
     returns)

@@ -4,7 +4,7 @@ use Prim.Native.Nat.{ℕ, _-_, _≤_, _<_}
 use native.Mathlib.Omega.{arith}
 use borrow.Author.Count.{below-none, below-more}
 use borrow.Author.Tests.{eq-eqb, ne-eqb}
-use Rattle.client.specs.Rows.{any-hit, any-miss}
+use Rattle.client.specs.Rows.{hit-in, miss-in}
 use Rattle.commands.specs.Outstanding.{ofPartition}
 use Rattle.commands.specs.Commands.{commandIn, outstanding-is, partition-is}
 use Rattle.commands.proofs.is_busy.Statement.{statement}
@@ -28,7 +28,8 @@ fit-requires c κs = omega arith
 returns : tie.Need-returns Inv-loop μ-loop
 returns c =
     let l = c .before .before .before .before .loop in
-    rw outstanding-is (sym (any-hit (ofPartition _) _ _ (l .i) (omega arith) (eq-eqb _ _ (partition-is _ _ _ _ _ (c .before .before .command-kind .ensures) (c .before .fit .ensures) ∙ c .if1 .taken))))
+    let a = c .before .before .before .before .before .before in
+    rw outstanding-is (sym (hit-in (ofPartition _) _ (a .args .c .out) (a .args .n) (a .pre .2) (l .i) (omega arith) (eq-eqb _ _ (partition-is _ _ _ _ _ (c .before .before .command-kind .ensures) (c .before .fit .ensures) ∙ c .if1 .taken))))
 
 add-i : tie.Need-add-i Inv-loop μ-loop
 add-i c = omega arith
@@ -42,7 +43,7 @@ loop-again c =
     (omega arith, below-more _ _ (l .inv .1) (rw (partition-is _ _ (l .i) _ _ (c .before .before .command-kind .ensures) (c .before .fit .ensures)) (ne-eqb _ _ (c .if1 .left))))
 
 returns-2 : tie.Need-returns-2 Inv-loop μ-loop
-returns-2 c = rw outstanding-is (sym (any-miss (ofPartition _) _ _ (λ x h. c .before .loop .inv .1 x (omega arith))))
+returns-2 c = let a = c .before .before .before in rw outstanding-is (sym (miss-in (ofPartition _) _ (a .args .c .out) (a .args .n) (a .pre .2) (λ x h. c .before .loop .inv .1 x (omega arith))))
 
 pub is-busy-spec : {M : Type 1} → statement M
 is-busy-spec =

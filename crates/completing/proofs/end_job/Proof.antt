@@ -22,6 +22,9 @@ set-counter-requires c κs =
 pop-requires : tie.Need-pop-requires
 pop-requires c κs = omega arith
 
+with-begun-requires : tie.Need-with-begun-requires
+with-begun-requires c κs = omega arith
+
 with-cursor-requires : tie.Need-with-cursor-requires
 with-cursor-requires c κs = omega arith
 
@@ -33,13 +36,13 @@ same-length c = omega arith
 
 returns : tie.Need-returns
 returns c =
-    let p = c .before .before .before .before .pop in
-    let d = c .before .before .before .before .before .before .before .before in
+    let p = c .before .before .before .before .before .pop in
+    let d = c .before .before .before .before .before .before .before .before .before in
     let g = d .before .before .grown in
     let n = d .before .before .before .counter in
     let a = d .before .before .before .before .before .before .args in
     let k = counted (a .c) (a .m .now) _ (a .q) (n .result) (g .result) (n .ensures) (g .ensures .0) (g .ensures .1) (d .set-counter .ensures) in
-    rw (c .with-sent .ensures, c .before .with-cursor .ensures) (rw (p .ensures .0), ended (a .c) (p .result) (a .m .now) _ _ (a .q) k (p .ensures .0) (p .ensures .1), rw (p .ensures .0))
+    rw (c .with-sent .ensures, c .before .with-cursor .ensures, c .before .before .with-begun .ensures) (rw (p .ensures .0), ended (a .c) (p .result) (a .m .now) _ _ (a .q) k (p .ensures .0) (p .ensures .1), rw (p .ensures .0))
 
 pub end-job-spec : {M : Type 1} → statement M
 end-job-spec =
@@ -49,6 +52,7 @@ end-job-spec =
     grown-requires
     set-counter-requires
     pop-requires
+    with-begun-requires
     with-cursor-requires
     with-sent-requires
     same-length

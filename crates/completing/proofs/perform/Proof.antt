@@ -11,6 +11,8 @@ use Rattle.rules.specs.Questions.{ready}
 use Rattle.client.specs.View.{stateOf}
 use Rattle.ready.specs.Usable.{unready-part}
 use Rattle.commands.specs.Outstanding.{OutstandingAt}
+use Rattle.client.specs.declared.Request.{Request}
+use Rattle.completing.specs.Awaited.{lessened-idle}
 use Rattle.completing.specs.Completing.{wanted, no-ready, no-command, no-length, yes, begins, completes}
 use Rattle.completing.proofs.perform.Statement.{statement}
 use Rattle.completing.proofs.perform.Tie as tie
@@ -144,8 +146,9 @@ returns-6 c =
     let k = d .before .before in
     let f = k .before .before .before in
     let s = f .before .before .before .before .before .before .before .before .before .before .before in
+    let kept = c .before .before .before .complete .ensures .0 in
     rw (c .accepted .ensures)
-    (yes (s .args .c) (s .args .m .now) (named s) (s .args .bytes .now) (begun (f .before .before)) (there k .there) _ _ (sized d) (c .before .before .before .complete .ensures .0) (completed-length (c .before .before .before)) (c .before .before .before .complete .ensures .1))
+    (yes (s .args .c) (s .args .m .now) (named s) (s .args .bytes .now) (begun (f .before .before)) (there k .there) _ _ (sized d) (λ z. kept ∙ lessened-idle _ (s .args .c .request) (ap (λ (x : Request). x .kind) (sym kept) ∙ z)) (completed-length (c .before .before .before)) (c .before .before .before .complete .ensures .1))
 
 pub perform-spec : {M : Type 1} → statement M
 perform-spec =

@@ -1,10 +1,15 @@
-use mathlib.Core.Path.{ap, sym, _∙_}
+use mathlib.Core.Path.{_≡_, ap, sym, _∙_}
+use mathlib.Core.Option.{none}
 use native.Mathlib.Omega.{arith}
 use Rattle.rules.specs.Laws.Levels.{sources-le}
 use Rattle.memory.specs.Fits.{shapeOf}
 use Rattle.client.specs.View.{stateOf, view}
 use Rattle.levels.specs.Next.{foundSpot}
-use Rattle.deciding.specs.Steps.{gather-read, gather-waits, gather-rebuilds, target-is}
+use Rattle.lists.specs.Search.{any}
+use Rattle.rules.specs.Rebuild.{unread}
+use Rattle.commands.specs.Outstanding.{ofPartition}
+use Rattle.commands.specs.Commands.{all-taken}
+use Rattle.deciding.specs.Steps.{gather-read, gather-waits, gather-stays, gather-rebuilds, target-is}
 use Rattle.deciding.proofs.gather_step.Statement.{statement}
 use Rattle.deciding.proofs.gather_step.Tie as tie
 
@@ -27,24 +32,40 @@ enum-told : tie.Need-enum-told
 enum-told c = omega arith
 
 is-busy-requires : tie.Need-is-busy-requires
-is-busy-requires c κs = let u = c .before .before .before .before .pre .0 in (u .room, omega (arith, u .counts .out, u .window))
+is-busy-requires c κs = let u = c .before .before .before .before .pre .0 in (u .room, omega (arith, u .counts .out, u .window), omega arith)
+
+-- whether a command of its partition is outstanding
+busy : (c : tie.After-is-busy) → let a = c .before .before .before .before .before .args in any (ofPartition (a .q)) (stateOf (a .c) (a .m .now) .outstanding) ≡ c .is-busy .result
+busy c = let a = c .before .before .before .before .before .args in ap (any (ofPartition (a .q))) (sym (all-taken (a .c) (a .m .now))) ∙ sym (c .is-busy .ensures)
+
+-- no slot of its sources is left to read
+done : (c : tie.After-enum-told) → let a = c .before .before .before .before .args in none ≡ unread (stateOf (a .c) (a .m .now)) (a .q)
+done c = sym (ap foundSpot (c .enum-told .given .1)) ∙ c .before .before .unread .ensures
 
 returns-2 : tie.Need-returns-2
 returns-2 c =
-    let t = c .before .before in
-    let a = t .before .before .before .before .args in
-    gather-waits (stateOf (a .c) (a .m .now)) (a .q) (sym (ap foundSpot (t .enum-told .given .1)) ∙ t .before .before .unread .ensures) (sym (c .before .is-busy .ensures) ∙ c .if1 .taken)
+    let a = c .before .before .before .before .before .before .args in
+    gather-waits (stateOf (a .c) (a .m .now)) (a .q) (done (c .before .before)) (busy (c .before) ∙ c .if1 .taken)
 
-target-requires : tie.Need-target-requires
-target-requires c κs = c .before .before .before .before .before .before .pre .0 .room .someLevels
+is-released-for-requires : tie.Need-is-released-for-requires
+is-released-for-requires c κs = c .before .before .before .before .before .before .pre .0
 
 returns-3 : tie.Need-returns-3
-unfolding stateOf view
 returns-3 c =
-    let t = c .before .before .before in
-    let s = t .before .before .before .before in
+    let a = c .before .before .before .before .before .before .before .before .args in
+    let b = c .before .before in
+    gather-stays (stateOf (a .c) (a .m .now)) (a .q) (done (b .before .before)) (busy (b .before) ∙ b .if1 .left) (sym (c .before .is-released-for .ensures) ∙ c .if2 .taken)
+
+target-requires : tie.Need-target-requires
+target-requires c κs = c .before .before .before .before .before .before .before .before .pre .0 .room .someLevels
+
+returns-4 : tie.Need-returns-4
+unfolding stateOf view
+returns-4 c =
+    let s = c .before .before .before .before .before .before .before .before .before in
     let a = s .args in
-    gather-rebuilds (stateOf (a .c) (a .m .now)) (a .q) (c .target .result) (sym (ap foundSpot (t .enum-told .given .1)) ∙ t .before .before .unread .ensures) (sym (c .before .before .is-busy .ensures) ∙ c .before .if1 .left)
+    let b = c .before .before .before in
+    gather-rebuilds (stateOf (a .c) (a .m .now)) (a .q) (c .target .result) (done (b .before .before)) (busy (b .before) ∙ b .if1 .left) (sym (c .before .before .is-released-for .ensures) ∙ c .before .if2 .left)
     (target-is (shapeOf (a .c .shape)) (stateOf (a .c) (a .m .now) .counter (a .q)) (a .sources) (c .target .result) (s .pre .2) (c .target .ensures .0))
 
 pub gather-step-spec : {M : Type 1} → statement M
@@ -57,5 +78,7 @@ gather-step-spec =
     enum-told
     is-busy-requires
     returns-2
+    is-released-for-requires
+    returns-3
     target-requires
-    returns-3)
+    returns-4)

@@ -1,6 +1,7 @@
 use mathlib.Core.Path.{sym, _∙_}
 use Rattle.client.specs.View.{stateOf, view}
-use Rattle.deciding.specs.Steps.{Reads, request-none, request-held, request-free}
+use Rattle.reading.specs.Slots.{Reads}
+use Rattle.deciding.specs.Steps.{request-none, request-held, request-free}
 use Rattle.deciding.proofs.request_step.Statement.{statement}
 use Rattle.deciding.proofs.request_step.Tie as tie
 

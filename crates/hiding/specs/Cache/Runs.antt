@@ -3,14 +3,16 @@ use mathlib.Core.Path.{_≡_, refl, ap, sym, _∙_}
 use mathlib.Core.Bool.{Bool, true, false, true≢false}
 use mathlib.Core.List.{List, [], _∷_}
 use mathlib.Core.Option.{Option, none, some}
-use Prim.Native.Nat.{ℕ, _≤_, _<_}
+use Prim.Native.Nat.{ℕ, suc, _≤_, _<_}
 use native.Mathlib.Omega.{arith}
-use lib.ListN.{length-append}
+use lib.ListN.{length, length-append}
 use lib.Dec.{eqb}
 use borrow.Author.Tests.{eqb-true, eqb-false, le-leb}
 use Rattle.lists.specs.Tests
 use Rattle.rules.specs.Draws.{Drawn, draws}
+use Rattle.rules.specs.Completion.{complete}
 use Rattle.rules.specs.Laws.Kept.{released-waits}
+use Rattle.rules.specs.Laws.Shapes.{unawaited}
 use Rattle.rules.specs.Laws.Waiting.{Waits, pass-waits, waits-le, others-room, leave-waits}
 use Rattle.rules.specs.Questions.{Ask, opening, request, turn, completion, collect, Call, bounds, questions, number}
 use Rattle.rules.specs.Open
@@ -42,7 +44,7 @@ module _ (e n : ℕ) (s : State) (f : Fits e n s) where
   unfolding doStep Turn.markRead Turn.send Rebuild.doRebuild
   doStep-fits idle js = f
   doStep-fits noDummy js = f
-  doStep-fits (readForRequest q ℓ i) js = record { room = f .room; waits = pass-waits e ℓ (s .waiting) (s .request) (f .waits) }
+  doStep-fits (readForRequest q ℓ i) js = record { room = f .room; waits = pass-waits e ℓ (suc (length (s .outstanding))) (s .waiting) (s .request) (f .waits) }
   doStep-fits (readForJob q ℓ i) js = record { room = f .room; waits = f .waits }
   doStep-fits (rebuild q t) js = record { room = f .room; waits = leave-waits e (s .waiting) (Rebuild.chosen s q) (s .request) (f .waits) }
   doStep-fits (writeNext q t i) js = record { room = f .room; waits = f .waits }
@@ -51,6 +53,15 @@ module _ (e n : ℕ) (s : State) (f : Fits e n s) where
   unfolding Collect.collected Collect.finish
   collected-fits none q = f
   collected-fits (some r) q = record { room = f .room; waits = rw length-append (omega (arith, rw q at (f .waits))) }
+
+  -- what a request awaits plays no part
+  less : (xs : List ℕ) (o : Option Request) → Waits e xs o → Waits e xs (unawaited o)
+  less xs none h = h
+  less xs (some r) h = h
+
+  more : (xs : List ℕ) (o : Option Request) → Waits e xs (unawaited o) → Waits e xs o
+  more xs none h = h
+  more xs (some r) h = h
 
   perform-fits : (a : Ask) (m : ℕ) (ws : List ℕ) (k : ℕ) (js : List ℕ) → opens a ≡ false → Passed (questions (withE e s) a m ws k) → Fits e n (Run.perform s a js)
   unfolding Run.perform questions opens Request.accept
@@ -64,7 +75,7 @@ module _ (e n : ℕ) (s : State) (f : Fits e n s) where
       let q = complete-rest s c bs in
       record {
         room = rw (ap (λ (x : Rest). x .shape) q) (f .room);
-        waits = rw (ap (λ (x : Rest). x .request) q, ap (λ (x : Rest). x .waiting) q) (f .waits);
+        waits = more (complete c bs s .waiting) (complete c bs s .request) (rw (ap (λ (x : Rest). x .request) q, ap (λ (x : Rest). x .waiting) q) (less (s .waiting) (s .request) (f .waits)));
       }
   perform-fits collect m ws k js o p = collected-fits (s .request) refl
 

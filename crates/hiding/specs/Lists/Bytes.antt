@@ -4,7 +4,7 @@ use mathlib.Core.Path.{_≡_, refl, ap, ap₂, sym, _∙_}
 use mathlib.Core.Bool.{Bool, true, false, not, _&&_, true≢false}
 use mathlib.Core.List.{List, [], _∷_, map, _++_}
 use mathlib.Core.Option.{Option, none, some, Option·map}
-use Prim.Native.Nat.{ℕ}
+use Prim.Native.Nat.{ℕ, suc}
 use lib.ListN.{length, replicate, length-replicate}
 use lib.Dec.{eqb}
 use Rattle.lists.specs.Search.{isNone}
@@ -25,6 +25,7 @@ use Rattle.rules.specs.Laws.Answers.{opens}
 use Rattle.rules.specs.Turn
 use Rattle.rules.specs.Turn.{Step, idle, noDummy, readForRequest, readForJob, rebuild, writeNext, decide, doStep}
 use Rattle.rules.specs.Blocks
+use Rattle.rules.specs.Rebuild
 use Rattle.rules.specs.Request
 use Rattle.hiding.specs.Claim
 use Rattle.hiding.specs.Claim.{Outline, anOpen, aRequest, aTurn, aCompletion, aCollect, outline, isTurn, used, usedBy, tapeOf, told, Twin, Twins}
@@ -48,7 +49,7 @@ open-ask h collect e = absurd (true≢false (sym (ap (λ o. opens (zeroed o)) e)
 
 -- a state without the bytes it keeps: of a request's contents the length stays
 abbrev pub zeroBytes : Request → Request
-zeroBytes r = record { kind = r .kind; block = r .block; bytes = replicate (length (r .bytes)) 0; next = r .next; evict = r .evict; level = r .level; found = r .found }
+zeroBytes r = record { kind = r .kind; block = r .block; bytes = replicate (length (r .bytes)) 0; next = r .next; evict = r .evict; level = r .level; found = r .found; awaits = r .awaits }
 
 abbrev pub bareRequest : Option Request → Option Request
 bareRequest none = none
@@ -78,10 +79,19 @@ module _ (s : State) where
   requestStep-bare none = refl
   requestStep-bare (some r) = refl
 
+  releasedFor-bare : (q : ℕ) (o : Option Request) → Request.releasedFor (s .partition) (bareRequest o) q ≡ Request.releasedFor (s .partition) o q
+  unfolding Request.releasedFor Request.held
+  releasedFor-bare q none = refl
+  releasedFor-bare q (some r) = refl
+
+  rebuildStep-bare : (q : ℕ) → Turn.rebuildStep (bare s) q ≡ Turn.rebuildStep s q
+  unfolding Turn.rebuildStep
+  rebuildStep-bare q = rw (releasedFor-bare q (s .request))
+
   jobStep-bare : (l : List ℕ) → Turn.jobStep (bare s) l ≡ Turn.jobStep s l
-  unfolding model
+  unfolding Turn.jobStep
   jobStep-bare [] = refl
-  jobStep-bare (q ∷ l) = refl
+  jobStep-bare (q ∷ l) = rw (rebuildStep-bare q) (unfold Rebuild.unread Blocks.isUnread Turn.writeStep in refl)
 
   pub decide-bare : decide (bare s) ≡ decide s
   unfolding decide
@@ -160,10 +170,10 @@ module _ (s : State) where
 
   -- ---- what it does
 
-  passLevel-bare : (ℓ : ℕ) (o : Option Request) → bareRequest (Request.passLevel ℓ (bareRequest o)) ≡ bareRequest (Request.passLevel ℓ o)
+  passLevel-bare : (ℓ n : ℕ) (o : Option Request) → bareRequest (Request.passLevel ℓ n (bareRequest o)) ≡ bareRequest (Request.passLevel ℓ n o)
   unfolding Request.passLevel
-  passLevel-bare ℓ none = refl
-  passLevel-bare ℓ (some r) = rw (length-zeros (r .bytes))
+  passLevel-bare ℓ n none = refl
+  passLevel-bare ℓ n (some r) = rw (length-zeros (r .bytes))
 
   same-bare : (o : Option Request) → bareRequest (bareRequest o) ≡ bareRequest o
   same-bare none = refl
@@ -173,7 +183,7 @@ module _ (s : State) where
   unfolding model
   doStep-bare idle js = rw (same-bare (s .request))
   doStep-bare noDummy js = rw (same-bare (s .request))
-  doStep-bare (readForRequest q ℓ i) js = rw (passLevel-bare ℓ (s .request))
+  doStep-bare (readForRequest q ℓ i) js = rw (passLevel-bare ℓ (suc (length (s .outstanding))) (s .request))
   doStep-bare (readForJob q ℓ i) js = rw (same-bare (s .request))
   doStep-bare (rebuild q t) js = rw (same-bare (s .request))
   doStep-bare (writeNext q t i) js = rw (same-bare (s .request))
@@ -197,14 +207,24 @@ module _ (s : State) where
   collected-bare none = rw (same-bare (s .request))
   collected-bare (some r) = refl
 
+  awaits-bare : (c : Command) (o : Option Request) → Option·map (Completion.awaitsLess c (s .outstanding)) (bareRequest o) ≡ bareRequest (Option·map (Completion.awaitsLess c (s .outstanding)) o)
+  awaits-bare c none = refl
+  awaits-bare c (some r) = refl
+
+  completed-bare : (c : Command) → Completion.completed c (bare s) ≡ bare (Completion.completed c s)
+  unfolding Completion.completed
+  completed-bare c = ap (λ (o : Option Request). bare (Completion.completed c s) ▷ setRequest o) (awaits-bare c (s .request))
+
 module _ (s : State) where
   complete-bare : (c : Command) (bs cs : List ℕ) → bare (Completion.complete c bs (bare s)) ≡ bare (Completion.complete c cs s)
-  unfolding Completion.complete Completion.completeRead Completion.completeWrite Completion.completed Blocks.holder
+  unfolding Completion.complete Completion.completeRead Completion.completeWrite Blocks.holder
   complete-bare c bs cs = go (eqb (c .kind) 1)
     where
       go : (t : Bool) → bare (if t then Completion.completeRead c bs (bare s) else Completion.completeWrite c (bare s)) ≡ bare (if t then Completion.completeRead c cs s else Completion.completeWrite c s)
-      go true = gatherBytes-bare (Completion.completed c s) (Blocks.holder s (c .partition) (c .level) (c .slot)) bs cs
-      go false = finishJob-bare (Completion.completed c s) (s .queue)
+      go true =
+          let o = Blocks.holder s (c .partition) (c .level) (c .slot) in
+          ap (λ x. bare (Completion.gatherBytes o bs x)) (completed-bare s c) ∙ gatherBytes-bare (Completion.completed c s) o bs cs
+      go false = ap (λ x. bare (Completion.finishJob (s .queue) x)) (completed-bare s c) ∙ finishJob-bare (Completion.completed c s) (s .queue)
 
   perform-bare : (a : Ask) (js : List ℕ) → bare (Run.perform (bare s) (bareAsk a) js) ≡ bare (Run.perform s a js)
   unfolding Run.perform
@@ -223,7 +243,7 @@ release-bare s = go (s .request)
     go none = refl
     go (some r) = one (Request.held r && not (Request.blocked s r))
       where
-        one : (t : Bool) → bare (setRequest (some (if t then Request.withFound (Blocks.lookUp s (r .block)) (zeroBytes r) else zeroBytes r)) (bare s)) ≡ bare (setRequest (some (if t then Request.withFound (Blocks.lookUp s (r .block)) r else r)) s)
+        one : (t : Bool) → bare (setRequest (some (if t then Request.withFound (Blocks.lookUp s (r .block)) (length (s .outstanding)) (zeroBytes r) else zeroBytes r)) (bare s)) ≡ bare (setRequest (some (if t then Request.withFound (Blocks.lookUp s (r .block)) (length (s .outstanding)) r else r)) s)
         one true = rw (length-zeros (r .bytes))
         one false = rw (length-zeros (r .bytes))
 

@@ -9,7 +9,7 @@ use Rattle.lists.specs.Tables.{putAll}
 use Rattle.rules.specs.Completion.{complete}
 use Rattle.rules.specs.Open.{fresh}
 use Rattle.rules.specs.Request.{release}
-use Rattle.rules.specs.Setters.{_▷_, setPartition, setPlace, setWaiting, setMark, setQueue, setSent, setRequest}
+use Rattle.rules.specs.Setters.{_▷_, setPartition, setPlace, setWaiting, setMark, setQueue, setBegun, setSent, setRequest}
 use Rattle.rules.specs.Turn.{Step, idle, noDummy, readForRequest, readForJob, rebuild, writeNext, command, send, doStep}
 use Rattle.rules.specs.State.{Command, cmd, write, Place, Request, State}
 use Rattle.rules.specs.Draws.{Drew}
@@ -77,6 +77,7 @@ rebuildP q t place waiting s =
     s ▷ setPlace place
     ▷ setWaiting waiting
     ▷ setMark (putAll (cell (s .shape) q t 0) (replicate (slots t) 1) (s .mark))
+    ▷ setBegun 1
     ▷ setSent 1
     ▷ send (cmd write q t 0)
 
@@ -96,7 +97,7 @@ collectedI (some r) i =
     ▷ setRequest none
 
 abbrev pub performI : State → Later → List ℕ → State
-performI i (later-request k b bs) e = i ▷ setPartition (λ b. getD e 0 0) ▷ setRequest (some (publicRequest (getD e 1 0) 0 none))
+performI i (later-request k b bs) e = i ▷ setPartition (λ b. getD e 0 0) ▷ setRequest (some (publicRequest (getD e 1 0) 0 none 0))
 performI i later-turn e = nextStepI i (decideP i) e
 performI i (later-completion c bs) e = complete c bs i
 performI i later-collect e = collectedI (i .request) i

@@ -1,6 +1,6 @@
 -- The machine in the middle: it knows which block is where, by level and by rank among the unread items, and no slot before it is shown.
 use mathlib.Core.List.{List, [], _∷_, _++_, map}
-use mathlib.Core.Bool.{_&&_, _||_}
+use mathlib.Core.Bool.{Bool, _&&_, _||_}
 use mathlib.Core.Option.{Option, none, some}
 use Prim.Native.Nat.{ℕ, zero, suc, _-_, _^_}
 use lib.ListN.{length, getD, replicate}
@@ -13,7 +13,7 @@ use Rattle.lists.specs.Search.{find, keep, below, member}
 use Rattle.rules.specs.Turn.{Step, idle, noDummy, readForRequest, readForJob, rebuild, writeNext, doStep}
 use Rattle.rules.specs.Levels.{sources}
 use Rattle.rules.specs.Setters.{_▷_, setPartition, setPlace, setWaiting, setQueue, setRequest, setBytes, setOrder, setHolds}
-use Rattle.rules.specs.Request.{accept, release}
+use Rattle.rules.specs.Request.{accept, release, isSource}
 use Rattle.rules.specs.Rebuild.{isChosen, leave, newPlace}
 use Rattle.rules.specs.Ranges.{others}
 use Rattle.rules.specs.Shape.{Shape, slots}
@@ -48,17 +48,16 @@ Items = Key → List ℕ
 unfoldable pub newItems : ℕ → List ℕ → List ℕ
 newItems n blocks = map (λ k. getD (map suc blocks) k 0) (below n)
 
--- the item that the request wants of these: its block, or a dummy
-unfoldable pub wanted : Option Request → List ℕ → ℕ
-wanted none its = 0
-wanted (some r) its = if member (suc (r .block)) its then suc (r .block) else 0
+-- the rank of the item that the request wants of these: its block's; else of a source's the lowest item's, and of another level's the lowest dummy's
+unfoldable pub wanted : Bool → Option Request → List ℕ → ℕ
+wanted source none its = 0
+wanted source (some r) its = if member (suc (r .block)) its then index (suc (r .block)) its else (if source then 0 else index 0 its)
 
 unfoldable pub clamp : ℕ → ℕ → ℕ
 clamp n k = if ltb k n then k else 0
 
--- its rank
 abbrev pub rank : State → List ℕ → Key → ℕ
-rank s its k = clamp (length (unreadIn (s .shape) (s .mark) k)) (index (wanted (s .request) its) its)
+rank s its k = clamp (length (unreadIn (s .shape) (s .mark) k)) (wanted (isSource s (k .0) (k .1)) (s .request) its)
 
 -- ---- What a rebuild of q gathers, by the places: this machine has no slots to read. In a state that calls left it is what the rules gather
 

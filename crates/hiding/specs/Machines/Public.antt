@@ -58,7 +58,7 @@ abbrev pub publicEntry : Shape → Entry → Entry
 publicEntry h (first m w) = first m w
 publicEntry h (later l m w n) = later (publicLater h l) m w n
 
--- ---- The public part of a state: of the request in hand, its partition p, the eviction partition, the level, and whether it is held
+-- ---- The public part of a state: of the request in hand, its partition p, the eviction partition, the level, whether it is held, and what it awaits
 
 abbrev pub present : (ℕ → ℕ) → Option Request → ℕ
 present f none = 0
@@ -69,12 +69,12 @@ abbrev pub publicFound : Option Found → Option Found
 publicFound none = none
 publicFound (some x) = some foundNowhere
 
-abbrev pub publicRequest : ℕ → ℕ → Option Found → Request
-publicRequest evict level found = record { kind = read; block = 0; bytes = []; next = 0; evict = evict; level = level; found = publicFound found }
+abbrev pub publicRequest : ℕ → ℕ → Option Found → ℕ → Request
+publicRequest evict level found awaits = record { kind = read; block = 0; bytes = []; next = 0; evict = evict; level = level; found = publicFound found; awaits = awaits }
 
 abbrev pub blank : Option Request → Option Request
 blank none = none
-blank (some r) = some (publicRequest (r .evict) (r .level) (r .found))
+blank (some r) = some (publicRequest (r .evict) (r .level) (r .found) (r .awaits))
 
 abbrev pub hide : State → State
 hide s =
@@ -98,7 +98,7 @@ unreadIn h mark = openIn h mark (λ k. below (slots (k .1)))
 
 unfoldable pub requestStepP : State → Option Request → Option Step
 requestStepP s none = none
-requestStepP s (some r) = if held r then none else firstRead (s .partition (r .block)) nowhere (λ ℓ. some 0) (levelsLeft s r)
+requestStepP s (some r) = if held r then none else firstRead (s .partition (r .block)) (λ ℓ. some 0) (levelsLeft s r)
 
 unfoldable pub plannedP : State → Step
 plannedP s = Option·getD (requestStepP s (s .request)) (jobStep s (s .queue))

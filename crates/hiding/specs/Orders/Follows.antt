@@ -12,7 +12,7 @@ use Rattle.lists.specs.Tests.{if_then_else_}
 use Rattle.lists.specs.Search.{below, indexOf}
 use Rattle.lists.specs.Distinct.{index-mem}
 use Rattle.rules.specs.Laws.Answers.{accepted-passed}
-use Rattle.rules.specs.Request.{accept, release}
+use Rattle.rules.specs.Request.{accept, release, isSource}
 use Rattle.rules.specs.Questions.{bounds, questions, inHand}
 use Rattle.rules.specs.Completion
 use Rattle.rules.specs.Completion.{complete}
@@ -126,7 +126,7 @@ module _ (h : Shape) (reach : Reachable h) (s : State) (k : reach .Holds s) (hid
 
   -- a request's read
   request-follows : (q ℓ x : ℕ) (p : OpenP (s .shape) (s .mark) (readForRequest q ℓ 0)) → decide s ≡ readForRequest q ℓ x → StepFollows (readForRequest q ℓ x) p
-  unfolding doStep Turn.markRead Turn.send
+  unfolding doStep Turn.markRead Turn.send isSource
   request-follows q ℓ x p e =
       let r = rank-is h reach s k hid q ℓ x e in
       let m = in-order h reach s k hid q ℓ x e in

@@ -9,7 +9,7 @@ use lib.Dec.{eqb, leb, ltb}
 use borrow.Author.Tests.{leb-true, ltb-true, lt-ltb}
 use Rattle.lists.specs.Members.{mem-member}
 use Rattle.lists.specs.All.{nil, cons}
-use Rattle.lists.specs.Search.{isNone, any, orElse, member}
+use Rattle.lists.specs.Search.{isNone, any, member}
 use Rattle.lists.specs.Tests.{if_then_else_, between, and-l, and-r, every-yes}
 use Rattle.lists.specs.Distinct.{Mem}
 use Rattle.rules.specs.Memory.{needed}
@@ -17,10 +17,10 @@ use Rattle.rules.specs.Laws.Kept.{kind-read}
 use Rattle.rules.specs.Blocks
 use Rattle.rules.specs.Levels
 use Rattle.rules.specs.Laws.Range.{range-facts}
-use Rattle.rules.specs.Request.{held, levelsLeft, slotIn, dummy}
+use Rattle.rules.specs.Request.{held, isSource, costs, levelsLeft, slotRead, releasedFor}
 use Rattle.rules.specs.Shape.{Shape, within}
 use Rattle.rules.specs.Rebuild
-use Rattle.rules.specs.State.{State, Request, nowhere, read}
+use Rattle.rules.specs.State.{State, Request, read}
 use Rattle.rules.specs.Collect.{finished}
 use Rattle.rules.specs.Turn
 use Rattle.rules.specs.Turn.{Step, idle, noDummy, readForRequest, readForJob, rebuild, writeNext, firstRead, readStep, requestStep, jobStep, decide, command, stepBounds}
@@ -44,16 +44,21 @@ slotless (readForJob q ℓ x) = readForJob q ℓ x
 slotless (rebuild q t) = rebuild q t
 slotless (writeNext q t x) = writeNext q t x
 
+looks-hide : (s : State) (q : ℕ) (o : Option Request) → s .request ≡ o → releasedFor ((hide s) .partition) (blank o) q ≡ releasedFor (s .partition) o q
+unfolding releasedFor
+looks-hide s q none e = refl
+looks-hide s q (some r) e = rw (held-public r) (rw e)
+
 jobStep-hide : (s : State) (qs : List ℕ) → jobStep (hide s) qs ≡ jobStep s qs
 unfolding jobStep Rebuild.unread Turn.rebuildStep Turn.writeStep Blocks.isUnread
 jobStep-hide s [] = refl
-jobStep-hide s (q ∷ qs) = refl
+jobStep-hide s (q ∷ qs) = rw (looks-hide s q (s .request) refl)
 
 -- a job's step has no slot to lose
 job-slotless : (s : State) (qs : List ℕ) → slotless (jobStep s qs) ≡ jobStep s qs
 unfolding jobStep Turn.gatherStep Turn.rebuildStep Turn.writeStep
 job-slotless s [] = refl
-job-slotless s (q ∷ qs) = go (eqb (s .sent) 0) (Rebuild.unread s q) (any (λ c. eqb (c .partition) q) (s .outstanding)) (ltb (s .sent) _)
+job-slotless s (q ∷ qs) = go (eqb (s .sent) 0) (Rebuild.unread s q) (any (λ c. eqb (c .partition) q) (s .outstanding) || releasedFor (s .partition) (s .request) q) (ltb (s .sent) _)
   where
     go : (t : Bool) (o : Option (ℕ × ℕ)) (a b : Bool) →
         let x = if t then Turn.gatherStep q o (if a then idle else rebuild q (Levels.target (s .shape) (s .counter q))) else (if b then writeNext q (Levels.target (s .shape) (s .counter q)) (s .sent) else idle) in
@@ -64,11 +69,15 @@ job-slotless s (q ∷ qs) = go (eqb (s .sent) 0) (Rebuild.unread s q) (any (λ c
     go false o a true = refl
     go false o a false = refl
 
-left-hide : (s : State) (r : Request) → s .request ≡ some r → levelsLeft (hide s) (publicRequest (r .evict) (r .level) (r .found)) ≡ levelsLeft s r
-unfolding levelsLeft
-left-hide s r e = rw e
+costs-hide : (s : State) (r : Request) → s .request ≡ some r → costs (hide s) ((hide s) .partition 0) ≡ costs s (s .partition (r .block))
+unfolding costs isSource Blocks.isUnread
+costs-hide s r e = rw e
 
-pub finished-hide : (s : State) (r : Request) → s .request ≡ some r → finished (hide s) (publicRequest (r .evict) (r .level) (r .found)) ≡ finished s r
+left-hide : (s : State) (r : Request) → s .request ≡ some r → levelsLeft (hide s) (publicRequest (r .evict) (r .level) (r .found) (r .awaits)) ≡ levelsLeft s r
+unfolding levelsLeft
+left-hide s r e = rw (costs-hide s r e)
+
+pub finished-hide : (s : State) (r : Request) → s .request ≡ some r → finished (hide s) (publicRequest (r .evict) (r .level) (r .found) (r .awaits)) ≡ finished s r
 unfolding finished
 finished-hide s r e = rw (held-public r, left-hide s r e) (rw e)
 
@@ -76,7 +85,7 @@ module _ (s : State) where
   -- the step of a state that lacks no dummy
   decide-some : (o : Option Request) → s .request ≡ o → possible s (Option·getD (requestStep s o) (jobStep s (s .queue))) ≡ true →
       slotless (Option·getD (requestStep s o) (jobStep s (s .queue))) ≡ Option·getD (requestStepP (hide s) (blank o)) (jobStep (hide s) (s .queue))
-  unfolding requestStep requestStepP firstRead readStep possible slotIn orElse
+  unfolding requestStep requestStepP firstRead readStep possible
   decide-some none e p = job-slotless s (s .queue) ∙ sym (jobStep-hide s (s .queue))
   decide-some (some r) e p =
       rw (held-public r, left-hide s r e) (go (held r) (levelsLeft s r) p)
@@ -88,12 +97,12 @@ module _ (s : State) where
       at-level ℓ none p = absurd (true≢false (sym p))
       at-level ℓ (some i) p = rw e
 
-      go : (t : Bool) (ls : List ℕ) → possible s (Option·getD (if t then none else firstRead q (s .place (r .block)) (dummy s q) ls) (jobStep s (s .queue))) ≡ true →
-          slotless (Option·getD (if t then none else firstRead q (s .place (r .block)) (dummy s q) ls) (jobStep s (s .queue)))
-          ≡ Option·getD (if t then none else firstRead ((hide s) .partition 0) nowhere (λ ℓ. some 0) ls) (jobStep (hide s) (s .queue))
+      go : (t : Bool) (ls : List ℕ) → possible s (Option·getD (if t then none else firstRead q (slotRead s q (s .place (r .block))) ls) (jobStep s (s .queue))) ≡ true →
+          slotless (Option·getD (if t then none else firstRead q (slotRead s q (s .place (r .block))) ls) (jobStep s (s .queue)))
+          ≡ Option·getD (if t then none else firstRead ((hide s) .partition 0) (λ ℓ. some 0) ls) (jobStep (hide s) (s .queue))
       go true ls p = job-slotless s (s .queue) ∙ sym (jobStep-hide s (s .queue))
       go false [] p = job-slotless s (s .queue) ∙ sym (jobStep-hide s (s .queue))
-      go false (ℓ ∷ ls) p = at-level ℓ (orElse (slotIn ℓ (s .place (r .block))) (dummy s q ℓ)) p
+      go false (ℓ ∷ ls) p = at-level ℓ (slotRead s q (s .place (r .block)) ℓ) p
 
   decide-hide : possible s (decide s) ≡ true → slotless (decide s) ≡ plannedP (hide s)
   unfolding decide plannedP

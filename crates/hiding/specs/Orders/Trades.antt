@@ -12,13 +12,13 @@ use lib.Pow.{pow-pos}
 use borrow.Author.Tests.{ltb-true}
 use Rattle.lists.specs.Members.{member-mem}
 use Rattle.lists.specs.Tables.{put, putAll}
-use Rattle.lists.specs.Distinct.{Mem, index}
+use Rattle.lists.specs.Distinct.{Mem}
 use Rattle.lists.specs.Tests.{if_then_else_, and-l, and-r}
 use Rattle.lists.specs.Search.{below, member}
 use Rattle.rules.specs.Turn
 use Rattle.rules.specs.Turn.{Step, idle, noDummy, readForRequest, readForJob, rebuild, writeNext, stepBounds, doStep}
 use Rattle.rules.specs.Draws.{orderBounds, Drew}
-use Rattle.rules.specs.Request.{accept}
+use Rattle.rules.specs.Request.{accept, isSource}
 use Rattle.rules.specs.Rebuild.{newPlace, leave}
 use Rattle.rules.specs.Shape.{Shape, slots, cell}
 use Rattle.rules.specs.State.{State, Command, Place, Request}
@@ -185,7 +185,7 @@ module _ (s : State) where
 
 -- the rank of the request's item
 abbrev pub wantedRank : State → Items → ℕ → ℕ → ℕ
-wantedRank s it q ℓ = index (wanted (s .request) (it (q, ℓ))) (it (q, ℓ))
+wantedRank s it q ℓ = wanted (isSource s q ℓ) (s .request) (it (q, ℓ))
 
 -- every step but a rebuild draws nothing
 abbrev pub Quiet : Step → Type 0

@@ -3,7 +3,7 @@ use mathlib.Core.Path.{_≡_, refl, ap, sym, _∙_, subst}
 use mathlib.Core.Bool.{Bool, true, false, true≢false}
 use mathlib.Core.Logic.{_↔_, Iff·rfl}
 use mathlib.Core.List.{List, [], _∷_}
-use mathlib.Core.Option.{Option, none, some}
+use mathlib.Core.Option.{Option, none, some, Option·map}
 use Prim.Native.Nat.{ℕ, zero, suc, _<_}
 use native.Mathlib.Omega.{arith}
 use lib.ListN.{length, replicate}
@@ -13,7 +13,7 @@ use Rattle.lists.specs.Search.{isNone}
 use Rattle.lists.specs.Tests.{if_then_else_}
 use Rattle.lists.specs.Tables.{put}
 use Rattle.rules.specs.Blocks
-use Rattle.rules.specs.Request.{passLevel, accept, release}
+use Rattle.rules.specs.Request.{passLevel, isSource, accept, release}
 use Rattle.rules.specs.Draws.{Drew}
 use Rattle.rules.specs.Laws.Released.{released-same}
 use Rattle.rules.specs.Shape.{Shape}
@@ -32,7 +32,7 @@ use Rattle.matching.specs.TwoLists.{Stage}
 use Rattle.hiding.specs.Orders.Number.{formed-facts}
 use Rattle.hiding.specs.Machines.Middle.{Mid, unopened, shut, on, nextStepM, collectedM, nextM, boundsOpen, openM, mid, mid-legal, mid-next, mid-seen}
 use Rattle.hiding.specs.Positions.Trades.{PlacedIn, askP, tradeP, next-shape, fresh-placed}
-use Rattle.hiding.specs.Machines.Release.{hide-release}
+use Rattle.hiding.specs.Machines.Release.{hide-release, hide-completed}
 use Rattle.hiding.specs.Machines.Ideal
 use Rattle.hiding.specs.Machines.Ideal.{lacking, nothingSent, seenIf, Seen, legalIf, rebuildP, nextStepI, collectedI, performI, nextI, Ideal, openI, ideal, ideal-legal, ideal-next, ideal-seen}
 use Rattle.hiding.specs.Machines.Public.{Later, later-request, later-turn, later-completion, later-collect, Entry, first, later, formed, publicAsk, publicLater, publicEntry, present, blank, hide, decideP, boundsP, questionsP, numberP, numberOpen}
@@ -47,20 +47,24 @@ positionsOf f (some r) = put (r .block) (r .next) f
 abbrev pub positions : State → Positions
 positions s = positionsOf (s .partition) (s .request)
 
-pass-blank : (ℓ : ℕ) (o : Option Request) → passLevel ℓ (blank o) ≡ blank (passLevel ℓ o)
+pass-blank : (ℓ n : ℕ) (o : Option Request) → passLevel ℓ n (blank o) ≡ blank (passLevel ℓ n o)
 unfolding passLevel
-pass-blank ℓ none = refl
-pass-blank ℓ (some r) = refl
+pass-blank ℓ n none = refl
+pass-blank ℓ n (some r) = refl
 
-pass-present : (f : ℕ → ℕ) (ℓ : ℕ) (o : Option Request) → present f (passLevel ℓ o) ≡ present f o
+pass-present : (f : ℕ → ℕ) (ℓ n : ℕ) (o : Option Request) → present f (passLevel ℓ n o) ≡ present f o
 unfolding passLevel
-pass-present f ℓ none = refl
-pass-present f ℓ (some r) = refl
+pass-present f ℓ n none = refl
+pass-present f ℓ n (some r) = refl
 
-pass-positions : (f : ℕ → ℕ) (ℓ : ℕ) (o : Option Request) → positionsOf f (passLevel ℓ o) ≡ positionsOf f o
+pass-positions : (f : ℕ → ℕ) (ℓ n : ℕ) (o : Option Request) → positionsOf f (passLevel ℓ n o) ≡ positionsOf f o
 unfolding passLevel
-pass-positions f ℓ none = refl
-pass-positions f ℓ (some r) = refl
+pass-positions f ℓ n none = refl
+pass-positions f ℓ n (some r) = refl
+
+less-positions : (f : ℕ → ℕ) (c : Command) (os : List Command) (o : Option Request) → positionsOf f (Option·map (Completion.awaitsLess c os) o) ≡ positionsOf f o
+less-positions f c os none = refl
+less-positions f c os (some r) = refl
 
 blank-none : (o : Option Request) → isNone (blank o) ≡ true → o ≡ none
 unfolding isNone
@@ -73,29 +77,32 @@ module _ (s : State) where
   Leads i′ s′ = (i′ ≡ hide s′) × (positions s ≡ positions s′)
 
   step-leads : (x : Step) (e : List ℕ) → Leads (nextStepI (hide s) x e) (nextStepM s x e)
-  unfolding doStep Turn.markRead Turn.send rebuildP
+  unfolding doStep Turn.markRead Turn.send rebuildP isSource
   step-leads idle e = (refl, refl)
   step-leads noDummy e = (refl, refl)
-  step-leads (readForRequest q ℓ x) e = (rw (pass-blank ℓ (s .request), pass-present (s .partition) ℓ (s .request)), sym (pass-positions (s .partition) ℓ (s .request)))
+  step-leads (readForRequest q ℓ x) e = (rw (pass-blank ℓ (suc (length (s .outstanding))) (s .request), pass-present (s .partition) ℓ (suc (length (s .outstanding))) (s .request)), sym (pass-positions (s .partition) ℓ (suc (length (s .outstanding))) (s .request)))
   step-leads (readForJob q ℓ x) e = (refl, refl)
   step-leads (rebuild q t) e = (refl, refl)
   step-leads (writeNext q t x) e = (refl, refl)
 
   complete-leads : (c : Command) (bs bs′ : List ℕ) → Leads (complete c bs′ (hide s)) (complete c bs s)
-  unfolding complete Completion.completeRead Completion.completeWrite Completion.completed Completion.gatherBytes Completion.finishJob Completion.endJob Completion.jobDone Blocks.holder Blocks.named
-  complete-leads c bs bs′ = go (eqb (c .kind) 1) (Blocks.holder s (c .partition) (c .level) (c .slot)) (s .queue)
+  unfolding complete Completion.completeRead Completion.completeWrite Completion.gatherBytes Completion.finishJob Completion.endJob Completion.jobDone Blocks.holder Blocks.named
+  complete-leads c bs bs′ = rw (← hide-completed c s) (go (eqb (c .kind) 1) (Blocks.holder s (c .partition) (c .level) (c .slot)) (s .queue))
     where
       s′ : State
       s′ = Completion.completed c s
 
+      same : positions s ≡ positions s′
+      same = unfold Completion.completed in (sym (less-positions (s .partition) c (s .outstanding) (s .request)))
+
       ended : (q : ℕ) (qs : List ℕ) (t : Bool) → Leads (if t then Completion.endJob q qs (hide s′) else hide s′) (if t then Completion.endJob q qs s′ else s′)
-      ended q qs true = (refl, refl)
-      ended q qs false = (refl, refl)
+      ended q qs true = (refl, same)
+      ended q qs false = (refl, same)
 
       go : (t : Bool) (b : Option ℕ) (qs : List ℕ) → Leads (if t then hide s′ else Completion.finishJob qs (hide s′)) (if t then Completion.gatherBytes b bs s′ else Completion.finishJob qs s′)
-      go true none qs = (refl, refl)
-      go true (some b) qs = (refl, refl)
-      go false b [] = (refl, refl)
+      go true none qs = (refl, same)
+      go true (some b) qs = (refl, same)
+      go false b [] = (refl, same)
       go false b (q ∷ qs) = ended q qs (Completion.jobDone s′ q)
 
   collect-leads : (o : Option Request) → s .request ≡ o → Leads (collectedI (blank o) (hide s)) (collectedM o s)
@@ -121,7 +128,7 @@ module _ (s : State) where
 
 -- a request is released alike
 released : (i′ s′ : State) (pos : Positions) → (i′ ≡ hide s′) × (pos ≡ positions s′) → (release i′ ≡ hide (release s′)) × (pos ≡ positions (release s′))
-released i′ s′ pos k = (ap release (k .0) ∙ sym (hide-release s′), k .1 ∙ sym (released-same (positionsOf (s′ .partition)) (λ r x. refl) s′ (s′ .request)))
+released i′ s′ pos k = (ap release (k .0) ∙ sym (hide-release s′), k .1 ∙ sym (released-same (positionsOf (s′ .partition)) (λ r x n. refl) s′ (s′ .request)))
 
 -- ---- the stage
 

@@ -1,7 +1,7 @@
 -- A request that is accepted keeps the invariant.
 use mathlib.Core.Path.{_≡_, ap, sym, _∙_}
 use mathlib.Core.Logic.{_⊎_, inl, inr, ⊎-elim}
-use mathlib.Core.Bool.{true, false, true≢false}
+use mathlib.Core.Bool.{true≢false}
 use mathlib.Core.List.{List}
 use mathlib.Core.Option.{none, some}
 use Prim.Native.Nat.{ℕ, _≤_, _-_}
@@ -31,10 +31,13 @@ accept-kept s f e k b bs js range = record {
   reads = λ p m hp hm l. ⊎-elim inl (λ n. inr (omega (arith, more p m))) (f .reads p m hp hm l);
   unheld = λ r w. inl (sym (ap (λ (x : Request). x .level) (first w)));
   released = λ r w k. absurd (true≢false (ap Request.held (first w) ∙ k));
+  unworn = λ r w k. absurd (true≢false (ap Request.held (first w) ∙ k));
+  unawaited = λ r w k. absurd (true≢false (ap Request.held (first w) ∙ k));
   unread = λ x m j hx y. ⊎-elim inl (λ n. ⊎-elim (λ o. absurd (no-request (o .0) (o .1 .0))) (λ n. inr (inr n)) n) (f .unread x m j hx y);
   fetched = λ r m j w p l. absurd (omega (arith, l, ap (λ (x : Request). x .level) (first w)));
   scanned = f .scanned;
   jobless = f .jobless;
+  unbegun = f .unbegun;
   spent = f .spent;
   apart = f .apart;
   commands = all-map (λ c n. ⊎-elim
@@ -43,7 +46,7 @@ accept-kept s f e k b bs js range = record {
 }
   where
     more : (p m : ℕ) → pending s p m ≤ pending (Request.accept k b bs js s) p m
-    more p m = pending-more s (Request.accept k b bs js s) p m inl (λ y. absurd (true≢false (sym y ∙ passed-none (s .partition) (s .request) p m e)))
+    more p m = pending-more s (Request.accept k b bs js s) p m (omega arith) (λ y. absurd (true≢false (sym y ∙ passed-none (s .partition) (s .request) p m e)))
 
     first : {x y : Request} → some x ≡ some y → x ≡ y
     first w = cc

@@ -1,17 +1,18 @@
 -- A collect keeps the invariant.
 use mathlib.Core.Path.{_≡_, refl, ap, sym, _∙_, fun-ext}
 use mathlib.Core.Logic.{_⊎_, inl, inr, ⊎-elim}
-use mathlib.Core.Bool.{true, false, not, true≢false}
+use mathlib.Core.Bool.{Bool, true, false, not, true≢false}
 use mathlib.Core.List.{List, [], _∷_, _++_}
 use mathlib.Core.Option.{some}
 use Prim.Native.Nat.{ℕ, suc, _+_, _%_, _^_, _≤_, _<_, zero, _-_}
 use native.Mathlib.Omega.{arith}
 use native.Mathlib.Decide.{ℕ-discrete}
 use lib.Dec.{eqb}
-use borrow.Author.Tests.{eq-eqb, eqb-false}
+use borrow.Author.Tests.{eq-eqb}
 use Rattle.lists.specs.All.{all-map, all-both, keep-passes}
 use Rattle.lists.specs.Distinct.{Mem}
-use Rattle.lists.specs.Members.{all-mem, keep-mem, nodup-keep, nodup-snoc, nodup-sub, append-mem, member-append, append-right}
+use Rattle.lists.specs.Members.{all-mem, keep-mem, nodup-keep, nodup-snoc, nodup-sub, append-mem}
+use Rattle.lists.specs.Lengths.{bit}
 use Rattle.lists.specs.Tables.{put, put-same, put-other}
 use Rattle.lists.specs.Totals.{total-le}
 use Rattle.rules.specs.Collect
@@ -22,11 +23,12 @@ use Rattle.rules.specs.Ranges.{others}
 use Rattle.rules.specs.Shape.{slots, Shape, cell, offset}
 use Rattle.rules.specs.State.{State, Request, Place, nowhere, stored}
 use Rattle.reachable.specs.Blocks.{not-nowhere, stored-inj, at-why, why-at, in-why, why-in, nodup-at, nodup-in}
-use Rattle.reachable.specs.Consequences.{block-lt, finished-read, finished-quiet}
+use Rattle.reachable.specs.Consequences.{block-lt, finished-read, finished-aside}
 use Rattle.reachable.specs.Invariant.{Reached, Waiting, Items, Agree, storedAt, isIn, Room, Full, taken, Taken, holdsOf, Reads, Unread, Commands}
 use Rattle.reachable.specs.Live
-use Rattle.reachable.specs.Live.{counted, counted-calm, drawn, pending, undrawn, Gathers, isFront}
-use Rattle.reachable.specs.Pending.{Filled, front-more, front-append, pending-more, undrawn-append, passed-why}
+use Rattle.rules.specs.Request.{isFront}
+use Rattle.reachable.specs.Live.{counted, counted-calm, drawn, pending, undrawn, Gathers, times, passedBy}
+use Rattle.reachable.specs.Pending.{Filled, front-more, front-append, times-here, times-append, undrawn-append, passed-why}
 
 module _ (s : State) (f : Reached s) (r : Request) (inHand : s .request ≡ some r) (done : Collect.finished s r ≡ true) where
   abbrev h : Shape
@@ -189,14 +191,23 @@ module _ (s : State) (f : Reached s) (r : Request) (inHand : s .request ≡ some
   taken-kept p ℓ hp hℓ = omega (arith, f .taken p ℓ hp hℓ, total-le (slots ℓ) (λ i. taken (s′ .holds (cell h p ℓ i))) (λ i. taken (s .holds (cell h p ℓ i))) (λ i hi. taken-less (cell h p ℓ i)))
 
   reads-kept : Reads s′
-  unfolding finish
+  unfolding finish bit pending passedBy
   reads-kept p m hp hm e = ⊎-elim (λ g. inl (front-append (s .queue) more p (g .0), g .1, g .2)) (λ k. inr (omega (arith, less, ap (λ c. c p % 2 ^ m) counted-kept))) (f .reads p m hp hm (rw counted-kept at e))
     where
+      jobs : times p (undrawn (s .queue ++ more) (s .sent)) ≡ times p (undrawn (s .queue) (s .sent)) + times p more
+      jobs = ap (times p) (undrawn-append (s .queue) more (s .sent) filled-queue) ∙ times-append p (undrawn (s .queue) (s .sent)) more
+
+      -- the read that the request has sent is now one of a job's
+      one : (t : Bool) → passedBy (s .partition) (s .request) p m ≡ t → bit t ≤ times p more
+      one true k =
+          let w = passed-why (s .partition) (s .request) r p m inHand k in
+          let z : times (s .partition b) more ≡ suc (times (s .partition b) (r .evict ∷ [])) = times-here (s .partition b) (r .evict ∷ []) in
+          let v : times p more ≡ times (s .partition b) more = ap (λ x. times x more) (sym (w .0)) in
+          omega (arith, z, v)
+      one false k = omega arith
+
       less : pending s p m ≤ pending s′ p m
-      less = pending-more s s′ p m
-          (λ k. inl (rw (undrawn-append (s .queue) more (s .sent) filled-queue) (member-append p (undrawn (s .queue) (s .sent)) more k)))
-          (λ k. let w = passed-why (s .partition) (s .request) r p m inHand k in
-          inl (rw (undrawn-append (s .queue) more (s .sent) filled-queue) (append-right p (undrawn (s .queue) (s .sent)) more (inl (sym (w .0))))))
+      less = omega (arith, jobs, one (passedBy (s .partition) (s .request) p m) refl)
 
   gathers-still : (p ℓ : ℕ) → Gathers s p ℓ → Gathers s′ p ℓ
   unfolding finish
@@ -215,7 +226,7 @@ module _ (s : State) (f : Reached s) (r : Request) (inHand : s .request ≡ some
 
   still-scanned : (l : List ℕ) → s .queue ≡ l → (q ℓ i : ℕ) → isFront (s .queue ++ more) q ≡ true → s .sent ≡ 0 → ℓ < sources (s .shape) (s .counter q) → i < slots ℓ → offset ℓ i < s .cursor
       → s .mark (cell (s .shape) q ℓ i) ≡ 0
-  still-scanned [] e q ℓ i a z l hi c = absurd (omega (arith, f .jobless e))
+  still-scanned [] e q ℓ i a z l hi c = absurd (omega (arith, f .unbegun (f .jobless e) .0))
   still-scanned (x ∷ xs) e q ℓ i a z l hi c = f .scanned q ℓ i (sym (front-more (s .queue) more q x xs e) ∙ a) z l hi c
 
   longer : (l : List ℕ) → l ++ more ≡ [] → _≡_ {A = ℕ} 0 1
@@ -230,11 +241,11 @@ module _ (s : State) (f : Reached s) (r : Request) (inHand : s .request ≡ some
         isRead = a .isRead;
         full = a .full;
         whose = ⊎-elim
-            (λ p. let w = passed-why (s .partition) (s .request) r (c .partition) (c .level) inHand p in absurd (eqb-false (c .partition) (s .partition (r .block)) (k .1) (sym (w .0))))
+            (λ p. let w = passed-why (s .partition) (s .request) r (c .partition) (c .level) inHand p in inr (gathers-still (c .partition) (c .level) (rw (w .0) at (k .1 (sym (w .0)) .0))))
             (λ n. inr (gathers-still (c .partition) (c .level) n)) (a .whose);
       }))
       (λ a. inr (record { kind = a .kind; front = front-append (s .queue) more (c .partition) (a .front); busy = a .busy; goal = a .goal; slot = a .slot })) (k .0))
-      (all-both (f .commands) (finished-quiet s f r done))
+      (all-both (f .commands) (finished-aside s f r inHand done))
 
   pub collect-kept : InRange s′ → Reached s′
   unfolding finish
@@ -251,10 +262,13 @@ module _ (s : State) (f : Reached s) (r : Request) (inHand : s .request ≡ some
     reads = reads-kept;
     unheld = λ x e. let z : _≡_ {A = ℕ} 0 1 = cc in absurd (omega arith);
     released = λ x e. let z : _≡_ {A = ℕ} 0 1 = cc in absurd (omega arith);
+    unworn = λ x e. let z : _≡_ {A = ℕ} 0 1 = cc in absurd (omega arith);
+    unawaited = λ x e. let z : _≡_ {A = ℕ} 0 1 = cc in absurd (omega arith);
     unread = unread-kept;
     fetched = λ x m j e. let z : _≡_ {A = ℕ} 0 1 = cc in absurd (omega arith);
     scanned = still-scanned (s .queue) refl;
     jobless = λ e. let z : _≡_ {A = ℕ} 0 1 = longer (s .queue) e in absurd (omega arith);
+    unbegun = f .unbegun;
     spent = λ p ℓ i a n l hi. let x = f .begun n in f .spent p ℓ i (sym (front-more (s .queue) more p (x .0) (x .1) (x .2 .0)) ∙ a) n l hi;
     apart = f .apart;
     commands = commands-kept;

@@ -1,38 +1,41 @@
 -- A completion keeps the invariant; the last write of a job ends it.
-use mathlib.Core.Path.{_≡_, refl, ap, sym, _∙_, fun-ext}
+use mathlib.Core.Path.{_≡_, refl, ap, sym, _∙_, fun-ext, subst}
 use mathlib.Core.Logic.{_⊎_, inl, inr, ⊎-elim}
 use mathlib.Core.Bool.{Bool, true, false, not, true≢false}
 use mathlib.Core.List.{List, [], _∷_}
-use mathlib.Core.Option.{Option, none, some}
+use mathlib.Core.Option.{Option, none, some, Option·map}
 use Prim.Native.Nat.{ℕ, _+_, _%_, _^_, _≤_, _-_}
 use native.Mathlib.Omega.{arith}
 use native.Mathlib.Decide.{ℕ-discrete}
 use lib.Dec.{eqb}
 use lib.Pow.{pow-pos}
 use borrow.Author.Tests.{eqb-true, eq-eqb, not-true}
-use Rattle.lists.specs.All.{All, all-map, all-without, all-both, any-none}
-use Rattle.lists.specs.Search.{without, any}
+use Rattle.lists.specs.All.{All, all-map, all-without, all-both, any-none, drop-without}
+use Rattle.lists.specs.Search.{without, firstLeft, any}
 use Rattle.lists.specs.Tables.{put, put-same, put-other}
 use Rattle.lists.specs.Tests.{if_then_else_, and-l, and-r}
 use Rattle.rules.specs.Completion
 use Rattle.rules.specs.Laws.Range.{InRange}
 use Rattle.rules.specs.Levels.{target, grown, filled}
 use Rattle.rules.specs.Request
-use Rattle.rules.specs.Setters.{setBytes, setOutstanding}
+use Rattle.rules.specs.Setters.{setBytes, setOutstanding, setRequest}
 use Rattle.rules.specs.Shape.{slots}
 use Rattle.rules.specs.State.{State, Command, write, Request}
 use Rattle.reachable.specs.Consequences.{reading-away}
-use Rattle.reachable.specs.Invariant.{Reached, Reading, Writing, storedAt, Reads, Commands}
+use Rattle.reachable.specs.Invariant.{Reached, Reading, Writing, Unawaited, storedAt, Reads, Commands}
 use Rattle.reachable.specs.Live
-use Rattle.reachable.specs.Live.{counted, drawn, pending, counted-calm, counted-drawn, front-is, counted-other, isFront, front-eq}
+use Rattle.rules.specs.Request.{isFront}
+use Rattle.reachable.specs.Live.{counted, drawn, pending, counted-calm, counted-drawn, front-is, counted-other, front-eq, times, undrawn}
+use Rattle.reachable.specs.Kept.Carry.{carry-kept}
 use Rattle.reachable.specs.Outstanding.{apart-without}
 use Rattle.reachable.specs.Pending.{pending-more, undrawn-rest}
 use Rattle.reachable.specs.Terms.{Apart}
 
 -- A state that differs in its outstanding commands and in the contents of blocks: no other fact reads them
-outside-kept : (s : State) → Reached s → (y : ℕ → List ℕ) (os : List Command) → Apart os → All (λ c. Reading s c ⊎ Writing s c) os → InRange (setBytes y (setOutstanding os s)) → Reached (setBytes y (setOutstanding os s))
+outside-kept : (s : State) → Reached s → (y : ℕ → List ℕ) (os : List Command) → Apart os → All (λ c. Reading s c ⊎ Writing s c) os → Unawaited (setOutstanding os s)
+    → InRange (setBytes y (setOutstanding os s)) → Reached (setBytes y (setOutstanding os s))
 unfolding counted drawn storedAt Live.storedIn pending Request.held
-outside-kept s f y os apart commands range = record {
+outside-kept s f y os apart commands unawaited range = record {
   range = range;
   waiting = f .waiting;
   orders = f .orders;
@@ -45,25 +48,44 @@ outside-kept s f y os apart commands range = record {
   reads = f .reads;
   unheld = f .unheld;
   released = f .released;
+  unworn = f .unworn;
+  unawaited = unawaited;
   unread = f .unread;
   fetched = f .fetched;
   scanned = f .scanned;
   jobless = f .jobless;
+  unbegun = f .unbegun;
   spent = f .spent;
   apart = apart;
   commands = commands;
 }
 
--- A command completed
+-- A command completed: it is awaited no more
 pub completed-kept : (s : State) → Reached s → (c : Command) → InRange (Completion.completed c s) → Reached (Completion.completed c s)
-unfolding Completion.completed
-completed-kept s f c range = outside-kept s f (s .bytes) (without (Completion.isCommand c) (s .outstanding)) (apart-without (Completion.isCommand c) (f .apart)) (all-without (Completion.isCommand c) (f .commands)) range
+unfolding Completion.completed Request.held
+completed-kept s f c range = go (s .request) refl range
+  where
+    os : List Command
+    os = without (Completion.isCommand c) (s .outstanding)
+
+    apart : Apart os
+    apart = apart-without (Completion.isCommand c) (f .apart)
+
+    commands : All (λ c. Reading s c ⊎ Writing s c) os
+    commands = all-without (Completion.isCommand c) (f .commands)
+
+    go : (o : Option Request) → s .request ≡ o → InRange (setOutstanding os (setRequest (Option·map (Completion.awaitsLess c (s .outstanding)) o) s))
+        → Reached (setOutstanding os (setRequest (Option·map (Completion.awaitsLess c (s .outstanding)) o) s))
+    go none e range = (subst (λ (o : Option Request). InRange (setOutstanding os (setRequest o s)) → Reached (setOutstanding os (setRequest o s))) e
+        (outside-kept s f (s .bytes) os apart commands (λ r w. let z : _≡_ {A = ℕ} 0 1 = cc in absurd (omega arith))) (range))
+    go (some r) e range = (carry-kept s f r e (r .found) (firstLeft (Completion.isCommand c) (r .awaits) (s .outstanding)) os apart commands (f .unheld r e)
+        (λ k. (f .released r e k, (f .unworn r e k, drop-without (Completion.isCommand c) (r .awaits) (s .outstanding) (f .unawaited r e k)))) (range))
 
 -- ..with the bytes that a read brings
 pub bytes-kept : (s : State) → Reached s → (o : Option ℕ) (bs : List ℕ) → InRange (Completion.gatherBytes o bs s) → Reached (Completion.gatherBytes o bs s)
 unfolding Completion.gatherBytes
 bytes-kept s f none bs range = f
-bytes-kept s f (some b) bs range = outside-kept s f _ (s .outstanding) (f .apart) (f .commands) range
+bytes-kept s f (some b) bs range = outside-kept s f _ (s .outstanding) (f .apart) (f .commands) (f .unawaited) range
 
 -- The end of a job
 module _ (s : State) (f : Reached s) (q : ℕ) (rest : List ℕ) (front : s .queue ≡ q ∷ rest) (busy : s .sent ≡ 0 → ⊥)
@@ -90,8 +112,11 @@ module _ (s : State) (f : Reached s) (q : ℕ) (rest : List ℕ) (front : s .que
   unfolding Completion.endJob
   reads-kept p m hp hm e = ⊎-elim (λ g. absurd (busy (g .1))) (λ k. inr (omega (arith, more, ap (λ c. c p % 2 ^ m) counted-kept))) (f .reads p m hp hm (rw counted-kept at e))
     where
+      less : undrawn (s .queue) (s .sent) ≡ undrawn rest 0
+      less = rw front (undrawn-rest q rest (s .sent) busy)
+
       more : pending s p m ≤ pending e′ p m
-      more = pending-more s e′ p m (λ k. inl (rw (← undrawn-rest q rest (s .sent) busy, ← front) k)) inr
+      more = pending-more s e′ p m (omega (arith, ap (times p) less)) (λ k. k)
 
   -- an outstanding read is the request's, of another partition
   reading-still : (c : Command) → Reading s c → Reading e′ c
@@ -110,6 +135,10 @@ module _ (s : State) (f : Reached s) (q : ℕ) (rest : List ℕ) (front : s .que
   unfolding Completion.endJob
   commands-kept = all-map (λ c k. ⊎-elim (λ a. inl (reading-still c a)) (λ a. absurd (true≢false (sym (eq-eqb (c .kind) write (a .kind)) ∙ k .1))) (k .0)) (all-both (f .commands) quiet)
 
+  -- the job that ends is not of the partition of a request that is not held
+  other : (x : Request) → s .request ≡ some x → Request.held x ≡ false → ¬ (s .partition (x .block) ≡ q)
+  other x e k w = ⊎-elim (λ n. n (rw (front, w) (inl refl))) (λ a. busy (a .2)) (f .released x e k)
+
   end-kept : InRange e′ → Reached e′
   unfolding Completion.endJob storedAt Live.storedIn
   end-kept range = record {
@@ -124,11 +153,14 @@ module _ (s : State) (f : Reached s) (q : ℕ) (rest : List ℕ) (front : s .que
     begun = λ n. absurd (n refl);
     reads = reads-kept;
     unheld = f .unheld;
-    released = λ x e k m. f .released x e k (rw front (inr m));
+    released = λ x e k. ⊎-elim (λ n. inl (λ m. n (rw front (inr m)))) (λ a. absurd (busy (a .2))) (f .released x e k);
+    unworn = λ x e k ℓ l hℓ full n. f .unworn x e k ℓ l hℓ (rw (put-other q (grown (s .shape) (s .counter q)) (s .counter) (s .partition (x .block)) (other x e k)) at full) (λ g. busy (g .1));
+    unawaited = λ x e k. all-map (λ c a w. absurd (busy (a w .0 .1))) (f .unawaited x e k);
     unread = λ b m j hx e. ⊎-elim inl (λ k. ⊎-elim (λ o. inr (inl o)) (λ n. absurd (busy (n .1))) k) (f .unread b m j hx e);
     fetched = f .fetched;
     scanned = λ p m j a z l hj c. absurd (omega arith);
     jobless = λ e. refl;
+    unbegun = λ e. (refl, refl);
     spent = λ p m j a n l hj. absurd (n refl);
     apart = f .apart;
     commands = commands-kept;

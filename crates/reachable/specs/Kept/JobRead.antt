@@ -3,12 +3,12 @@ use mathlib.Core.Path.{_≡_, refl, ap, sym, _∙_}
 use mathlib.Core.Logic.{_⊎_, inl, inr, ⊎-elim}
 use mathlib.Core.Bool.{false}
 use mathlib.Core.List.{List, [], _∷_}
-use mathlib.Core.Option.{none}
+use mathlib.Core.Option.{none, some}
 use Prim.Native.Nat.{ℕ, _+_, _%_, _^_, _≤_, _<_, _-_}
 use native.Mathlib.Omega.{arith}
 use native.Mathlib.Decide.{ℕ-discrete, decLt}
 use borrow.Author.Tests.{eqb-false}
-use Rattle.lists.specs.All.{nil, cons, all-append, all-map}
+use Rattle.lists.specs.All.{nil, cons, all-append, all-map, drop-snoc}
 use Rattle.lists.specs.Members.{all-mem}
 use Rattle.lists.specs.Tables.{put, put-same, put-other}
 use Rattle.rules.specs.Blocks
@@ -17,16 +17,17 @@ use Rattle.rules.specs.Laws.Levels.{sources-le}
 use Rattle.rules.specs.Laws.Range.{InRange}
 use Rattle.rules.specs.Request
 use Rattle.rules.specs.Shape.{slots, cell, offset}
-use Rattle.rules.specs.State.{State, read, Request, cmd}
+use Rattle.rules.specs.State.{State, read, Request, cmd, stored}
 use Rattle.rules.specs.Turn
 use Rattle.rules.specs.Turn.{readForJob, doStep}
 use Rattle.reachable.specs.Blocks.{place-lt}
 use Rattle.reachable.specs.Cells.{offset-cell}
-use Rattle.reachable.specs.Consequences.{job-gathers, still-read, read-apart, job-unread, job-full, read-items}
+use Rattle.reachable.specs.Consequences.{behind-read, job-gathers, still-read, read-apart, job-unread, job-full, read-items}
 use Rattle.reachable.specs.Decided.{JobReads}
 use Rattle.reachable.specs.Invariant.{Reached, Reads, Unread, Own, Scanned, Commands, storedAt}
 use Rattle.reachable.specs.Live
-use Rattle.reachable.specs.Live.{counted, drawn, pending, readsOf, Gathers, front-is, front-eq, front-mem}
+use Rattle.rules.specs.Blocks.{readsOf}
+use Rattle.reachable.specs.Live.{counted, drawn, pending, Gathers, front-is, front-eq, front-mem}
 use Rattle.reachable.specs.Outstanding.{apart-snoc}
 use Rattle.reachable.specs.Pending.{mark-same}
 use Rattle.reachable.specs.Terms.{Apart}
@@ -103,6 +104,12 @@ module _ (s : State) (f : Reached s) (q ℓ i : ℕ) (d : JobReads s q ℓ i) (h
       inr k) (f .commands))
       (cons (inl (record { kind = refl; isRead = put-same (cell (s .shape) q ℓ i) 0 (s .mark); full = job-full s f q ℓ i d; whose = inr (job-gathers s f q ℓ i d) })) nil)
 
+  -- where a request is not held, its block's slot has been read before, by it or for the job
+  not-own : (r : Request) → s .request ≡ some r → Request.held r ≡ false → q ≡ s .partition (r .block) → ¬ (s .place (r .block) ≡ stored ℓ i)
+  not-own r e k w p =
+      let z = behind-read s f r ℓ i e k (d .behind r e k) p in
+      omega (arith, sym (job-unread s f q ℓ i d) ∙ ap (λ x. s .mark (cell (s .shape) x ℓ i)) w ∙ z)
+
   pub job-read-kept : InRange s′ → Reached s′
   unfolding doStep Turn.markRead Turn.send counted drawn storedAt Live.storedIn Request.held
   job-read-kept range = record {
@@ -118,10 +125,13 @@ module _ (s : State) (f : Reached s) (q ℓ i : ℕ) (d : JobReads s q ℓ i) (h
     reads = reads-kept;
     unheld = f .unheld;
     released = f .released;
+    unworn = λ x e k m l hm full n. omega (arith, mark-same (s .shape) q ℓ i hℓ (d .slot) (s .mark) (s .partition (x .block)) m hm (λ w. n (rw (w .0, w .1) (job-gathers s f q ℓ i d))), f .unworn x e k m l hm full n);
+    unawaited = λ x e k. drop-snoc (x .awaits) (s .outstanding) (cmd read q ℓ i) (f .unawaited x e k) (λ w. (rw (← w) (job-gathers s f q ℓ i d), λ p. not-own x e k w p));
     unread = unread-kept;
     fetched = λ r m j e p l. still-read (cell (s .shape) q ℓ i) (cell (s .shape) (s .partition (r .block)) m j) (s .mark) (f .fetched r m j e p l);
     scanned = scanned-kept;
     jobless = λ e. let z : _≡_ {A = ℕ} 0 1 = queued e in absurd (omega arith);
+    unbegun = λ e. absurd (omega arith);
     spent = λ p m j a n l hj. absurd (n (d .calm));
     apart = apart-kept;
     commands = commands-kept;

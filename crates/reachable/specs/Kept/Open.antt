@@ -50,10 +50,13 @@ module _ (h : Shape) (js : List ℕ) where
     reads = λ q ℓ hq hℓ e. absurd (no-level q ℓ e);
     unheld = λ r e. let z : _≡_ {A = ℕ} 0 1 = cc in absurd (omega arith);
     released = λ r e. let z : _≡_ {A = ℕ} 0 1 = cc in absurd (omega arith);
+    unworn = λ r e. let z : _≡_ {A = ℕ} 0 1 = cc in absurd (omega arith);
+    unawaited = λ r e. let z : _≡_ {A = ℕ} 0 1 = cc in absurd (omega arith);
     unread = λ b m j hb e. absurd (not-nowhere m j e);
     fetched = λ r m j e. let z : _≡_ {A = ℕ} 0 1 = cc in absurd (omega arith);
     scanned = λ q ℓ i a z l hi c. absurd (omega arith);
     jobless = λ e. refl;
+    unbegun = λ e. (refl, refl);
     spent = λ q ℓ i a n l hi. absurd (n refl);
     apart = none-apart;
     commands = nil;

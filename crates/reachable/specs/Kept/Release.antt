@@ -1,73 +1,91 @@
 -- A request that is released keeps the invariant.
 use mathlib.Core.Path.{_≡_, refl, ap, sym, _∙_, subst}
 use mathlib.Core.Logic.{_⊎_, inl, inr, ⊎-elim}
-use mathlib.Core.Bool.{Bool, true, false, not, _&&_, _||_}
+use mathlib.Core.Bool.{Bool, true, false, not, _&&_, true≢false}
 use mathlib.Core.Option.{Option, none, some, Option·map}
-use Prim.Native.Nat.{ℕ, _<_}
+use Prim.Native.Nat.{ℕ, _+_, _%_, _^_, _≤_, _<_}
+use native.Mathlib.Nat.{mod-lt}
 use native.Mathlib.Omega.{arith}
-use borrow.Author.Tests.{not-true}
-use Rattle.lists.specs.All.{all-map}
+use lib.Dec.{leb}
+use lib.ListN.{length, drop-of-length-le}
+use lib.Pow.{pow-pos}
+use borrow.Author.Tests.{leb-false}
+use Rattle.lists.specs.All.{nil, any-none}
 use Rattle.lists.specs.Distinct.{Mem}
-use Rattle.lists.specs.Members.{not-member}
-use Rattle.lists.specs.Search.{member, isNone}
-use Rattle.lists.specs.Tests.{if_then_else_, and-r}
-use Rattle.rules.specs.Blocks.{lookUp}
+use Rattle.lists.specs.Members.{not-member, all-mem, below-mem}
+use Rattle.lists.specs.Search.{any, below, member, isNone}
+use Rattle.lists.specs.Tests.{if_then_else_, and-l, and-r, not-true}
+use Rattle.rules.specs.Blocks.{lookUp, readsOf}
 use Rattle.rules.specs.Laws.Kept.{release-in}
 use Rattle.rules.specs.Laws.Range.{InRange}
-use Rattle.rules.specs.Request.{blocked, held, withFound, releasedIn, release}
+use Rattle.rules.specs.Levels.{filled}
+use Rattle.rules.specs.Request.{undrawnOnly, isSource, worn, heldFor, blocked, held, withFound, releasedIn, release}
 use Rattle.rules.specs.Setters.{setRequest}
-use Rattle.rules.specs.Shape.{cell}
-use Rattle.rules.specs.State.{State, Command, Request, Found, stored}
-use Rattle.reachable.specs.Invariant.{Reached, Reading, Own, storedAt}
-use Rattle.reachable.specs.Live
-use Rattle.reachable.specs.Live.{counted, drawn, pending, passedBy, undrawn}
+use Rattle.rules.specs.State.{State, Request}
+use Rattle.reachable.specs.Consequences.{block-lt}
+use Rattle.reachable.specs.Invariant.{Reached}
+use Rattle.reachable.specs.Kept.Carry.{Loose, carry-kept}
+use Rattle.reachable.specs.Live.{counted, counted-other, not-front, pending, passedBy, undrawn, Gathers, source-gathers, Alone, only-alone, front-mem}
+use Rattle.reachable.specs.Pending.{undrawn-mem, times-none, bit-no, passed-why}
 
-module _ (s : State) (f : Reached s) (r : Request) (inHand : s .request ≡ some r) (x : Found) (away : ¬ Mem (s .partition (r .block)) (s .queue)) where
-  abbrev s′ : State
-  s′ = setRequest (some (withFound x r)) s
+module _ (s : State) (f : Reached s) (r : Request) (inHand : s .request ≡ some r) (u : held r ≡ true) (free : blocked s r ≡ false) where
+  abbrev q : ℕ
+  q = s .partition (r .block)
 
-  passed-same : (p m : ℕ) → passedBy (s .partition) (s .request) p m ≡ passedBy (s .partition) (s′ .request) p m
-  unfolding passedBy
-  passed-same p m = ap (λ o. passedBy (s .partition) o p m) inHand
+  low : r .level ≡ 0
+  low = ⊎-elim (λ z. z) (λ z. absurd (true≢false (sym u ∙ z))) (f .unheld r inHand)
 
-  pending-same : (p m : ℕ) → pending s p m ≡ pending s′ p m
+  -- its partition has no job, or the rule of P4 lets it pass
+  abbrev Passes : Type 0
+  Passes = Alone s q × ((ℓ : ℕ) → ℓ < s .shape .L → worn s q ℓ ≡ false)
+
+  cases : (¬ Mem q (s .queue)) ⊎ Passes
+  cases = go (member q (s .queue)) (undrawnOnly s q) (any (worn s q) (below (s .shape .L))) refl refl refl (unfold blocked heldFor in free)
+    where
+      go : (a b c : Bool) → member q (s .queue) ≡ a → undrawnOnly s q ≡ b → any (worn s q) (below (s .shape .L)) ≡ c → (a && not (b && not c)) ≡ false → (¬ Mem q (s .queue)) ⊎ Passes
+      go false b c ea eb ec w = inl (not-member q (s .queue) ea)
+      go true false c ea eb ec w = absurd (true≢false w)
+      go true true true ea eb ec w = absurd (true≢false w)
+      go true true false ea eb ec w = inr (only-alone s q eb, λ ℓ hℓ. all-mem (any-none (worn s q) (below (s .shape .L)) ec) ℓ (below-mem (s .shape .L) ℓ hℓ))
+
+  -- a level that is not worn, and that no job gathers
+  unworn : (ℓ : ℕ) → worn s q ℓ ≡ false → filled (s .counter q) ℓ ≡ true → ¬ Gathers s q ℓ → s .sent ≡ 0 → readsOf (s .shape) (s .mark) q ℓ < 2 ^ ℓ
+  unworn ℓ w full n z = go (filled (s .counter q) ℓ) (isSource s q ℓ) (leb (2 ^ ℓ) (readsOf (s .shape) (s .mark) q ℓ)) full refl refl (unfold worn in w)
+    where
+      go : (a b c : Bool) → a ≡ true → isSource s q ℓ ≡ b → leb (2 ^ ℓ) (readsOf (s .shape) (s .mark) q ℓ) ≡ c → (a && (not b && c)) ≡ false → readsOf (s .shape) (s .mark) q ℓ < 2 ^ ℓ
+      go false b c e eb ec w = absurd (true≢false (sym e))
+      go true true c e eb ec w = absurd (n (source-gathers s q ℓ (λ k. z) eb))
+      go true false true e eb ec w = absurd (true≢false w)
+      go true false false e eb ec w = leb-false (2 ^ ℓ) (readsOf (s .shape) (s .mark) q ℓ) ec
+
+  -- without a job, a level has been read once for each job since it was written
+  calm : ¬ Mem q (s .queue) → (ℓ : ℕ) → ℓ < s .shape .L → filled (s .counter q) ℓ ≡ true → readsOf (s .shape) (s .mark) q ℓ < 2 ^ ℓ
   unfolding pending
-  pending-same p m = ap (λ t. if member p (undrawn (s .queue) (s .sent)) || t then 1 else 0) (passed-same p m)
+  calm n ℓ hℓ full = ⊎-elim (λ g. absurd (n (front-mem (s .queue) q (g .0)))) few (f .reads q ℓ hq hℓ (ap (λ c. filled c ℓ) (counted-other s q (not-front (s .queue) q n)) ∙ full))
+    where
+      hq : q < s .shape .P
+      hq = f .range .partitions (r .block) (block-lt s f r inHand)
 
-  own-same : (b ℓ : ℕ) → Own s b ℓ → Own s′ b ℓ
-  own-same b ℓ o =
-      let w : o .0 ≡ r = cc (o .1 .0, inHand) in
-      (withFound x r, (refl, sym (ap (λ (y : Request). y .block) w) ∙ o .1 .1, omega (arith, o .1 .2, ap (λ (y : Request). y .level) w)))
+      few : readsOf (s .shape) (s .mark) q ℓ ≤ counted s q % 2 ^ ℓ + pending s q ℓ → readsOf (s .shape) (s .mark) q ℓ < 2 ^ ℓ
+      few k = omega (
+        arith,
+        k,
+        mod-lt (counted s q) (pow-pos ℓ),
+        times-none q (undrawn (s .queue) (s .sent)) (λ m. n (undrawn-mem q (s .queue) (s .sent) m)),
+        bit-no (passedBy (s .partition) (s .request) q ℓ) (λ j. let w = passed-why (s .partition) (s .request) r q ℓ inHand j in omega (arith, low, w .1)),
+      )
 
-  reading-same : (c : Command) → Reading s c → Reading s′ c
-  reading-same c a = record { kind = a .kind; isRead = a .isRead; full = a .full; whose = ⊎-elim (λ k. inl (sym (passed-same (c .partition) (c .level)) ∙ k)) inr (a .whose) }
+  loose : Loose s r (length (s .outstanding)) (s .outstanding)
+  loose = (
+    ⊎-elim inl (λ k. inr (k .0)) cases,
+    (
+      (λ ℓ l hℓ full n. ⊎-elim (λ k. calm k ℓ hℓ full) (λ k. unworn ℓ (k .1 ℓ hℓ) full n (k .0 .2)) cases),
+      rw (drop-of-length-le (s .outstanding) {i = length (s .outstanding)} (omega arith)) nil,
+    ),
+  )
 
-  the : (y : Request) → s′ .request ≡ some y → withFound x r ≡ y
-  the y e = cc
-
-  found-kept : InRange s′ → Reached s′
-  unfolding counted drawn storedAt Live.storedIn held isNone
-  found-kept range = record {
-    range = range;
-    waiting = f .waiting;
-    orders = f .orders;
-    items = f .items;
-    agree = f .agree;
-    room = f .room;
-    full = f .full;
-    taken = f .taken;
-    begun = f .begun;
-    reads = λ p m hp hm e. ⊎-elim inl (λ k. inr (omega (arith, pending-same p m))) (f .reads p m hp hm e);
-    unheld = λ y e. inr (ap held (sym (the y e)));
-    released = λ y e k m. away (subst (λ p. Mem p (s .queue)) (sym (ap (λ (z : Request). s .partition (z .block)) (the y e))) m);
-    unread = λ b m j hx e. ⊎-elim inl (λ k. inr (⊎-elim (λ o. inl (own-same b m o)) inr k)) (f .unread b m j hx e);
-    fetched = λ y m j e. subst (λ (y : Request). s .place (y .block) ≡ stored m j → m < y .level → s .mark (cell (s .shape) (s .partition (y .block)) m j) ≡ 0) (the y e) (f .fetched r m j inHand);
-    scanned = f .scanned;
-    jobless = f .jobless;
-    spent = f .spent;
-    apart = f .apart;
-    commands = all-map (λ c k. ⊎-elim (λ a. inl (reading-same c a)) inr k) (f .commands);
-  }
+  pub found-kept : InRange (setRequest (some (withFound (lookUp s (r .block)) (length (s .outstanding)) r)) s) → Reached (setRequest (some (withFound (lookUp s (r .block)) (length (s .outstanding)) r)) s)
+  found-kept range = carry-kept s f r inHand (some (lookUp s (r .block))) (length (s .outstanding)) (s .outstanding) (f .apart) (f .commands) (inr (unfold held isNone in refl)) (λ k. loose) range
 
 pub release-kept : (s : State) → Reached s → Reached (release s)
 release-kept s f = go (s .request) refl (release-in s (f .range))
@@ -76,8 +94,8 @@ release-kept s f = go (s .request) refl (release-in s (f .range))
     same o e = subst (λ (o : Option Request). Reached (setRequest o s)) e f
 
     one : (r : Request) → s .request ≡ some r → (t : Bool) → (held r && not (blocked s r)) ≡ t
-        → InRange (setRequest (some (if t then withFound (lookUp s (r .block)) r else r)) s) → Reached (setRequest (some (if t then withFound (lookUp s (r .block)) r else r)) s)
-    one r e true k range = found-kept s f r e (lookUp s (r .block)) (not-member (s .partition (r .block)) (s .queue) (unfold blocked in (not-true (blocked s r) (and-r (held r) (not (blocked s r)) k)))) range
+        → InRange (setRequest (some (if t then withFound (lookUp s (r .block)) (length (s .outstanding)) r else r)) s) → Reached (setRequest (some (if t then withFound (lookUp s (r .block)) (length (s .outstanding)) r else r)) s)
+    one r e true k range = found-kept s f r e (and-l (held r) (not (blocked s r)) k) (not-true (blocked s r) (and-r (held r) (not (blocked s r)) k)) range
     one r e false k range = same (some r) e
 
     go : (o : Option Request) → s .request ≡ o → InRange (setRequest (Option·map (releasedIn s) o) s) → Reached (setRequest (Option·map (releasedIn s) o) s)

@@ -1,13 +1,15 @@
 -- A request's read keeps the invariant.
 use mathlib.Core.Path.{_≡_, refl, ap, sym, _∙_, subst}
 use mathlib.Core.Logic.{_⊎_, inl, inr, ⊎-elim}
-use mathlib.Core.Bool.{true, false, true≢false}
-use mathlib.Core.List.{List}
+use mathlib.Core.Bool.{Bool, true, false}
+use mathlib.Core.List.{List, [], _∷_, _++_}
 use mathlib.Core.Option.{none, some}
 use Prim.Native.Nat.{ℕ, suc, _+_, _%_, _^_, _≤_, _<_, _-_}
 use native.Mathlib.Omega.{arith}
 use native.Mathlib.Decide.{ℕ-discrete, decLt}
-use Rattle.lists.specs.All.{nil, cons, all-append, all-map}
+use lib.ListN.{length, drop, length-append, drop-of-length-le}
+use Rattle.lists.specs.Tests.{if_then_else_}
+use Rattle.lists.specs.All.{All, nil, cons, all-append, all-map}
 use Rattle.lists.specs.Distinct.{Mem}
 use Rattle.lists.specs.Tables.{put, put-same, put-other}
 use Rattle.rules.specs.Laws.Layout.{cell-inj}
@@ -19,13 +21,16 @@ use Rattle.rules.specs.State.{State, Command, read, Request, cmd, stored}
 use Rattle.rules.specs.Turn
 use Rattle.rules.specs.Turn.{readForRequest, doStep}
 use Rattle.reachable.specs.Blocks.{place-lt, stored-inj}
-use Rattle.reachable.specs.Consequences.{unqueued, block-lt, slot-own, dummy-free, own-slot, still-read, read-apart, request-unread, read-items}
-use Rattle.reachable.specs.Decided.{RequestReads}
-use Rattle.reachable.specs.Invariant.{Reached, Reads, Unheld, Unread, Own, Reading, Commands, Fetched, storedAt}
+use Rattle.reachable.specs.Consequences.{front-calm, released-count, reads-source, costless-read, read-mark, block-lt, slot-own, dummy-free, own-slot, still-read, read-apart, request-unread, read-items}
+use Rattle.reachable.specs.Decided.{OwnSlot, DummySlot, ItemSlot, RequestReads, slot-here, if-unread}
+use Rattle.reachable.specs.Invariant.{Reached, Reads, Unheld, Released, Unworn, Aside, Unawaited, Unread, Own, Reading, Commands, Fetched, Jobless, Unbegun, storedAt}
 use Rattle.reachable.specs.Live
-use Rattle.reachable.specs.Live.{counted, drawn, pending, readsOf, Gathers, counted-other, not-front, front-mem}
+use Rattle.rules.specs.Blocks
+use Rattle.rules.specs.Blocks.{readsOf}
+use Rattle.rules.specs.Request.{isFront}
+use Rattle.reachable.specs.Live.{counted, drawn, pending, passedBy, Gathers, Alone, front-mem}
 use Rattle.reachable.specs.Outstanding.{apart-snoc}
-use Rattle.reachable.specs.Pending.{pending-more, passed-why, passed-level, mark-same, undrawn-mem, pending-cases, mark-more, pending-request}
+use Rattle.reachable.specs.Pending.{pending-more, bit-no, bit-yes, passed-why, passed-level, mark-same, mark-more}
 use Rattle.reachable.specs.Terms.{Apart}
 
 module _ (s : State) (f : Reached s) (q ℓ i : ℕ) (d : RequestReads s q ℓ i) (hℓ : ℓ < s .shape .L) (hi : i < slots ℓ) (js : List ℕ) where
@@ -36,13 +41,13 @@ module _ (s : State) (f : Reached s) (q ℓ i : ℕ) (d : RequestReads s q ℓ i
   r = d .asked
 
   abbrev r′ : Request
-  r′ = record { kind = r .kind; block = r .block; bytes = r .bytes; next = r .next; evict = r .evict; level = suc ℓ; found = r .found }
+  r′ = record { kind = r .kind; block = r .block; bytes = r .bytes; next = r .next; evict = r .evict; level = suc ℓ; found = r .found; awaits = suc (length (s .outstanding)) }
 
   abbrev s′ : State
   s′ = doStep (readForRequest q ℓ i) js s
 
-  away : ¬ Mem q (s .queue)
-  away = unqueued s f q ℓ i d
+  calm : isFront (s .queue) q ≡ true → s .sent ≡ 0
+  calm = front-calm s f q ℓ i d
 
   hb : r .block < h .N
   hb = block-lt s f r (d .inHand)
@@ -52,20 +57,23 @@ module _ (s : State) (f : Reached s) (q ℓ i : ℕ) (d : RequestReads s q ℓ i
 
   passed : s′ .request ≡ some r′
   unfolding doStep Turn.markRead Turn.send Request.passLevel
-  passed = ap (Request.passLevel ℓ) (d .inHand)
+  passed = ap (Request.passLevel ℓ (suc (length (s .outstanding)))) (d .inHand)
 
   marks : (c : ℕ) → s′ .mark c ≡ put (cell h q ℓ i) 0 (s .mark) c
   unfolding doStep Turn.markRead Turn.send
   marks c = refl
 
   reads-kept : Reads s′
-  unfolding doStep Turn.markRead Turn.send counted drawn
+  unfolding doStep Turn.markRead Turn.send counted drawn pending
   reads-kept p m hp hm e = ⊎-elim inl (λ k. inr (go (ℕ-discrete p q) (ℕ-discrete m ℓ) k)) (f .reads p m hp hm e)
     where
-      more : pending s p m ≤ pending s′ p m
-      more = pending-more s s′ p m inl (λ k.
+      still : passedBy (s .partition) (s .request) p m ≡ true → passedBy (s .partition) (s′ .request) p m ≡ true
+      still k =
           let w = passed-why (s .partition) (s .request) r p m (d .inHand) k in
-          inr (passed-level (s .partition) (s .request) r ℓ p m (d .inHand) (w .0) (omega (arith, d .left))))
+          passed-level (s .partition) (s .request) r ℓ (suc (length (s .outstanding))) p m (d .inHand) (w .0) (omega (arith, d .left))
+
+      more : pending s p m ≤ pending s′ p m
+      more = pending-more s s′ p m (omega arith) still
 
       old : ((p ≡ q) × (m ≡ ℓ) → ⊥) → readsOf (s .shape) (s .mark) p m ≤ counted s p % 2 ^ m + pending s p m → readsOf (s .shape) (s′ .mark) p m ≤ counted s p % 2 ^ m + pending s′ p m
       old n k = omega (arith, mark-same (s .shape) q ℓ i hℓ hi (s .mark) p m hm n, more)
@@ -73,11 +81,33 @@ module _ (s : State) (f : Reached s) (q ℓ i : ℕ) (d : RequestReads s q ℓ i
       go : Dec (p ≡ q) → Dec (m ≡ ℓ) → readsOf (s .shape) (s .mark) p m ≤ counted s p % 2 ^ m + pending s p m → readsOf (s .shape) (s′ .mark) p m ≤ counted s p % 2 ^ m + pending s′ p m
       go (no a) b k = old (λ w. a (w .0)) k
       go (yes a) (no b) k = old (λ w. b (w .1)) k
-      go (yes a) (yes b) k =
-          let z : pending s p m ≡ 0 = ⊎-elim (λ z. z) (λ x. ⊎-elim
-          (λ j. absurd (away (rw (← a) (undrawn-mem p (s .queue) (s .sent) j))))
-          (λ j. let w = passed-why (s .partition) (s .request) r p m (d .inHand) j in absurd (omega (arith, d .left, w .1))) x) (pending-cases s p m) in
-          omega (arith, mark-more (s .shape) q ℓ i hℓ hi (s .mark) p m hm, pending-request s′ p m (passed-level (s .partition) (s .request) r ℓ p m (d .inHand) (d .part ∙ sym a) (omega arith)))
+      go (yes a) (yes b) k = omega (
+        arith,
+        mark-more (s .shape) q ℓ i hℓ hi (s .mark) p m hm,
+        bit-no (passedBy (s .partition) (s .request) p m) (λ j. let w = passed-why (s .partition) (s .request) r p m (d .inHand) j in omega (arith, d .left, w .1)),
+        bit-yes (passedBy (s .partition) (s′ .request) p m) (passed-level (s .partition) (s .request) r ℓ (suc (length (s .outstanding))) p m (d .inHand) (d .part ∙ sym a) (omega arith)),
+      )
+
+  the : (x : Request) → s′ .request ≡ some x → r′ ≡ x
+  the x e = cc (passed, e)
+
+  released-kept : Released s′
+  unfolding doStep Turn.markRead Turn.send
+  released-kept x e k = subst (λ (y : Request). (¬ Mem (s .partition (y .block)) (s .queue)) ⊎ Alone s (s .partition (y .block))) (the x e) (f .released r (d .inHand) (d .unheld))
+
+  -- of the levels above the one read nothing is read
+  unworn-kept : Unworn s′
+  unfolding doStep Turn.markRead Turn.send
+  unworn-kept x e k = subst (λ (y : Request). (m : ℕ) → y .level ≤ m → m < h .L → filled (s .counter (s .partition (y .block))) m ≡ true → ¬ Gathers s (s .partition (y .block)) m → readsOf h (s′ .mark) (s .partition (y .block)) m < 2 ^ m) (the x e) above
+    where
+      above : (m : ℕ) → suc ℓ ≤ m → m < h .L → filled (s .counter (s .partition (r .block))) m ≡ true → ¬ Gathers s (s .partition (r .block)) m → readsOf h (s′ .mark) (s .partition (r .block)) m < 2 ^ m
+      above m l hm full n = omega (arith, mark-same h q ℓ i hℓ hi (s .mark) (s .partition (r .block)) m hm (λ w. omega (arith, w .1)), f .unworn r (d .inHand) (d .unheld) m (omega (arith, d .left)) hm full n)
+
+  -- all that is outstanding now is awaited
+  unawaited-kept : Unawaited s′
+  unfolding doStep Turn.markRead Turn.send
+  unawaited-kept x e k = subst (λ (y : Request). All (Aside s′ y) (drop (y .awaits) (s .outstanding ++ (cmd read q ℓ i ∷ [])))) (the x e)
+      (rw (drop-of-length-le (s .outstanding ++ (cmd read q ℓ i ∷ [])) {i = suc (length (s .outstanding))} (rw length-append (omega arith))) nil)
 
   unheld-kept : Unheld s′
   unfolding Request.held
@@ -108,35 +138,58 @@ module _ (s : State) (f : Reached s) (q ℓ i : ℕ) (d : RequestReads s q ℓ i
           let z = cell-inj h p q m ℓ j i (y .0) hℓ (y .1) hi n in
           let a = f .agree .placed b m j hx e .1 in
           ⊎-elim
-          (λ k. let a′ = f .agree .placed (r .block) ℓ i hb (slot-own ℓ i (s .place (r .block)) k) .1 in
+          (λ k. let a′ = f .agree .placed (r .block) ℓ i hb (slot-own ℓ i (s .place (r .block)) (k .0)) .1 in
           let v : suc b ≡ suc (r .block) = sym a ∙ ap (s .holds) (n ∙ sym own-cell) ∙ a′ in
           inr (inl (r′, (passed, omega (arith, v), omega (arith, z .1)))))
-          (λ k. absurd (omega (arith, sym a ∙ ap (s .holds) n ∙ dummy-free s q ℓ i (k .1) .1)))
+          (⊎-elim (λ k. absurd (omega (arith, sym a ∙ ap (s .holds) n ∙ dummy-free s q ℓ i (k .2) .1)))
+          (λ k. inr (inr (rw (z .0, z .1) (reads-source s f q ℓ i d (k .0))))))
           (d .slot)
 
-  -- the read passes its level, and the levels before it that it has not passed store nothing
+  -- the read passes its level; of the levels before it that it has not passed, those that are filled have been read throughout
   request-passed : (m j : ℕ) → s .place (r .block) ≡ stored m j → m < suc ℓ → s′ .mark (cell h (s .partition (r .block)) m j) ≡ 0
   request-passed m j e l = go (ℕ-discrete m ℓ) (decLt m (r .level))
     where
-      here : m ≡ ℓ → (Request.slotIn ℓ (s .place (r .block)) ≡ some i) ⊎ ((Request.slotIn ℓ (s .place (r .block)) ≡ none) × (Request.dummy s q ℓ ≡ some i)) → i ≡ j
-      here w (inl k) = let v : stored ℓ i ≡ stored m j = sym (slot-own ℓ i (s .place (r .block)) k) ∙ e in stored-inj ℓ m i j v .1
-      here w (inr k) =
-          let v : Request.slotIn ℓ (stored ℓ j) ≡ none = ap (Request.slotIn ℓ) (ap (λ n. stored n j) (sym w) ∙ sym e) ∙ k .0 in
+      hq : s .partition (r .block) < h .P
+      hq = f .range .partitions (r .block) hb
+
+      y : (m < h .L) × (j < slots m)
+      y = place-lt (h .L) m j (s .place (r .block)) (f .range .places (r .block) hb) e
+
+      still : s .mark (cell h (s .partition (r .block)) m j) ≡ 0 → s′ .mark (cell h (s .partition (r .block)) m j) ≡ 0
+      still k = marks (cell h (s .partition (r .block)) m j) ∙ still-read (cell h q ℓ i) (cell h (s .partition (r .block)) m j) (s .mark) k
+
+      -- the block's slot is the one that is read, or it was read before
+      here : m ≡ ℓ → OwnSlot s (r .block) q ℓ i ⊎ (DummySlot s (r .block) q ℓ i ⊎ ItemSlot s (r .block) q ℓ i) → s′ .mark (cell h (s .partition (r .block)) m j) ≡ 0
+      here w (inl k) =
+          let v : stored ℓ i ≡ stored m j = sym (slot-own ℓ i (s .place (r .block)) (k .0)) ∙ e in
+          let z : i ≡ j = stored-inj ℓ m i j v .1 in
+          let same : cell h (s .partition (r .block)) m j ≡ cell h q ℓ i = rw (w, ← z) own-cell in
+          marks (cell h (s .partition (r .block)) m j) ∙ ap (put (cell h q ℓ i) 0 (s .mark)) same ∙ put-same (cell h q ℓ i) 0 (s .mark)
+      here w (inr (inl k)) =
+          let v : Request.slotIn ℓ (stored ℓ j) ≡ none = ap (Request.slotIn ℓ) (ap (λ n. stored n j) (sym w) ∙ sym e) ∙ k .1 in
           absurd (own-slot ℓ j v)
+      here w (inr (inr k)) = still (gone (Blocks.isUnread s q ℓ j) refl)
+        where
+          gone : (t : Bool) → Blocks.isUnread s q ℓ j ≡ t → s .mark (cell h (s .partition (r .block)) m j) ≡ 0
+          gone true u =
+              let v : Request.slotIn ℓ (s .place (r .block)) ≡ some j = ap (Request.slotIn ℓ) (e ∙ ap (λ n. stored n j) w) ∙ slot-here ℓ j in
+              let x : some j ≡ none = sym (if-unread (Blocks.isUnread s q ℓ) j u) ∙ ap (Request.ifUnread (Blocks.isUnread s q ℓ)) (sym v) ∙ k .1 in
+              let z : _≡_ {A = ℕ} 0 1 = cc in absurd (omega arith)
+          gone false u =
+              let v = read-mark s q ℓ j u in
+              let same : s .mark (cell h (s .partition (r .block)) m j) ≡ s .mark (cell h q ℓ j) = rw (w, d .part) in
+              omega (arith, f .range .marks (s .partition (r .block)) m j hq (y .0) (y .1))
 
       go : Dec (m ≡ ℓ) → Dec (m < r .level) → s′ .mark (cell h (s .partition (r .block)) m j) ≡ 0
-      go (yes w) c =
-          let same : cell h (s .partition (r .block)) m j ≡ cell h q ℓ i = rw (w, ← here w (d .slot)) own-cell in
-          marks (cell h (s .partition (r .block)) m j) ∙ ap (put (cell h q ℓ i) 0 (s .mark)) same ∙ put-same (cell h q ℓ i) 0 (s .mark)
-      go (no w) (yes c) = marks (cell h (s .partition (r .block)) m j) ∙ still-read (cell h q ℓ i) (cell h (s .partition (r .block)) m j) (s .mark) (f .fetched r m j (d .inHand) e c)
+      go (yes w) c = here w (d .slot)
+      go (no w) (yes c) = still (f .fetched r m j (d .inHand) e c)
       go (no w) (no c) =
-          let full = f .agree .placed (r .block) m j hb e .0 in
-          let calm : counted s (s .partition (r .block)) ≡ s .counter q = ap (counted s) (d .part) ∙ counted-other s q (not-front (s .queue) q away) in
-          absurd (true≢false (sym full ∙ ap (λ n. filled n m) calm ∙ d .first m (omega arith) (omega arith)))
+          let full : filled (s .counter (s .partition (r .block))) m ≡ true = ap (λ n. filled n m) (sym (released-count s f r (d .inHand) (d .unheld))) ∙ f .agree .placed (r .block) m j hb e .0 in
+          still (costless-read s f (s .partition (r .block)) m j hq (y .0) (y .1) full (rw (d .part) (d .first m (omega arith) (omega arith))))
 
   apart-kept : Apart (s′ .outstanding)
   unfolding doStep Turn.markRead Turn.send
-  apart-kept = apart-snoc (cmd read q ℓ i) (f .apart) (read-apart s f q ℓ i (request-unread s f q ℓ i d) (λ c a w. away (rw w at (front-mem (s .queue) (c .partition) (a .front)))))
+  apart-kept = apart-snoc (cmd read q ℓ i) (f .apart) (read-apart s f q ℓ i (request-unread s f q ℓ i d) (λ c a w. a .busy (calm (rw w at (a .front)))))
 
   reading-still : (c : Command) → Reading s c → Reading s′ c
   unfolding doStep Turn.markRead Turn.send
@@ -145,7 +198,7 @@ module _ (s : State) (f : Reached s) (q ℓ i : ℕ) (d : RequestReads s q ℓ i
     isRead = still-read (cell h q ℓ i) (cell h (c .partition) (c .level) (c .slot)) (s .mark) (a .isRead);
     full = a .full;
     whose = ⊎-elim (λ k. let w = passed-why (s .partition) (s .request) r (c .partition) (c .level) (d .inHand) k in
-        inl (passed-level (s .partition) (s .request) r ℓ (c .partition) (c .level) (d .inHand) (w .0) (omega (arith, w .1, d .left)))) inr (a .whose);
+        inl (passed-level (s .partition) (s .request) r ℓ (suc (length (s .outstanding))) (c .partition) (c .level) (d .inHand) (w .0) (omega (arith, w .1, d .left)))) inr (a .whose);
   }
 
   reading-new : Reading s′ (cmd read q ℓ i)
@@ -154,7 +207,7 @@ module _ (s : State) (f : Reached s) (q ℓ i : ℕ) (d : RequestReads s q ℓ i
     kind = refl;
     isRead = put-same (cell h q ℓ i) 0 (s .mark);
     full = d .full;
-    whose = inl (passed-level (s .partition) (s .request) r ℓ q ℓ (d .inHand) (d .part) (omega arith));
+    whose = inl (passed-level (s .partition) (s .request) r ℓ (suc (length (s .outstanding))) q ℓ (d .inHand) (d .part) (omega arith));
   }
 
   commands-kept : Commands s′
@@ -165,6 +218,22 @@ module _ (s : State) (f : Reached s) (q ℓ i : ℕ) (d : RequestReads s q ℓ i
   unfolding doStep Turn.markRead Turn.send
   fetched-kept x m j e p l = let w : r′ ≡ x = cc (passed, e) in
       subst (λ (y : Request). s .place (y .block) ≡ stored m j → m < y .level → s′ .mark (cell h (s .partition (y .block)) m j) ≡ 0) w (request-passed m j) p l
+
+  jobless-kept : Jobless s′
+  unfolding doStep Turn.markRead Turn.send
+  jobless-kept e = go (Request.isSource s q ℓ) refl
+    where
+      go : (t : Bool) → Request.isSource s q ℓ ≡ t → (if t then 1 else s .begun) ≡ 0
+      go true u = let m : Mem q [] = rw e at (front-mem (s .queue) q (reads-source s f q ℓ i d u .0)) in absurd m
+      go false u = f .jobless e
+
+  unbegun-kept : Unbegun s′
+  unfolding doStep Turn.markRead Turn.send
+  unbegun-kept e = go (Request.isSource s q ℓ) e
+    where
+      go : (t : Bool) → _≡_ {A = ℕ} (if t then 1 else s .begun) 0 → (s .cursor ≡ 0) × (s .sent ≡ 0)
+      go true e = absurd (omega arith)
+      go false e = f .unbegun e
 
   pub request-read-kept : InRange s′ → Reached s′
   unfolding doStep Turn.markRead Turn.send counted drawn storedAt Live.storedIn
@@ -180,11 +249,14 @@ module _ (s : State) (f : Reached s) (q ℓ i : ℕ) (d : RequestReads s q ℓ i
     begun = f .begun;
     reads = reads-kept;
     unheld = unheld-kept;
-    released = λ x e k m. away (let w : x ≡ r′ = cc (passed, e) in let z : s .partition (x .block) ≡ q = ap (λ (y : Request). s .partition (y .block)) w ∙ d .part in rw (← z) m);
+    released = released-kept;
+    unworn = unworn-kept;
+    unawaited = unawaited-kept;
     unread = unread-kept;
     fetched = fetched-kept;
     scanned = λ p m j a z l hj c. still-read (cell h q ℓ i) (cell h p m j) (s .mark) (f .scanned p m j a z l hj c);
-    jobless = f .jobless;
+    jobless = jobless-kept;
+    unbegun = unbegun-kept;
     spent = λ p m j a n l hj. still-read (cell h q ℓ i) (cell h p m j) (s .mark) (f .spent p m j a n l hj);
     apart = apart-kept;
     commands = commands-kept;

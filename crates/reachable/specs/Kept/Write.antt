@@ -5,7 +5,7 @@ use mathlib.Core.List.{List}
 use Prim.Native.Nat.{ℕ, suc, _%_, _^_, _≤_, _-_}
 use native.Mathlib.Omega.{arith}
 use borrow.Author.Tests.{ne-eqb}
-use Rattle.lists.specs.All.{nil, cons, all-append, all-map}
+use Rattle.lists.specs.All.{nil, cons, all-append, all-map, drop-snoc}
 use Rattle.rules.specs.Laws.Range.{InRange}
 use Rattle.rules.specs.Request
 use Rattle.rules.specs.State.{State, write, Request, cmd}
@@ -15,7 +15,7 @@ use Rattle.reachable.specs.Consequences.{reading-away}
 use Rattle.reachable.specs.Decided.{Writes}
 use Rattle.reachable.specs.Invariant.{Reached, Reads, Commands, storedAt}
 use Rattle.reachable.specs.Live
-use Rattle.reachable.specs.Live.{counted, drawn, pending, front-is}
+use Rattle.reachable.specs.Live.{counted, drawn, pending, front-is, times}
 use Rattle.reachable.specs.Outstanding.{apart-snoc}
 use Rattle.reachable.specs.Pending.{pending-more, undrawn-busy}
 use Rattle.reachable.specs.Terms.{Apart}
@@ -33,7 +33,7 @@ module _ (s : State) (f : Reached s) (q t i : ℕ) (d : Writes s q t i) (js : Li
   reads-kept p m hp hm e = ⊎-elim (λ g. absurd (d .busy (g .1))) (λ k. inr (omega (arith, more, ap (λ c. c p % 2 ^ m) counted-kept))) (f .reads p m hp hm (rw counted-kept at e))
     where
       more : pending s p m ≤ pending s′ p m
-      more = pending-more s s′ p m (λ k. inl (rw (undrawn-busy (s .queue) (suc i) (s .sent) (λ z. omega arith) (d .busy)) k)) inr
+      more = pending-more s s′ p m (omega (arith, ap (times p) (undrawn-busy (s .queue) (suc i) (s .sent) (λ z. omega arith) (d .busy)))) (λ k. k)
 
   apart-kept : Apart (s′ .outstanding)
   unfolding doStep Turn.send
@@ -63,11 +63,15 @@ module _ (s : State) (f : Reached s) (q t i : ℕ) (d : Writes s q t i) (js : Li
     begun = λ n. (q, d .rest, (d .front, rw (← d .goal) (d .slot)));
     reads = reads-kept;
     unheld = f .unheld;
-    released = f .released;
+    released = λ x e k. ⊎-elim inl (λ a. absurd (d .busy (a .2))) (f .released x e k);
+    unworn = λ x e k ℓ l hℓ full n. f .unworn x e k ℓ l hℓ full (λ g. d .busy (g .1));
+    unawaited = λ x e k. drop-snoc (x .awaits) (s .outstanding) (cmd write q t i) (all-map (λ c a w. absurd (d .busy (a w .0 .1))) (f .unawaited x e k))
+        (λ w. absurd (⊎-elim (λ n. n (rw (← w, d .front) (inl refl))) (λ a. d .busy (a .2)) (f .released x e k)));
     unread = λ b m j hx e. ⊎-elim inl (λ k. ⊎-elim (λ o. inr (inl o)) (λ n. absurd (d .busy (n .1))) k) (f .unread b m j hx e);
     fetched = f .fetched;
     scanned = λ p m j a z. absurd (omega arith);
     jobless = f .jobless;
+    unbegun = λ e. absurd (d .busy (f .unbegun e .1));
     spent = λ p m j a n l hj. f .spent p m j a (d .busy) l hj;
     apart = apart-kept;
     commands = commands-kept;

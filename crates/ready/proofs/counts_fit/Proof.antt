@@ -20,7 +20,7 @@ pow2-requires-2 c κs = omega arith
 
 returns : tie.Need-returns
 unfolding countsFit
-returns c = rw (c .before .before .before .before .before .pow2 .ensures .0, c .before .before .before .before .pow22 .ensures .0)
+returns c = rw (c .before .before .before .before .before .before .pow2 .ensures .0, c .before .before .before .before .before .pow22 .ensures .0)
 
 pub counts-fit-spec : {M : Type 1} → statement M
 counts-fit-spec = tie.close (tie.spec add-pow2 pow2-requires sub-slots pow2-requires-2 returns)

@@ -44,7 +44,7 @@ returns c =
     (meets-no (a .c) (stateOf (a .c) (a .m .now)) (request (a .kind) (a .block) (a .contents .now)) (a .m .now) (a .tape .now) [] (n .number .result) (asked n) (c .before .if1 .taken) refl)
 
 take-requires : tie.Need-take-requires
-take-requires c κs = let y = yes (c .before .before) (omega arith) in (y .usable .room, y .usable .jobs, omega (arith, y .usable .counts .waiting, y .usable .places), y .block, y .shape, y .some, y .size, y .words)
+take-requires c κs = let y = yes (c .before .before) (omega arith) in (y .usable .room, y .usable .jobs, omega (arith, y .usable .counts .waiting, y .usable .places), omega (arith, y .usable .counts .out, y .usable .window), y .block, y .shape, y .some, y .size, y .words)
 
 accepted-requires : tie.Need-accepted-requires
 accepted-requires c κs = omega arith

@@ -45,12 +45,12 @@ asked = step store (call (request read 0 []) 1000000 (0 ∷ 0 ∷ []) 0) .0
 queued : State
 queued = store ▷ setQueue (0 ∷ [])
 
--- a read of block 0 that the job holds
-kept : State
-kept = step queued (call (request read 0 []) 1000000 (0 ∷ 0 ∷ []) 0) .0
-
 writing : State
 writing = queued ▷ setSent 1 ▷ setOutstanding (cmd write 0 0 0 ∷ [])
+
+-- a read of block 0 that two jobs hold
+kept : State
+kept = step (store ▷ setQueue (0 ∷ 0 ∷ [])) (call (request read 0 []) 1000000 (0 ∷ 0 ∷ []) 0) .0
 
 waits : State
 waits = store ▷ setWaiting (1 ∷ [])

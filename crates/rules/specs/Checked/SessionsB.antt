@@ -8,86 +8,86 @@ use Rattle.rules.specs.Unfold.{model, shape, call, out, outFound}
 
 session3-calls : List Call
 session3-calls =
-    (call (opening (shape 4 2 2 1 4 2)) 509 (61066 ∷ 35847 ∷ 1898 ∷ 45848 ∷ 65529 ∷ []) 0
-    ∷ call (request 2 3 (216 ∷ [])) 509 (64209 ∷ 31985 ∷ 4845 ∷ []) 0
+    (call (opening (shape 4 2 2 1 4 2)) 509 (6650 ∷ 58931 ∷ 12528 ∷ 35152 ∷ []) 0
+    ∷ call (request 2 1 (20 ∷ [])) 509 (36798 ∷ 29094 ∷ 45194 ∷ []) 0
     ∷ call (collect) 509 [] 1
-    ∷ call (request 2 1 (152 ∷ [])) 511 (61355 ∷ 13539 ∷ []) 0
-    ∷ call (turn) 509 (58972 ∷ 39806 ∷ []) 1
-    ∷ call (completion (cmd 2 0 0 0) []) 517 [] 0
-    ∷ call (turn) 509 [] 1
-    ∷ call (completion (cmd 2 0 0 1) []) 511 [] 0
-    ∷ call (turn) 509 (9596 ∷ []) 1
-    ∷ call (completion (cmd 2 1 0 0) []) 510 [] 0
-    ∷ call (turn) 509 [] 1
-    ∷ call (completion (cmd 0 1 0 1) []) 509 [] 0
+    ∷ call (turn) 509 (64127 ∷ 27667 ∷ []) 1
+    ∷ call (turn) 509 (65456 ∷ []) 1
+    ∷ call (request 1 1 []) 509 (38948 ∷ 3466 ∷ []) 0
     ∷ call (completion (cmd 2 1 0 1) []) 509 [] 0
-    ∷ call (turn) 509 [] 1
-    ∷ call (completion (cmd 1 1 0 0) (0 ∷ [])) 509 [] 0
-    ∷ call (collect) 509 [] 1
-    ∷ call (request 2 0 (108 ∷ [])) 509 (65519 ∷ 8742 ∷ 40686 ∷ []) 0
-    ∷ call (turn) 509 [] 1
-    ∷ call (completion (cmd 1 0 0 1) (0 ∷ [])) 509 [] 0
-    ∷ call (collect) 510 [] 1
-    ∷ call (turn) 509 [] 1
-    ∷ call (request 2 0 (6 ∷ [])) 509 (65496 ∷ 65535 ∷ []) 0
-    ∷ call (completion (cmd 1 1 0 1) (216 ∷ [])) 509 [] 0
-    ∷ call (turn) 510 (7925 ∷ 13699 ∷ 2428 ∷ []) 1
-    ∷ call (completion (cmd 2 1 1 0) []) 512 [] 0
-    ∷ call (turn) 509 [] 1
-    ∷ call (turn) 509 (32029 ∷ []) 1
-    ∷ call (completion (cmd 2 1 1 1) []) 517 [] 0
-    ∷ call (turn) 509 [] 1
-    ∷ call (completion (cmd 2 1 1 3) []) 514 [] 0
-    ∷ call (completion (cmd 2 1 1 2) []) 509 [] 0
-    ∷ call (turn) 509 (65535 ∷ []) 1
     ∷ call (completion (cmd 2 1 0 0) []) 509 [] 0
+    ∷ call (collect) 509 [] 1
+    ∷ call (turn) 508 (4526 ∷ 42291 ∷ 65534 ∷ 50798 ∷ 3495 ∷ 33908 ∷ 65399 ∷ 25657 ∷ []) 1
+    ∷ call (turn) 509 (26380 ∷ 19202 ∷ []) 1
+    ∷ call (completion (cmd 2 0 0 0) []) 509 [] 0
+    ∷ call (turn) 509 (63702 ∷ []) 1
+    ∷ call (request 2 3 (195 ∷ [])) 509 (37036 ∷ 65092 ∷ 56756 ∷ []) 0
+    ∷ call (completion (cmd 2 0 0 1) []) 509 [] 0
     ∷ call (turn) 509 [] 1
-    ∷ call (completion (cmd 2 1 0 1) []) 509 [] 0
+    ∷ call (completion (cmd 1 0 0 0) (0 ∷ [])) 515 [] 0
     ∷ call (turn) 509 [] 1
-    ∷ call (completion (cmd 1 1 0 0) (0 ∷ [])) 514 [] 0
-    ∷ call (turn) 509 [] 1
-    ∷ call (turn) 509 (30826 ∷ 65534 ∷ 4228 ∷ []) 2
-    ∷ call (completion (cmd 1 1 1 3) (0 ∷ [])) 510 [] 0
-    ∷ call (completion (cmd 1 0 0 0) (0 ∷ [])) 509 [] 0
-    ∷ call (turn) 509 (65535 ∷ 65535 ∷ 65535 ∷ 65535 ∷ 65535 ∷ 42900 ∷ 54077 ∷ 41135 ∷ []) 1
-    ∷ call (collect) 510 [] 1
+    ∷ call (completion (cmd 1 0 0 1) (20 ∷ [])) 513 [] 0
+    ∷ call (turn) 516 (5700 ∷ 38760 ∷ 65535 ∷ []) 1
     ∷ call (turn) 514 [] 1
     ∷ call (completion (cmd 2 0 1 0) []) 509 [] 0
     ∷ call (completion (cmd 2 0 1 1) []) 509 [] 0
-    ∷ call (turn) 509 (54088 ∷ 34523 ∷ 16020 ∷ 46289 ∷ 35855 ∷ 47907 ∷ 27785 ∷ []) 1
+    ∷ call (turn) 509 [] 1
     ∷ call (completion (cmd 2 0 1 2) []) 509 [] 0
-    ∷ call (request 1 1 []) 509 (39737 ∷ 41650 ∷ 49768 ∷ []) 0
-    ∷ call (turn) 510 (40284 ∷ []) 1
-    ∷ call (completion (cmd 2 0 1 3) []) 511 [] 0
     ∷ call (turn) 509 [] 1
-    ∷ call (turn) 509 (9449 ∷ 37922 ∷ []) 1
+    ∷ call (completion (cmd 2 0 1 3) []) 509 [] 0
     ∷ call (turn) 509 [] 1
-    ∷ call (completion (cmd 2 0 0 1) []) 509 [] 0
+    ∷ call (turn) 508 (55516 ∷ 11906 ∷ 5066 ∷ 13413 ∷ 51826 ∷ 49670 ∷ 34302 ∷ 5909 ∷ []) 1
+    ∷ call (completion (cmd 1 0 1 1) (0 ∷ [])) 509 [] 0
+    ∷ call (collect) 509 [] 1
+    ∷ call (request 1 2 []) 516 (24760 ∷ 65535 ∷ []) 0
+    ∷ call (turn) 509 (59479 ∷ []) 1
+    ∷ call (turn) 512 [] 1
+    ∷ call (completion (cmd 2 0 0 0) (195 ∷ 231 ∷ 255 ∷ 83 ∷ [])) 516 [] 0
+    ∷ call (request 1 1 []) 509 (21511 ∷ 56356 ∷ []) 0
+    ∷ call (request 1 0 []) 509 [] 0
+    ∷ call (completion (cmd 2 0 0 1) []) 513 [] 0
     ∷ call (completion (cmd 2 0 0 0) []) 509 [] 0
     ∷ call (turn) 509 [] 1
+    ∷ call (completion (cmd 1 0 0 0) (195 ∷ [])) 509 [] 0
+    ∷ call (turn) 509 [] 1
+    ∷ call (completion (cmd 1 0 0 1) (0 ∷ [])) 512 [] 0
+    ∷ call (turn) 509 [] 1
+    ∷ call (completion (cmd 1 2 1 1) (158 ∷ [])) 514 [] 0
     ∷ call (turn) 515 [] 1
-    ∷ call (completion (cmd 1 1 1 0) (216 ∷ [])) 509 [] 0
-    ∷ call (turn) 509 (64014 ∷ []) 1
-    ∷ call (completion (cmd 1 1 1 1) (0 ∷ [])) 517 [] 0
-    ∷ call (turn) 513 [] 1
-    ∷ call (completion (cmd 1 1 0 1) (0 ∷ [])) 509 [] 0
-    ∷ call (completion (cmd 1 1 1 2) (152 ∷ [])) 517 [] 0
-    ∷ call (turn) 509 (32235 ∷ 65534 ∷ 14834 ∷ []) 1
-    ∷ call (turn) 510 [] 1
-    ∷ call (completion (cmd 2 1 1 1) []) 509 [] 0
-    ∷ call (completion (cmd 2 1 1 0) []) 509 [] 0
+    ∷ call (completion (cmd 1 0 1 2) (20 ∷ [])) 516 [] 0
+    ∷ call (completion (cmd 1 0 1 0) (225 ∷ [])) 509 [] 0
     ∷ call (turn) 509 [] 1
+    ∷ call (completion (cmd 1 0 1 3) (0 ∷ [])) 509 [] 0
+    ∷ call (request 1 1 (39 ∷ [])) 509 (30444 ∷ 7990 ∷ []) 0
+    ∷ call (turn) 509 (43659 ∷ 41427 ∷ 41229 ∷ []) 1
     ∷ call (turn) 509 [] 1
-    ∷ call (completion (cmd 2 1 1 3) []) 509 [] 0
-    ∷ call (completion (cmd 2 1 1 2) []) 509 [] 0
-    ∷ call (turn) 509 (42496 ∷ 65533 ∷ []) 1
-    ∷ call (completion (cmd 2 1 0 0) []) 509 [] 0
-    ∷ call (turn) 517 [] 1
-    ∷ call (completion (cmd 2 1 0 1) []) 509 [] 0
-    ∷ call (turn) 509 (50999 ∷ []) 1
-    ∷ call (turn) 510 [] 1
-    ∷ call (completion (cmd 1 1 1 1) (152 ∷ [])) 510 [] 0
+    ∷ call (completion (cmd 2 0 1 0) []) 509 [] 0
+    ∷ call (turn) 509 (65535 ∷ []) 1
+    ∷ call (completion (cmd 2 0 1 2) []) 509 [] 0
+    ∷ call (turn) 509 [] 1
+    ∷ call (completion (cmd 2 0 1 1) []) 509 [] 0
+    ∷ call (completion (cmd 2 0 1 3) []) 509 [] 0
+    ∷ call (turn) 510 (65429 ∷ []) 1
+    ∷ call (completion (cmd 1 0 1 0) (0 ∷ [])) 509 [] 0
     ∷ call (collect) 509 [] 1
+    ∷ call (request 2 2 (171 ∷ [])) 509 (39306 ∷ 36979 ∷ 65139 ∷ []) 0
+    ∷ call (turn) 509 [] 1
+    ∷ call (turn) 509 (65535 ∷ []) 1
+    ∷ call (completion (cmd 2 0 0 0) []) 517 [] 0
+    ∷ call (turn) 509 [] 1
+    ∷ call (completion (cmd 2 0 0 1) []) 509 [] 0
+    ∷ call (turn) 509 [] 1
+    ∷ call (completion (cmd 1 0 0 0) (0 ∷ [])) 509 [] 0
+    ∷ call (turn) 509 (63087 ∷ []) 1
+    ∷ call (completion (cmd 1 0 1 2) (20 ∷ [])) 509 [] 0
+    ∷ call (collect) 509 [] 1
+    ∷ call (request 2 0 (167 ∷ [])) 509 (40924 ∷ 65535 ∷ []) 0
+    ∷ call (request 2 0 (100 ∷ [])) 515 (55700 ∷ 65518 ∷ []) 0
+    ∷ call (turn) 509 (30881 ∷ 65528 ∷ 30975 ∷ 45797 ∷ 51967 ∷ 65531 ∷ 65520 ∷ []) 1
+    ∷ call (completion (cmd 1 0 0 1) (0 ∷ [])) 509 [] 0
+    ∷ call (completion (cmd 1 0 0 2) (122 ∷ [])) 509 [] 0
+    ∷ call (turn) 509 [] 1
+    ∷ call (turn) 509 (65503 ∷ []) 1
     ∷ [])
 
 session3-outcomes : List Outcome
@@ -95,83 +95,83 @@ session3-outcomes =
     (out 0 4 (cmd 0 0 0 0) []
     ∷ out 0 2 (cmd 0 0 0 0) []
     ∷ out 0 0 (cmd 0 0 0 0) (0 ∷ [])
+    ∷ out 0 1 (cmd 2 1 0 0) (0 ∷ [])
+    ∷ out 0 0 (cmd 2 1 0 1) (0 ∷ [])
     ∷ out 0 2 (cmd 0 0 0 0) []
+    ∷ out 0 0 (cmd 0 0 0 0) []
+    ∷ out 0 0 (cmd 0 0 0 0) []
+    ∷ outFound 0 0 (cmd 0 0 0 0) (20 ∷ []) foundCache
+    ∷ out 2 0 (cmd 0 0 0 0) []
+    ∷ out 0 1 (cmd 2 0 0 0) (0 ∷ [])
+    ∷ out 0 0 (cmd 0 0 0 0) []
+    ∷ out 0 0 (cmd 2 0 0 1) (20 ∷ [])
+    ∷ out 0 2 (cmd 0 0 0 0) []
+    ∷ out 0 0 (cmd 0 0 0 0) []
+    ∷ out 0 0 (cmd 1 0 0 0) []
+    ∷ out 0 0 (cmd 0 0 0 0) []
+    ∷ out 0 0 (cmd 1 0 0 1) []
+    ∷ out 0 0 (cmd 0 0 0 0) []
+    ∷ out 0 3 (cmd 2 0 1 0) (0 ∷ [])
+    ∷ out 0 0 (cmd 2 0 1 1) (0 ∷ [])
+    ∷ out 0 0 (cmd 0 0 0 0) []
+    ∷ out 0 0 (cmd 0 0 0 0) []
+    ∷ out 0 0 (cmd 2 0 1 2) (20 ∷ [])
+    ∷ out 0 0 (cmd 0 0 0 0) []
+    ∷ out 0 0 (cmd 2 0 1 3) (0 ∷ [])
+    ∷ out 0 0 (cmd 0 0 0 0) []
+    ∷ out 0 0 (cmd 1 0 1 1) []
+    ∷ out 2 0 (cmd 0 0 0 0) []
+    ∷ out 0 0 (cmd 0 0 0 0) []
+    ∷ out 0 0 (cmd 0 0 0 0) (0 ∷ [])
+    ∷ out 0 2 (cmd 0 0 0 0) []
+    ∷ out 0 1 (cmd 2 0 0 0) (195 ∷ [])
+    ∷ out 0 0 (cmd 2 0 0 1) (0 ∷ [])
+    ∷ out 12 0 (cmd 0 0 0 0) []
+    ∷ out 4 0 (cmd 0 0 0 0) []
+    ∷ out 4 0 (cmd 0 0 0 0) []
+    ∷ out 0 0 (cmd 0 0 0 0) []
+    ∷ out 0 0 (cmd 0 0 0 0) []
+    ∷ out 0 0 (cmd 1 0 0 0) []
+    ∷ out 0 0 (cmd 0 0 0 0) []
+    ∷ out 0 0 (cmd 1 0 0 1) []
+    ∷ out 0 0 (cmd 0 0 0 0) []
+    ∷ out 0 0 (cmd 1 0 1 0) []
+    ∷ out 11 0 (cmd 0 0 0 0) []
+    ∷ out 0 0 (cmd 1 0 1 2) []
+    ∷ out 0 0 (cmd 0 0 0 0) []
+    ∷ out 0 0 (cmd 0 0 0 0) []
+    ∷ out 0 0 (cmd 1 0 1 3) []
+    ∷ out 0 0 (cmd 0 0 0 0) []
+    ∷ out 4 0 (cmd 0 0 0 0) []
+    ∷ out 0 3 (cmd 2 0 1 0) (0 ∷ [])
+    ∷ out 0 0 (cmd 2 0 1 1) (195 ∷ [])
+    ∷ out 0 0 (cmd 0 0 0 0) []
+    ∷ out 0 0 (cmd 2 0 1 2) (20 ∷ [])
+    ∷ out 0 0 (cmd 0 0 0 0) []
+    ∷ out 0 0 (cmd 2 0 1 3) (0 ∷ [])
+    ∷ out 0 0 (cmd 0 0 0 0) []
+    ∷ out 0 0 (cmd 0 0 0 0) []
+    ∷ out 0 0 (cmd 1 0 1 0) []
+    ∷ out 0 0 (cmd 0 0 0 0) []
+    ∷ out 0 0 (cmd 0 0 0 0) (0 ∷ [])
+    ∷ out 0 2 (cmd 0 0 0 0) []
+    ∷ out 3 0 (cmd 0 0 0 0) []
     ∷ out 0 1 (cmd 2 0 0 0) (0 ∷ [])
     ∷ out 0 0 (cmd 0 0 0 0) []
     ∷ out 0 0 (cmd 2 0 0 1) (0 ∷ [])
     ∷ out 0 0 (cmd 0 0 0 0) []
-    ∷ out 0 1 (cmd 2 1 0 0) (0 ∷ [])
-    ∷ out 0 0 (cmd 0 0 0 0) []
-    ∷ out 0 0 (cmd 2 1 0 1) (216 ∷ [])
-    ∷ out 2 0 (cmd 0 0 0 0) []
-    ∷ out 0 0 (cmd 0 0 0 0) []
-    ∷ out 0 0 (cmd 1 1 0 0) []
-    ∷ out 0 0 (cmd 0 0 0 0) []
-    ∷ out 0 0 (cmd 0 0 0 0) (0 ∷ [])
-    ∷ out 0 2 (cmd 0 0 0 0) []
-    ∷ out 0 0 (cmd 1 0 0 1) []
-    ∷ out 0 0 (cmd 0 0 0 0) []
-    ∷ out 0 0 (cmd 0 0 0 0) (0 ∷ [])
-    ∷ out 0 0 (cmd 1 1 0 1) []
-    ∷ out 0 2 (cmd 0 0 0 0) []
-    ∷ out 0 0 (cmd 0 0 0 0) []
-    ∷ out 0 3 (cmd 2 1 1 0) (216 ∷ [])
-    ∷ out 0 0 (cmd 0 0 0 0) []
-    ∷ out 0 0 (cmd 2 1 1 1) (0 ∷ [])
-    ∷ out 0 0 (cmd 2 1 1 2) (152 ∷ [])
-    ∷ out 0 0 (cmd 0 0 0 0) []
-    ∷ out 0 0 (cmd 2 1 1 3) (0 ∷ [])
-    ∷ out 0 0 (cmd 0 0 0 0) []
-    ∷ out 0 0 (cmd 0 0 0 0) []
-    ∷ out 0 1 (cmd 2 1 0 0) (0 ∷ [])
-    ∷ out 0 0 (cmd 0 0 0 0) []
-    ∷ out 0 0 (cmd 2 1 0 1) (0 ∷ [])
-    ∷ out 0 0 (cmd 0 0 0 0) []
-    ∷ out 0 0 (cmd 1 1 0 0) []
-    ∷ out 0 0 (cmd 0 0 0 0) []
-    ∷ out 0 0 (cmd 1 1 1 3) []
     ∷ out 0 0 (cmd 1 0 0 0) []
     ∷ out 0 0 (cmd 0 0 0 0) []
+    ∷ out 0 0 (cmd 1 0 1 2) []
     ∷ out 0 0 (cmd 0 0 0 0) []
-    ∷ out 0 7 (cmd 2 0 1 0) (0 ∷ [])
-    ∷ outFound 0 0 (cmd 0 0 0 0) (108 ∷ []) foundCache
-    ∷ out 0 0 (cmd 2 0 1 1) (0 ∷ [])
-    ∷ out 0 0 (cmd 0 0 0 0) []
-    ∷ out 0 0 (cmd 0 0 0 0) []
-    ∷ out 0 0 (cmd 2 0 1 2) (0 ∷ [])
-    ∷ out 0 0 (cmd 0 0 0 0) []
+    ∷ outFound 0 0 (cmd 0 0 0 0) (0 ∷ []) foundCache
     ∷ out 0 2 (cmd 0 0 0 0) []
-    ∷ out 0 0 (cmd 2 0 1 3) (0 ∷ [])
+    ∷ out 4 0 (cmd 0 0 0 0) []
+    ∷ out 0 0 (cmd 1 0 0 1) []
     ∷ out 0 0 (cmd 0 0 0 0) []
-    ∷ out 3 0 (cmd 0 0 0 0) []
-    ∷ out 0 1 (cmd 2 0 0 0) (6 ∷ [])
-    ∷ out 0 0 (cmd 2 0 0 1) (0 ∷ [])
-    ∷ out 0 0 (cmd 0 0 0 0) []
-    ∷ out 0 0 (cmd 0 0 0 0) []
-    ∷ out 0 0 (cmd 1 1 0 1) []
-    ∷ out 0 0 (cmd 1 1 1 0) []
-    ∷ out 0 0 (cmd 0 0 0 0) []
-    ∷ out 0 0 (cmd 1 1 1 1) []
-    ∷ out 0 0 (cmd 0 0 0 0) []
-    ∷ out 0 0 (cmd 1 1 1 2) []
-    ∷ out 0 0 (cmd 0 0 0 0) []
-    ∷ out 0 0 (cmd 0 0 0 0) []
-    ∷ out 0 3 (cmd 2 1 1 0) (216 ∷ [])
-    ∷ out 0 0 (cmd 2 1 1 1) (152 ∷ [])
-    ∷ out 0 0 (cmd 0 0 0 0) []
-    ∷ out 0 0 (cmd 0 0 0 0) []
-    ∷ out 0 0 (cmd 2 1 1 2) (0 ∷ [])
-    ∷ out 0 0 (cmd 2 1 1 3) (0 ∷ [])
-    ∷ out 0 0 (cmd 0 0 0 0) []
-    ∷ out 0 0 (cmd 0 0 0 0) []
-    ∷ out 0 1 (cmd 2 1 0 0) (0 ∷ [])
-    ∷ out 0 0 (cmd 0 0 0 0) []
-    ∷ out 0 0 (cmd 2 1 0 1) (0 ∷ [])
-    ∷ out 0 0 (cmd 0 0 0 0) []
-    ∷ out 0 0 (cmd 1 1 0 1) []
-    ∷ out 0 0 (cmd 1 1 1 1) []
-    ∷ out 0 0 (cmd 0 0 0 0) []
-    ∷ out 14 0 (cmd 0 0 0 0) []
+    ∷ out 11 0 (cmd 0 0 0 0) []
+    ∷ out 0 0 (cmd 1 0 1 1) []
+    ∷ out 0 0 (cmd 1 0 1 3) []
     ∷ [])
 
 session3 : run closed session3-calls ≡ session3-outcomes
@@ -180,169 +180,169 @@ session3 = refl
 
 session4-calls : List Call
 session4-calls =
-    (call (opening (shape 3 2 2 2 2 3)) 506 (35426 ∷ 58816 ∷ 37887 ∷ 24326 ∷ []) 0
-    ∷ call (request 2 0 (220 ∷ 60 ∷ [])) 506 (36200 ∷ 20710 ∷ []) 0
-    ∷ call (collect) 506 [] 2
-    ∷ call (request 2 0 (175 ∷ 211 ∷ [])) 506 (65500 ∷ 20033 ∷ 12817 ∷ []) 0
-    ∷ call (turn) 506 (65535 ∷ []) 2
-    ∷ call (completion (cmd 2 0 0 0) []) 507 [] 0
-    ∷ call (turn) 506 [] 2
+    (call (opening (shape 3 2 2 2 2 3)) 506 (65534 ∷ 15947 ∷ 27615 ∷ []) 0
+    ∷ call (request 3 2 (54 ∷ 90 ∷ [])) 507 (44546 ∷ 65535 ∷ []) 0
+    ∷ call (request 2 0 (164 ∷ 229 ∷ [])) 506 (33862 ∷ 58436 ∷ []) 0
+    ∷ call (collect) 508 [] 2
+    ∷ call (turn) 514 (57899 ∷ 50630 ∷ []) 2
+    ∷ call (completion (cmd 2 0 0 0) []) 510 [] 0
+    ∷ call (turn) 514 [] 2
     ∷ call (completion (cmd 2 0 0 1) []) 506 [] 0
     ∷ call (turn) 506 [] 2
-    ∷ call (turn) 509 [] 2
-    ∷ call (completion (cmd 1 0 0 1) (0 ∷ 0 ∷ [])) 508 [] 0
-    ∷ call (completion (cmd 1 0 0 0) (220 ∷ 60 ∷ [])) 506 [] 0
-    ∷ call (turn) 510 (65438 ∷ 65483 ∷ 60427 ∷ 43467 ∷ 25180 ∷ 65433 ∷ 32347 ∷ []) 2
-    ∷ call (turn) 506 (26221 ∷ []) 2
+    ∷ call (completion (cmd 1 0 0 0) (164 ∷ 229 ∷ [])) 506 [] 0
+    ∷ call (request 2 2 (64 ∷ 185 ∷ [])) 508 (33344 ∷ 49759 ∷ 27665 ∷ []) 0
+    ∷ call (turn) 506 (60076 ∷ []) 2
+    ∷ call (completion (cmd 1 0 0 1) (0 ∷ 0 ∷ [])) 509 [] 0
+    ∷ call (turn) 506 (42201 ∷ 65535 ∷ 65535 ∷ 3768 ∷ 48670 ∷ []) 2
+    ∷ call (turn) 506 [] 2
+    ∷ call (turn) 506 [] 2
+    ∷ call (collect) 506 [] 2
+    ∷ call (completion (cmd 1 1 0 1) (255 ∷ 235 ∷ [])) 506 [] 0
+    ∷ call (completion (cmd 2 0 1 1) []) 511 [] 0
+    ∷ call (completion (cmd 2 0 1 2) []) 506 [] 0
+    ∷ call (request 2 0 (30 ∷ 234 ∷ [])) 506 (50500 ∷ 4396 ∷ []) 0
+    ∷ call (turn) 506 [] 2
+    ∷ call (completion (cmd 2 0 1 3) []) 506 [] 0
     ∷ call (completion (cmd 2 0 1 0) []) 506 [] 0
     ∷ call (turn) 506 [] 2
-    ∷ call (turn) 506 [] 2
-    ∷ call (completion (cmd 2 0 1 1) []) 509 [] 0
-    ∷ call (completion (cmd 2 0 1 2) []) 506 [] 0
     ∷ call (completion (cmd 2 0 1 3) []) 506 [] 0
-    ∷ call (turn) 510 (51578 ∷ []) 2
-    ∷ call (completion (cmd 1 0 1 0) (220 ∷ 60 ∷ [])) 506 [] 0
+    ∷ call (completion (cmd 1 0 1 3) (164 ∷ 229 ∷ [])) 514 [] 0
     ∷ call (collect) 506 [] 2
-    ∷ call (turn) 506 (65535 ∷ []) 2
-    ∷ call (completion (cmd 2 0 0 0) []) 506 [] 0
-    ∷ call (request 2 0 (108 ∷ 7 ∷ [])) 506 [] 0
-    ∷ call (request 2 1 (107 ∷ 27 ∷ [])) 506 (45184 ∷ 16688 ∷ []) 0
+    ∷ call (request 2 1 (60 ∷ 14 ∷ [])) 506 (8480 ∷ 40355 ∷ []) 0
+    ∷ call (request 2 2 (212 ∷ 31 ∷ [])) 506 (57566 ∷ 59589 ∷ []) 0
+    ∷ call (turn) 513 (65535 ∷ 17083 ∷ []) 2
     ∷ call (turn) 506 [] 2
-    ∷ call (completion (cmd 2 0 0 1) []) 506 [] 0
+    ∷ call (completion (cmd 2 1 0 1) []) 506 [] 0
+    ∷ call (completion (cmd 0 1 0 0) []) 506 [] 0
+    ∷ call (completion (cmd 2 1 0 0) []) 509 [] 0
+    ∷ call (turn) 506 [] 2
+    ∷ call (completion (cmd 1 1 0 0) (0 ∷ 0 ∷ [])) 506 [] 0
+    ∷ call (turn) 506 (65535 ∷ []) 2
+    ∷ call (completion (cmd 1 1 0 1) (0 ∷ 0 ∷ [])) 506 [] 0
+    ∷ call (turn) 506 (17841 ∷ 12016 ∷ 2906 ∷ []) 2
+    ∷ call (turn) 506 (44338 ∷ []) 2
+    ∷ call (completion (cmd 2 1 1 1) []) 506 [] 0
+    ∷ call (completion (cmd 2 1 1 0) []) 506 [] 0
+    ∷ call (turn) 508 [] 2
+    ∷ call (completion (cmd 2 1 1 2) []) 506 [] 0
+    ∷ call (turn) 506 [] 2
+    ∷ call (completion (cmd 2 1 1 3) []) 506 [] 0
+    ∷ call (collect) 506 [] 1
     ∷ call (turn) 509 [] 2
+    ∷ call (turn) 506 (12485 ∷ []) 2
+    ∷ call (completion (cmd 0 0 0 0) []) 512 [] 0
+    ∷ call (turn) 509 [] 2
+    ∷ call (completion (cmd 2 0 0 1) []) 506 [] 0
+    ∷ call (collect) 506 [] 2
+    ∷ call (completion (cmd 2 0 0 0) []) 506 [] 0
+    ∷ call (turn) 511 (1460 ∷ []) 2
+    ∷ call (completion (cmd 1 0 0 0) (64 ∷ 185 ∷ [])) 506 [] 0
+    ∷ call (collect) 506 [] 2
+    ∷ call (turn) 506 [] 2
+    ∷ call (turn) 506 [] 2
     ∷ call (completion (cmd 1 0 0 1) (0 ∷ 0 ∷ [])) 506 [] 0
+    ∷ call (collect) 506 [] 2
+    ∷ call (turn) 506 [] 2
+    ∷ call (completion (cmd 1 0 1 0) (0 ∷ 0 ∷ [])) 506 [] 0
+    ∷ call (completion (cmd 1 0 1 2) (0 ∷ 0 ∷ [])) 506 [] 0
     ∷ call (turn) 506 [] 2
     ∷ call (collect) 506 [] 2
     ∷ call (completion (cmd 1 0 1 1) (0 ∷ 0 ∷ [])) 506 [] 0
-    ∷ call (collect) 508 [] 2
-    ∷ call (request 2 2 (221 ∷ 20 ∷ [])) 506 (63762 ∷ 63817 ∷ []) 0
-    ∷ call (turn) 506 (34336 ∷ []) 2
-    ∷ call (collect) 506 [] 2
-    ∷ call (turn) 506 [] 2
-    ∷ call (completion (cmd 2 1 0 0) []) 506 [] 0
-    ∷ call (completion (cmd 2 1 0 1) []) 512 [] 0
-    ∷ call (turn) 506 [] 2
-    ∷ call (completion (cmd 1 1 0 1) (0 ∷ 0 ∷ [])) 506 [] 0
-    ∷ call (turn) 506 [] 2
-    ∷ call (turn) 506 (65532 ∷ []) 2
-    ∷ call (collect) 507 [] 2
-    ∷ call (request 2 2 (108 ∷ 254 ∷ [])) 511 (59172 ∷ 23809 ∷ []) 0
-    ∷ call (request 2 2 (144 ∷ [])) 506 (29260 ∷ 52653 ∷ []) 0
-    ∷ call (turn) 506 [] 2
-    ∷ call (completion (cmd 1 0 1 3) (0 ∷ 0 ∷ [])) 508 [] 0
-    ∷ call (completion (cmd 1 0 0 0) (175 ∷ 211 ∷ [])) 506 [] 0
-    ∷ call (completion (cmd 1 0 1 2) (0 ∷ 0 ∷ [])) 506 [] 0
-    ∷ call (turn) 506 (65535 ∷ 65534 ∷ 28912 ∷ []) 2
-    ∷ call (turn) 506 [] 2
-    ∷ call (request 1 4 []) 512 (22316 ∷ 3283 ∷ []) 0
+    ∷ call (turn) 506 (53892 ∷ 65535 ∷ 444 ∷ 42055 ∷ []) 2
     ∷ call (completion (cmd 2 0 1 0) []) 506 [] 0
+    ∷ call (request 1 2 []) 506 (65517 ∷ 7897 ∷ []) 0
+    ∷ call (turn) 509 [] 2
     ∷ call (completion (cmd 2 0 1 1) []) 506 [] 0
-    ∷ call (turn) 506 (21901 ∷ []) 2
+    ∷ call (request 3 0 (196 ∷ 164 ∷ [])) 506 (30272 ∷ 50782 ∷ []) 0
+    ∷ call (turn) 506 (6131 ∷ []) 2
+    ∷ call (completion (cmd 2 0 1 2) []) 506 [] 0
     ∷ call (turn) 506 [] 2
     ∷ call (completion (cmd 2 0 1 3) []) 506 [] 0
-    ∷ call (completion (cmd 2 0 1 2) []) 513 [] 0
-    ∷ call (turn) 511 (65535 ∷ []) 2
-    ∷ call (completion (cmd 2 0 0 0) []) 506 [] 0
-    ∷ call (collect) 513 [] 1
-    ∷ call (turn) 507 [] 2
-    ∷ call (completion (cmd 2 0 0 1) []) 506 [] 0
-    ∷ call (turn) 506 [] 2
-    ∷ call (turn) 510 (16146 ∷ []) 2
-    ∷ call (request 2 0 (251 ∷ [])) 506 (62621 ∷ 36387 ∷ []) 0
-    ∷ call (completion (cmd 1 0 1 2) (0 ∷ 0 ∷ [])) 511 [] 0
-    ∷ call (completion (cmd 1 0 0 0) (67 ∷ 114 ∷ [])) 506 [] 0
-    ∷ call (turn) 514 [] 2
-    ∷ call (completion (cmd 1 1 0 0) (0 ∷ 0 ∷ [])) 506 [] 0
-    ∷ call (turn) 506 (65535 ∷ 65535 ∷ 65534 ∷ 20421 ∷ []) 2
-    ∷ call (turn) 509 [] 2
-    ∷ call (collect) 506 [] 2
-    ∷ call (request 2 2 (79 ∷ 31 ∷ [])) 506 (5319 ∷ 3896 ∷ []) 0
-    ∷ call (turn) 506 [] 2
-    ∷ call (completion (cmd 2 1 1 0) []) 506 [] 0
-    ∷ call (completion (cmd 2 1 1 2) []) 506 [] 0
+    ∷ call (turn) 506 (65535 ∷ []) 2
+    ∷ call (completion (cmd 1 0 1 1) (0 ∷ 0 ∷ [])) 511 [] 0
     ∷ [])
 
 session4-outcomes : List Outcome
 session4-outcomes =
     (out 0 3 (cmd 0 0 0 0) []
+    ∷ out 2 0 (cmd 0 0 0 0) []
     ∷ out 0 2 (cmd 0 0 0 0) []
     ∷ out 0 0 (cmd 0 0 0 0) (0 ∷ 0 ∷ [])
-    ∷ out 0 2 (cmd 0 0 0 0) []
-    ∷ out 0 1 (cmd 2 0 0 0) (220 ∷ 60 ∷ [])
+    ∷ out 0 1 (cmd 2 0 0 0) (164 ∷ 229 ∷ [])
     ∷ out 0 0 (cmd 0 0 0 0) []
     ∷ out 0 0 (cmd 2 0 0 1) (0 ∷ 0 ∷ [])
     ∷ out 0 0 (cmd 0 0 0 0) []
     ∷ out 0 0 (cmd 1 0 0 0) []
-    ∷ out 0 0 (cmd 1 0 0 1) []
     ∷ out 0 0 (cmd 0 0 0 0) []
-    ∷ out 0 0 (cmd 0 0 0 0) []
-    ∷ out 0 3 (cmd 2 0 1 0) (220 ∷ 60 ∷ [])
-    ∷ out 0 0 (cmd 2 0 1 1) (0 ∷ 0 ∷ [])
-    ∷ out 0 0 (cmd 0 0 0 0) []
-    ∷ out 0 0 (cmd 2 0 1 2) (0 ∷ 0 ∷ [])
-    ∷ out 0 0 (cmd 2 0 1 3) (0 ∷ 0 ∷ [])
-    ∷ out 0 0 (cmd 0 0 0 0) []
-    ∷ out 0 0 (cmd 0 0 0 0) []
-    ∷ out 0 0 (cmd 0 0 0 0) []
-    ∷ out 0 0 (cmd 1 0 1 0) []
-    ∷ out 0 0 (cmd 0 0 0 0) []
-    ∷ outFound 0 0 (cmd 0 0 0 0) (220 ∷ 60 ∷ []) (foundLevel 1)
-    ∷ out 0 1 (cmd 2 0 0 0) (175 ∷ 211 ∷ [])
-    ∷ out 0 0 (cmd 0 0 0 0) []
-    ∷ out 3 0 (cmd 0 0 0 0) []
     ∷ out 0 2 (cmd 0 0 0 0) []
-    ∷ out 0 0 (cmd 2 0 0 1) (0 ∷ 0 ∷ [])
-    ∷ out 0 0 (cmd 0 0 0 0) []
     ∷ out 0 0 (cmd 1 0 0 1) []
     ∷ out 0 0 (cmd 0 0 0 0) []
-    ∷ out 0 0 (cmd 1 0 1 1) []
-    ∷ out 14 0 (cmd 0 0 0 0) []
-    ∷ out 0 0 (cmd 0 0 0 0) []
+    ∷ out 0 5 (cmd 2 0 1 0) (0 ∷ 0 ∷ [])
+    ∷ out 0 0 (cmd 2 0 1 1) (0 ∷ 0 ∷ [])
+    ∷ out 0 0 (cmd 2 0 1 2) (0 ∷ 0 ∷ [])
     ∷ out 0 0 (cmd 0 0 0 0) (0 ∷ 0 ∷ [])
+    ∷ out 11 0 (cmd 0 0 0 0) []
+    ∷ out 0 0 (cmd 0 0 0 0) []
+    ∷ out 0 0 (cmd 0 0 0 0) []
+    ∷ out 0 2 (cmd 0 0 0 0) []
+    ∷ out 0 0 (cmd 2 0 1 3) (164 ∷ 229 ∷ [])
+    ∷ out 0 0 (cmd 0 0 0 0) []
+    ∷ out 0 0 (cmd 0 0 0 0) []
+    ∷ out 0 0 (cmd 1 0 1 3) []
+    ∷ out 11 0 (cmd 0 0 0 0) []
+    ∷ out 0 0 (cmd 0 0 0 0) []
+    ∷ outFound 0 0 (cmd 0 0 0 0) (164 ∷ 229 ∷ []) (foundLevel 1)
+    ∷ out 8 0 (cmd 0 0 0 0) []
     ∷ out 0 2 (cmd 0 0 0 0) []
     ∷ out 0 1 (cmd 2 1 0 0) (0 ∷ 0 ∷ [])
-    ∷ out 14 0 (cmd 0 0 0 0) []
     ∷ out 0 0 (cmd 2 1 0 1) (0 ∷ 0 ∷ [])
     ∷ out 0 0 (cmd 0 0 0 0) []
-    ∷ out 0 0 (cmd 0 0 0 0) []
-    ∷ out 0 0 (cmd 1 1 0 1) []
-    ∷ out 0 0 (cmd 0 0 0 0) []
-    ∷ out 0 0 (cmd 1 0 0 0) []
-    ∷ out 0 0 (cmd 1 0 1 2) []
-    ∷ out 0 0 (cmd 0 0 0 0) (0 ∷ 0 ∷ [])
-    ∷ out 0 2 (cmd 0 0 0 0) []
-    ∷ out 4 0 (cmd 0 0 0 0) []
-    ∷ out 0 0 (cmd 1 0 1 3) []
-    ∷ out 0 0 (cmd 0 0 0 0) []
-    ∷ out 0 0 (cmd 0 0 0 0) []
-    ∷ out 0 0 (cmd 0 0 0 0) []
-    ∷ out 0 3 (cmd 2 0 1 0) (107 ∷ 27 ∷ [])
-    ∷ out 0 0 (cmd 2 0 1 1) (175 ∷ 211 ∷ [])
-    ∷ out 4 0 (cmd 0 0 0 0) []
-    ∷ out 0 0 (cmd 0 0 0 0) []
-    ∷ out 0 0 (cmd 0 0 0 0) []
-    ∷ out 0 0 (cmd 2 0 1 2) (0 ∷ 0 ∷ [])
-    ∷ out 0 0 (cmd 2 0 1 3) (0 ∷ 0 ∷ [])
-    ∷ out 0 0 (cmd 0 0 0 0) []
-    ∷ out 0 0 (cmd 0 0 0 0) []
-    ∷ out 0 1 (cmd 2 0 0 0) (0 ∷ 0 ∷ [])
-    ∷ out 0 0 (cmd 0 0 0 0) []
-    ∷ out 14 0 (cmd 0 0 0 0) []
-    ∷ out 0 0 (cmd 2 0 0 1) (0 ∷ 0 ∷ [])
-    ∷ out 0 0 (cmd 0 0 0 0) []
-    ∷ out 0 0 (cmd 1 0 0 0) []
-    ∷ out 0 0 (cmd 1 0 1 2) []
-    ∷ out 4 0 (cmd 0 0 0 0) []
-    ∷ out 0 0 (cmd 0 0 0 0) []
+    ∷ out 2 0 (cmd 0 0 0 0) []
     ∷ out 0 0 (cmd 0 0 0 0) []
     ∷ out 0 0 (cmd 1 1 0 0) []
     ∷ out 0 0 (cmd 0 0 0 0) []
-    ∷ out 0 4 (cmd 2 1 1 0) (0 ∷ 0 ∷ [])
+    ∷ out 0 0 (cmd 1 1 0 1) []
+    ∷ out 0 0 (cmd 0 0 0 0) []
+    ∷ out 0 3 (cmd 2 1 1 0) (0 ∷ 0 ∷ [])
     ∷ out 0 0 (cmd 2 1 1 1) (0 ∷ 0 ∷ [])
-    ∷ outFound 0 0 (cmd 0 0 0 0) (221 ∷ 20 ∷ []) foundCache
-    ∷ out 0 2 (cmd 0 0 0 0) []
+    ∷ out 0 0 (cmd 0 0 0 0) []
+    ∷ out 0 0 (cmd 0 0 0 0) []
     ∷ out 0 0 (cmd 2 1 1 2) (0 ∷ 0 ∷ [])
     ∷ out 0 0 (cmd 0 0 0 0) []
+    ∷ out 0 0 (cmd 2 1 1 3) (0 ∷ 0 ∷ [])
+    ∷ out 0 0 (cmd 0 0 0 0) []
+    ∷ out 14 0 (cmd 0 0 0 0) []
+    ∷ out 3 0 (cmd 0 0 0 0) []
+    ∷ out 0 1 (cmd 2 0 0 0) (64 ∷ 185 ∷ [])
+    ∷ out 2 0 (cmd 0 0 0 0) []
+    ∷ out 0 0 (cmd 2 0 0 1) (0 ∷ 0 ∷ [])
+    ∷ out 0 0 (cmd 0 0 0 0) []
+    ∷ out 14 0 (cmd 0 0 0 0) []
+    ∷ out 0 0 (cmd 0 0 0 0) []
+    ∷ out 0 0 (cmd 1 0 0 0) []
+    ∷ out 0 0 (cmd 0 0 0 0) []
+    ∷ out 14 0 (cmd 0 0 0 0) []
+    ∷ out 0 0 (cmd 1 0 1 2) []
+    ∷ out 0 0 (cmd 1 0 0 1) []
+    ∷ out 0 0 (cmd 0 0 0 0) []
+    ∷ out 14 0 (cmd 0 0 0 0) []
+    ∷ out 0 0 (cmd 1 0 1 0) []
+    ∷ out 0 0 (cmd 0 0 0 0) []
+    ∷ out 0 0 (cmd 0 0 0 0) []
+    ∷ out 0 0 (cmd 1 0 1 1) []
+    ∷ outFound 0 0 (cmd 0 0 0 0) (64 ∷ 185 ∷ []) (foundLevel 0)
+    ∷ out 0 0 (cmd 0 0 0 0) []
+    ∷ out 0 4 (cmd 2 0 1 0) (0 ∷ 0 ∷ [])
+    ∷ out 0 0 (cmd 0 0 0 0) []
+    ∷ out 0 2 (cmd 0 0 0 0) []
+    ∷ out 0 0 (cmd 2 0 1 1) (0 ∷ 0 ∷ [])
+    ∷ out 0 0 (cmd 0 0 0 0) []
+    ∷ out 2 0 (cmd 0 0 0 0) []
+    ∷ out 0 0 (cmd 2 0 1 2) (30 ∷ 234 ∷ [])
+    ∷ out 0 0 (cmd 0 0 0 0) []
+    ∷ out 0 0 (cmd 2 0 1 3) (0 ∷ 0 ∷ [])
+    ∷ out 0 0 (cmd 0 0 0 0) []
+    ∷ out 0 0 (cmd 1 0 1 1) []
     ∷ out 0 0 (cmd 0 0 0 0) []
     ∷ [])
 

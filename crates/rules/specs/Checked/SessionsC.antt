@@ -8,178 +8,178 @@ use Rattle.rules.specs.Unfold.{model, shape, call, out, outFound}
 
 session5-calls : List Call
 session5-calls =
-    (call (opening (shape 4 1 3 1 3 3)) 515 (65534 ∷ 65534 ∷ 65515 ∷ 63148 ∷ []) 0
-    ∷ call (request 2 1 (128 ∷ [])) 509 (44405 ∷ 8006 ∷ 55446 ∷ []) 0
+    (call (opening (shape 4 1 3 1 3 0)) 509 (4721 ∷ 38390 ∷ 49447 ∷ 64069 ∷ []) 0
+    ∷ call (request 1 0 []) 509 (33989 ∷ 44154 ∷ 65534 ∷ []) 0
+    ∷ call (opening (shape 4 1 3 1 3 3)) 509 (63588 ∷ 8786 ∷ 48162 ∷ []) 0
+    ∷ call (opening (shape 4 1 3 1 3 3)) 508 (13845 ∷ 53581 ∷ 65443 ∷ 17002 ∷ []) 1
     ∷ call (collect) 509 [] 1
-    ∷ call (turn) 509 (212 ∷ []) 1
-    ∷ call (turn) 509 [] 1
-    ∷ call (request 2 0 (246 ∷ [])) 509 (3573 ∷ 38488 ∷ 58963 ∷ []) 0
+    ∷ call (opening (shape 4 1 3 1 3 3)) 509 (43448 ∷ 38217 ∷ 36019 ∷ 60847 ∷ []) 0
+    ∷ call (turn) 509 (65504 ∷ 65505 ∷ 61767 ∷ 54643 ∷ 45822 ∷ 65490 ∷ 11224 ∷ 65518 ∷ 24755 ∷ 29396 ∷ 21757 ∷ 16590 ∷ 37529 ∷ 11558 ∷ 21349 ∷ []) 1
+    ∷ call (request 2 3 (41 ∷ [])) 509 (12623 ∷ 28737 ∷ []) 0
+    ∷ call (collect) 514 [] 1
+    ∷ call (turn) 509 (62022 ∷ 65533 ∷ []) 1
     ∷ call (completion (cmd 2 0 0 0) []) 509 [] 0
+    ∷ call (request 2 2 (78 ∷ [])) 510 (30266 ∷ 65535 ∷ 18520 ∷ []) 0
+    ∷ call (turn) 509 [] 1
+    ∷ call (completion (cmd 2 0 0 1) []) 509 [] 0
+    ∷ call (turn) 513 [] 1
+    ∷ call (collect) 509 [] 1
+    ∷ call (turn) 509 [] 1
+    ∷ call (completion (cmd 1 0 0 0) (19 ∷ [])) 509 [] 0
+    ∷ call (completion (cmd 1 0 0 1) []) 509 [] 0
+    ∷ call (completion (cmd 1 0 0 1) (41 ∷ [])) 509 [] 0
+    ∷ call (collect) 509 [] 1
+    ∷ call (turn) 512 (65535 ∷ 65534 ∷ 16909 ∷ []) 1
+    ∷ call (request 2 1 (31 ∷ [])) 509 (27556 ∷ 28657 ∷ []) 0
+    ∷ call (turn) 509 [] 1
+    ∷ call (completion (cmd 2 0 1 1) []) 509 [] 0
+    ∷ call (turn) 509 [] 1
+    ∷ call (completion (cmd 2 0 1 2) []) 509 [] 0
+    ∷ call (turn) 509 [] 1
+    ∷ call (completion (cmd 2 0 1 0) []) 509 [] 0
+    ∷ call (completion (cmd 2 0 1 3) []) 509 [] 0
+    ∷ call (turn) 515 (65535 ∷ []) 1
+    ∷ call (completion (cmd 2 0 0 0) []) 509 [] 0
+    ∷ call (collect) 509 [] 0
+    ∷ call (turn) 509 (65535 ∷ []) 1
     ∷ call (completion (cmd 2 0 0 1) []) 509 [] 0
     ∷ call (turn) 509 [] 1
-    ∷ call (completion (cmd 1 0 0 0) (0 ∷ [])) 509 [] 0
+    ∷ call (turn) 517 [] 1
+    ∷ call (completion (cmd 1 0 1 0) (227 ∷ [])) 509 [] 0
+    ∷ call (completion (cmd 1 0 0 0) (0 ∷ [])) 512 [] 0
     ∷ call (turn) 509 [] 1
-    ∷ call (completion (cmd 1 0 0 1) (34 ∷ [])) 509 [] 0
-    ∷ call (turn) 509 (62522 ∷ 10290 ∷ 25269 ∷ []) 1
-    ∷ call (turn) 509 [] 1
-    ∷ call (turn) 509 (313 ∷ []) 1
-    ∷ call (completion (cmd 2 0 1 2) []) 509 [] 0
-    ∷ call (completion (cmd 2 0 1 1) []) 509 [] 0
-    ∷ call (turn) 513 [] 1
-    ∷ call (completion (cmd 2 0 1 0) []) 515 [] 0
-    ∷ call (completion (cmd 2 0 1 3) []) 509 [] 0
-    ∷ call (turn) 509 (65519 ∷ []) 1
-    ∷ call (completion (cmd 1 0 1 1) (0 ∷ [])) 509 [] 0
     ∷ call (collect) 509 [] 1
-    ∷ call (turn) 509 [] 1
-    ∷ call (turn) 509 (2653 ∷ []) 1
-    ∷ call (turn) 509 [] 1
-    ∷ call (request 2 2 (22 ∷ [])) 509 (33847 ∷ 11279 ∷ []) 0
-    ∷ call (completion (cmd 2 0 0 0) []) 509 [] 0
-    ∷ call (completion (cmd 2 0 0 1) []) 512 [] 0
-    ∷ call (turn) 509 (15268 ∷ []) 1
-    ∷ call (turn) 514 (18528 ∷ []) 1
-    ∷ call (turn) 509 (36926 ∷ 41926 ∷ 43284 ∷ 35836 ∷ 65530 ∷ 16333 ∷ 35734 ∷ 23502 ∷ 43924 ∷ 24214 ∷ 65535 ∷ 42264 ∷ 14103 ∷ 16690 ∷ 33023 ∷ []) 1
+    ∷ call (request 1 1 []) 509 (15135 ∷ 55205 ∷ 26480 ∷ []) 0
     ∷ call (completion (cmd 1 0 0 1) (0 ∷ [])) 509 [] 0
-    ∷ call (request 1 3 []) 512 (60024 ∷ 7471 ∷ 54394 ∷ []) 0
+    ∷ call (turn) 514 [] 1
+    ∷ call (completion (cmd 1 0 1 1) (41 ∷ [])) 509 [] 0
+    ∷ call (turn) 509 [] 1
     ∷ call (turn) 509 [] 1
     ∷ call (completion (cmd 1 0 1 2) (0 ∷ [])) 509 [] 0
-    ∷ call (completion (cmd 1 0 1 0) (0 ∷ [])) 509 [] 0
-    ∷ call (turn) 509 (43971 ∷ []) 1
-    ∷ call (completion (cmd 1 0 1 3) (34 ∷ [])) 509 [] 0
-    ∷ call (completion (cmd 1 0 0 0) (246 ∷ [])) 509 [] 0
-    ∷ call (turn) 509 (137 ∷ 21406 ∷ 65532 ∷ 1773 ∷ 34163 ∷ 8744 ∷ 62580 ∷ 30778 ∷ 30478 ∷ []) 1
-    ∷ call (turn) 509 [] 1
-    ∷ call (completion (cmd 2 0 2 1) []) 516 [] 0
-    ∷ call (completion (cmd 2 0 2 0) []) 509 [] 0
-    ∷ call (turn) 509 [] 1
-    ∷ call (turn) 509 (33303 ∷ []) 1
+    ∷ call (completion (cmd 1 0 1 3) (0 ∷ [])) 509 [] 0
+    ∷ call (turn) 509 (46140 ∷ 64006 ∷ 41889 ∷ 65535 ∷ 65535 ∷ 65535 ∷ 65535 ∷ 57728 ∷ 7676 ∷ 65535 ∷ 11893 ∷ 61494 ∷ []) 1
+    ∷ call (turn) 514 [] 1
+    ∷ call (completion (cmd 2 0 2 0) []) 515 [] 0
+    ∷ call (completion (cmd 2 0 2 1) []) 511 [] 0
+    ∷ call (turn) 509 (28268 ∷ []) 1
+    ∷ call (completion (cmd 2 0 2 2) []) 510 [] 0
+    ∷ call (collect) 513 [] 0
+    ∷ call (request 1 0 []) 515 (44641 ∷ []) 0
+    ∷ call (turn) 509 (29529 ∷ []) 1
     ∷ call (completion (cmd 2 0 2 3) []) 509 [] 0
-    ∷ call (turn) 509 [] 1
-    ∷ call (turn) 509 [] 1
+    ∷ call (turn) 516 [] 1
     ∷ call (completion (cmd 2 0 2 4) []) 509 [] 0
     ∷ call (turn) 509 [] 1
     ∷ call (completion (cmd 2 0 2 5) []) 509 [] 0
-    ∷ call (completion (cmd 0 0 2 2) []) 509 [] 0
+    ∷ call (turn) 512 [] 1
     ∷ call (completion (cmd 2 0 2 6) []) 509 [] 0
-    ∷ call (completion (cmd 2 0 2 2) []) 509 [] 0
-    ∷ call (turn) 509 (65534 ∷ []) 1
-    ∷ call (completion (cmd 2 0 2 7) []) 517 [] 0
-    ∷ call (turn) 509 (65422 ∷ []) 1
-    ∷ call (completion (cmd 1 0 2 4) (0 ∷ [])) 514 [] 0
-    ∷ call (request 1 2 (190 ∷ [])) 509 (65534 ∷ 1405 ∷ []) 0
-    ∷ call (collect) 509 [] 1
-    ∷ call (request 1 2 []) 509 (46511 ∷ 38910 ∷ 65352 ∷ []) 0
-    ∷ call (turn) 509 (59736 ∷ 48656 ∷ []) 1
-    ∷ call (turn) 509 [] 1
+    ∷ call (turn) 517 (64812 ∷ []) 1
+    ∷ call (completion (cmd 2 0 2 7) []) 509 [] 0
+    ∷ call (turn) 511 [] 1
+    ∷ call (turn) 509 (33521 ∷ 287 ∷ []) 1
+    ∷ call (turn) 509 (65532 ∷ []) 1
     ∷ call (completion (cmd 2 0 0 1) []) 509 [] 0
-    ∷ call (completion (cmd 2 0 0 0) (62 ∷ 62 ∷ 120 ∷ 214 ∷ [])) 509 [] 0
     ∷ call (completion (cmd 2 0 0 0) []) 509 [] 0
     ∷ call (turn) 509 [] 1
-    ∷ call (turn) 509 (63768 ∷ []) 1
-    ∷ call (completion (cmd 1 0 0 1) (22 ∷ [])) 509 [] 0
-    ∷ call (completion (cmd 1 0 0 0) (0 ∷ [])) 509 [] 0
-    ∷ call (turn) 509 (65535 ∷ 518 ∷ 19193 ∷ []) 1
-    ∷ call (turn) 509 [] 1
-    ∷ call (turn) 509 [] 1
-    ∷ call (completion (cmd 2 0 1 0) []) 509 [] 0
-    ∷ call (turn) 513 (42756 ∷ []) 1
-    ∷ call (collect) 509 [] 0
-    ∷ call (completion (cmd 2 0 1 3) []) 509 [] 0
-    ∷ call (completion (cmd 2 0 1 1) []) 509 [] 0
-    ∷ call (completion (cmd 2 0 1 2) []) 509 [] 0
-    ∷ call (turn) 515 (25798 ∷ []) 1
-    ∷ call (completion (cmd 1 0 1 0) (22 ∷ [])) 509 [] 0
-    ∷ call (turn) 509 [] 1
+    ∷ call (turn) 509 (397 ∷ []) 1
+    ∷ call (completion (cmd 1 0 2 2) (31 ∷ [])) 511 [] 0
+    ∷ call (turn) 517 [] 1
+    ∷ call (completion (cmd 1 0 0 1) (0 ∷ [])) 509 [] 0
     ∷ call (collect) 509 [] 1
+    ∷ call (completion (cmd 1 0 0 0) (0 ∷ [])) 509 [] 0
+    ∷ call (collect) 509 [] 1
+    ∷ call (request 2 2 (210 ∷ [])) 509 (5849 ∷ 55657 ∷ []) 0
+    ∷ call (turn) 509 (5014 ∷ 11848 ∷ 32107 ∷ []) 1
+    ∷ call (turn) 509 [] 1
+    ∷ call (turn) 513 (37274 ∷ []) 1
     ∷ [])
 
 session5-outcomes : List Outcome
 session5-outcomes =
-    (out 0 4 (cmd 0 0 0 0) []
+    (out 1 0 (cmd 0 0 0 0) []
+    ∷ out 2 0 (cmd 0 0 0 0) []
+    ∷ out 3 0 (cmd 0 0 0 0) []
+    ∷ out 2 0 (cmd 0 0 0 0) []
+    ∷ out 2 0 (cmd 0 0 0 0) []
+    ∷ out 0 4 (cmd 0 0 0 0) []
+    ∷ out 10 0 (cmd 0 0 0 0) []
     ∷ out 0 2 (cmd 0 0 0 0) []
     ∷ out 0 0 (cmd 0 0 0 0) (0 ∷ [])
     ∷ out 0 1 (cmd 2 0 0 0) (0 ∷ [])
-    ∷ out 0 0 (cmd 2 0 0 1) (128 ∷ [])
+    ∷ out 0 0 (cmd 0 0 0 0) []
     ∷ out 0 2 (cmd 0 0 0 0) []
-    ∷ out 0 0 (cmd 0 0 0 0) []
-    ∷ out 0 0 (cmd 0 0 0 0) []
-    ∷ out 0 0 (cmd 1 0 0 0) []
+    ∷ out 0 0 (cmd 2 0 0 1) (41 ∷ [])
     ∷ out 0 0 (cmd 0 0 0 0) []
     ∷ out 0 0 (cmd 1 0 0 1) []
+    ∷ out 14 0 (cmd 0 0 0 0) []
+    ∷ out 0 0 (cmd 1 0 0 0) []
     ∷ out 0 0 (cmd 0 0 0 0) []
-    ∷ out 0 3 (cmd 2 0 1 0) (0 ∷ [])
-    ∷ out 0 0 (cmd 2 0 1 1) (0 ∷ [])
+    ∷ out 12 0 (cmd 0 0 0 0) []
+    ∷ out 0 0 (cmd 0 0 0 0) []
+    ∷ out 0 0 (cmd 0 0 0 0) (0 ∷ [])
+    ∷ out 0 3 (cmd 2 0 1 0) (78 ∷ [])
+    ∷ out 0 2 (cmd 0 0 0 0) []
+    ∷ out 0 0 (cmd 2 0 1 1) (41 ∷ [])
+    ∷ out 0 0 (cmd 0 0 0 0) []
     ∷ out 0 0 (cmd 2 0 1 2) (0 ∷ [])
     ∷ out 0 0 (cmd 0 0 0 0) []
+    ∷ out 0 0 (cmd 2 0 1 3) (0 ∷ [])
     ∷ out 0 0 (cmd 0 0 0 0) []
-    ∷ out 0 0 (cmd 2 0 1 3) (34 ∷ [])
     ∷ out 0 0 (cmd 0 0 0 0) []
+    ∷ out 0 1 (cmd 2 0 0 0) (0 ∷ [])
+    ∷ out 0 0 (cmd 0 0 0 0) []
+    ∷ out 14 0 (cmd 0 0 0 0) []
+    ∷ out 0 0 (cmd 2 0 0 1) (0 ∷ [])
+    ∷ out 0 0 (cmd 0 0 0 0) []
+    ∷ out 0 0 (cmd 1 0 0 0) []
+    ∷ out 0 0 (cmd 1 0 1 0) []
+    ∷ out 0 0 (cmd 0 0 0 0) []
+    ∷ out 0 0 (cmd 0 0 0 0) []
+    ∷ out 0 0 (cmd 1 0 0 1) []
+    ∷ out 0 0 (cmd 0 0 0 0) (0 ∷ [])
+    ∷ out 0 2 (cmd 0 0 0 0) []
     ∷ out 0 0 (cmd 0 0 0 0) []
     ∷ out 0 0 (cmd 1 0 1 1) []
     ∷ out 0 0 (cmd 0 0 0 0) []
-    ∷ out 0 0 (cmd 0 0 0 0) (0 ∷ [])
-    ∷ out 3 0 (cmd 0 0 0 0) []
-    ∷ out 0 1 (cmd 2 0 0 0) (246 ∷ [])
-    ∷ out 0 0 (cmd 2 0 0 1) (0 ∷ [])
-    ∷ out 0 2 (cmd 0 0 0 0) []
-    ∷ out 0 0 (cmd 0 0 0 0) []
-    ∷ out 0 0 (cmd 0 0 0 0) []
-    ∷ out 0 0 (cmd 1 0 0 0) []
-    ∷ out 0 0 (cmd 1 0 0 1) []
-    ∷ out 0 0 (cmd 1 0 1 0) []
-    ∷ out 0 0 (cmd 0 0 0 0) []
-    ∷ out 4 0 (cmd 0 0 0 0) []
     ∷ out 0 0 (cmd 1 0 1 2) []
-    ∷ out 0 0 (cmd 0 0 0 0) []
-    ∷ out 0 0 (cmd 0 0 0 0) []
     ∷ out 0 0 (cmd 1 0 1 3) []
     ∷ out 0 0 (cmd 0 0 0 0) []
     ∷ out 0 0 (cmd 0 0 0 0) []
-    ∷ out 0 8 (cmd 2 0 2 0) (0 ∷ [])
-    ∷ out 0 0 (cmd 2 0 2 1) (0 ∷ [])
+    ∷ out 0 12 (cmd 2 0 2 0) (0 ∷ [])
+    ∷ out 0 0 (cmd 2 0 2 1) (41 ∷ [])
     ∷ out 0 0 (cmd 0 0 0 0) []
     ∷ out 0 0 (cmd 0 0 0 0) []
-    ∷ out 0 0 (cmd 2 0 2 2) (34 ∷ [])
+    ∷ out 0 0 (cmd 2 0 2 2) (31 ∷ [])
+    ∷ out 0 0 (cmd 0 0 0 0) []
+    ∷ out 14 0 (cmd 0 0 0 0) []
+    ∷ out 4 0 (cmd 0 0 0 0) []
     ∷ out 0 0 (cmd 2 0 2 3) (0 ∷ [])
     ∷ out 0 0 (cmd 0 0 0 0) []
     ∷ out 0 0 (cmd 2 0 2 4) (0 ∷ [])
+    ∷ out 0 0 (cmd 0 0 0 0) []
     ∷ out 0 0 (cmd 2 0 2 5) (0 ∷ [])
     ∷ out 0 0 (cmd 0 0 0 0) []
     ∷ out 0 0 (cmd 2 0 2 6) (0 ∷ [])
     ∷ out 0 0 (cmd 0 0 0 0) []
-    ∷ out 2 0 (cmd 0 0 0 0) []
+    ∷ out 0 0 (cmd 2 0 2 7) (227 ∷ [])
     ∷ out 0 0 (cmd 0 0 0 0) []
-    ∷ out 0 0 (cmd 0 0 0 0) []
-    ∷ out 0 0 (cmd 2 0 2 7) (246 ∷ [])
-    ∷ out 0 0 (cmd 0 0 0 0) []
-    ∷ out 0 0 (cmd 1 0 2 4) []
-    ∷ out 0 0 (cmd 0 0 0 0) []
-    ∷ out 4 0 (cmd 0 0 0 0) []
-    ∷ out 0 0 (cmd 0 0 0 0) (0 ∷ [])
-    ∷ out 0 2 (cmd 0 0 0 0) []
+    ∷ out 3 0 (cmd 0 0 0 0) []
     ∷ out 0 1 (cmd 2 0 0 0) (0 ∷ [])
-    ∷ out 0 0 (cmd 2 0 0 1) (22 ∷ [])
+    ∷ out 0 0 (cmd 2 0 0 1) (0 ∷ [])
     ∷ out 0 0 (cmd 0 0 0 0) []
-    ∷ out 12 0 (cmd 0 0 0 0) []
     ∷ out 0 0 (cmd 0 0 0 0) []
     ∷ out 0 0 (cmd 1 0 0 0) []
+    ∷ out 0 0 (cmd 1 0 2 2) []
+    ∷ out 0 0 (cmd 0 0 0 0) []
     ∷ out 0 0 (cmd 1 0 0 1) []
     ∷ out 0 0 (cmd 0 0 0 0) []
+    ∷ out 14 0 (cmd 0 0 0 0) []
     ∷ out 0 0 (cmd 0 0 0 0) []
-    ∷ out 0 3 (cmd 2 0 1 0) (22 ∷ [])
+    ∷ outFound 0 0 (cmd 0 0 0 0) (31 ∷ []) (foundLevel 2)
+    ∷ out 0 2 (cmd 0 0 0 0) []
+    ∷ out 0 3 (cmd 2 0 1 0) (31 ∷ [])
     ∷ out 0 0 (cmd 2 0 1 1) (0 ∷ [])
     ∷ out 0 0 (cmd 2 0 1 2) (0 ∷ [])
-    ∷ out 0 0 (cmd 0 0 0 0) []
-    ∷ out 0 0 (cmd 2 0 1 3) (0 ∷ [])
-    ∷ out 14 0 (cmd 0 0 0 0) []
-    ∷ out 0 0 (cmd 0 0 0 0) []
-    ∷ out 0 0 (cmd 0 0 0 0) []
-    ∷ out 0 0 (cmd 0 0 0 0) []
-    ∷ out 0 0 (cmd 1 0 1 0) []
-    ∷ out 0 0 (cmd 0 0 0 0) []
-    ∷ out 0 0 (cmd 1 0 2 6) []
-    ∷ out 14 0 (cmd 0 0 0 0) []
     ∷ [])
 
 session5 : run closed session5-calls ≡ session5-outcomes
@@ -188,150 +188,150 @@ session5 = refl
 
 session6-calls : List Call
 session6-calls =
-    (call (opening (shape 8 4 2 1 8 3)) 633 (48471 ∷ 36068 ∷ 15445 ∷ 28153 ∷ 22885 ∷ 14076 ∷ 53840 ∷ 14336 ∷ []) 0
-    ∷ call (request 2 0 (251 ∷ [])) 633 (35459 ∷ 27774 ∷ []) 0
-    ∷ call (collect) 633 [] 1
-    ∷ call (turn) 638 (36919 ∷ []) 1
-    ∷ call (turn) 633 [] 1
-    ∷ call (request 2 1 (175 ∷ [])) 633 (63318 ∷ 59503 ∷ 8444 ∷ []) 0
-    ∷ call (collect) 633 [] 1
-    ∷ call (request 2 1 (226 ∷ [])) 633 (9579 ∷ 44831 ∷ []) 0
-    ∷ call (completion (cmd 2 3 0 0) []) 640 [] 0
-    ∷ call (completion (cmd 2 3 0 1) []) 641 [] 0
-    ∷ call (turn) 633 (11646 ∷ 65525 ∷ []) 1
-    ∷ call (turn) 633 [] 1
-    ∷ call (completion (cmd 2 2 0 0) []) 633 [] 0
-    ∷ call (completion (cmd 2 2 0 1) (167 ∷ [])) 633 [] 0
-    ∷ call (completion (cmd 2 2 0 1) []) 633 [] 0
-    ∷ call (turn) 633 [] 1
-    ∷ call (turn) 638 (3193 ∷ []) 1
-    ∷ call (turn) 633 [] 1
-    ∷ call (completion (cmd 2 0 0 0) []) 633 [] 0
-    ∷ call (completion (cmd 2 0 0 1) []) 633 [] 0
-    ∷ call (collect) 641 [] 0
-    ∷ call (turn) 633 (50904 ∷ 37637 ∷ 29492 ∷ 65205 ∷ 25392 ∷ 32344 ∷ 3199 ∷ []) 1
-    ∷ call (completion (cmd 1 2 0 1) (175 ∷ [])) 633 [] 0
-    ∷ call (collect) 633 [] 1
-    ∷ call (turn) 633 [] 1
-    ∷ call (request 1 7 []) 636 (65535 ∷ 802 ∷ 60843 ∷ []) 0
-    ∷ call (completion (cmd 1 3 0 1) (0 ∷ [])) 633 [] 0
-    ∷ call (completion (cmd 1 3 0 0) (251 ∷ [])) 637 [] 0
-    ∷ call (turn) 633 (37276 ∷ 65534 ∷ 967 ∷ 65530 ∷ 9060 ∷ 61284 ∷ 29007 ∷ []) 1
-    ∷ call (completion (cmd 1 0 0 0) (0 ∷ [])) 641 [] 0
-    ∷ call (collect) 633 [] 1
-    ∷ call (request 2 4 (214 ∷ [])) 634 (65302 ∷ 65529 ∷ []) 0
-    ∷ call (turn) 633 (54388 ∷ 64714 ∷ 65535 ∷ 24461 ∷ []) 1
-    ∷ call (completion (cmd 2 3 1 0) []) 633 [] 0
-    ∷ call (turn) 633 [] 1
-    ∷ call (turn) 637 [] 1
-    ∷ call (collect) 633 [] 1
-    ∷ call (turn) 639 [] 1
-    ∷ call (request 1 7 []) 633 (60705 ∷ 65535 ∷ []) 0
-    ∷ call (completion (cmd 2 3 1 1) []) 633 [] 0
-    ∷ call (completion (cmd 2 3 1 3) []) 637 [] 0
-    ∷ call (completion (cmd 2 3 1 2) []) 633 [] 0
-    ∷ call (turn) 633 [] 1
-    ∷ call (completion (cmd 1 2 0 0) (0 ∷ [])) 633 [] 0
-    ∷ call (completion (cmd 1 2 0 1) (61 ∷ [])) 633 [] 0
-    ∷ call (turn) 636 (51535 ∷ 65535 ∷ 21059 ∷ 30471 ∷ 43766 ∷ []) 1
-    ∷ call (completion (cmd 2 2 1 0) []) 633 [] 0
-    ∷ call (turn) 633 [] 1
-    ∷ call (turn) 633 (40625 ∷ []) 1
-    ∷ call (completion (cmd 2 2 1 2) []) 639 [] 0
-    ∷ call (completion (cmd 2 2 1 1) []) 634 [] 0
-    ∷ call (turn) 633 [] 1
-    ∷ call (completion (cmd 2 2 1 3) []) 633 [] 0
-    ∷ call (turn) 633 (65535 ∷ 30206 ∷ []) 1
-    ∷ call (turn) 635 (49434 ∷ []) 1
-    ∷ call (completion (cmd 2 3 0 1) []) 633 [] 0
+    (call (opening (shape 8 4 2 1 8 3)) 633 (44979 ∷ 33960 ∷ 46963 ∷ 65535 ∷ 65535 ∷ 24928 ∷ 6737 ∷ 65353 ∷ []) 0
+    ∷ call (request 1 7 (189 ∷ [])) 633 (23783 ∷ 7994 ∷ []) 0
+    ∷ call (request 2 0 (107 ∷ [])) 633 (18449 ∷ 65534 ∷ 741 ∷ []) 0
+    ∷ call (collect) 636 [] 1
+    ∷ call (turn) 633 (21190 ∷ []) 1
     ∷ call (completion (cmd 2 3 0 0) []) 633 [] 0
     ∷ call (turn) 633 [] 1
+    ∷ call (completion (cmd 2 3 0 1) []) 633 [] 0
+    ∷ call (request 2 2 (179 ∷ [])) 633 (65497 ∷ 65492 ∷ 65483 ∷ []) 0
+    ∷ call (turn) 633 [] 1
+    ∷ call (collect) 635 [] 1
+    ∷ call (collect) 633 [] 1
+    ∷ call (completion (cmd 1 3 0 1) (0 ∷ [])) 635 [] 0
+    ∷ call (turn) 633 (54848 ∷ []) 1
+    ∷ call (completion (cmd 2 2 0 0) []) 639 [] 0
+    ∷ call (turn) 633 [] 1
+    ∷ call (collect) 638 [] 1
+    ∷ call (request 1 2 []) 633 (65513 ∷ 34161 ∷ []) 0
+    ∷ call (completion (cmd 2 2 0 1) []) 633 [] 0
+    ∷ call (collect) 633 [] 0
+    ∷ call (turn) 633 [] 1
     ∷ call (completion (cmd 1 3 0 0) (0 ∷ [])) 633 [] 0
+    ∷ call (collect) 633 [] 1
+    ∷ call (request 1 7 []) 633 (46652 ∷ 218 ∷ []) 0
+    ∷ call (turn) 637 (3050 ∷ 59811 ∷ 61942 ∷ []) 1
+    ∷ call (request 1 0 []) 633 [] 0
+    ∷ call (completion (cmd 2 3 1 0) []) 633 [] 0
+    ∷ call (turn) 641 [] 1
+    ∷ call (completion (cmd 2 3 1 1) []) 633 [] 0
+    ∷ call (turn) 638 (64833 ∷ []) 1
+    ∷ call (completion (cmd 2 3 1 2) []) 633 [] 0
     ∷ call (turn) 633 [] 1
-    ∷ call (collect) 637 [] 1
+    ∷ call (completion (cmd 2 3 1 3) []) 636 [] 0
+    ∷ call (turn) 639 (30387 ∷ 50940 ∷ []) 1
+    ∷ call (turn) 638 [] 1
+    ∷ call (turn) 633 (51426 ∷ 39514 ∷ 7079 ∷ 7068 ∷ 65532 ∷ 32023 ∷ 58054 ∷ []) 1
+    ∷ call (completion (cmd 2 0 0 0) []) 633 [] 0
+    ∷ call (completion (cmd 2 0 0 1) []) 633 [] 0
+    ∷ call (turn) 637 (1561 ∷ 46737 ∷ []) 1
+    ∷ call (completion (cmd 2 1 0 0) []) 633 [] 0
     ∷ call (turn) 633 [] 1
-    ∷ call (completion (cmd 1 3 1 1) (0 ∷ [])) 633 [] 0
-    ∷ call (completion (cmd 1 0 0 1) (0 ∷ [])) 633 [] 0
-    ∷ call (collect) 640 [] 1
-    ∷ call (completion (cmd 1 1 0 2) (223 ∷ [])) 633 [] 0
-    ∷ call (request 2 0 (42 ∷ [])) 633 (65535 ∷ 64022 ∷ []) 0
-    ∷ call (turn) 641 (64943 ∷ 37720 ∷ []) 1
-    ∷ call (turn) 633 (680 ∷ 28931 ∷ 65535 ∷ []) 1
-    ∷ call (completion (cmd 2 0 1 0) []) 633 [] 0
+    ∷ call (completion (cmd 2 1 0 1) []) 633 [] 0
+    ∷ call (turn) 633 [] 1
+    ∷ call (turn) 636 [] 1
+    ∷ call (completion (cmd 1 1 0 0) (107 ∷ [])) 633 [] 0
+    ∷ call (completion (cmd 1 1 0 1) (0 ∷ [])) 633 [] 0
+    ∷ call (collect) 633 [] 1
+    ∷ call (request 2 7 (49 ∷ [])) 637 (965 ∷ 25584 ∷ []) 0
+    ∷ call (turn) 638 [] 1
+    ∷ call (turn) 633 (8069 ∷ 34869 ∷ []) 1
+    ∷ call (completion (cmd 1 0 0 0) (0 ∷ [])) 633 [] 0
+    ∷ call (collect) 633 [] 1
+    ∷ call (request 1 5 []) 633 (65534 ∷ 40630 ∷ []) 0
+    ∷ call (turn) 633 (2807 ∷ 65535 ∷ 43414 ∷ 592 ∷ 17630 ∷ []) 1
+    ∷ call (turn) 633 (30165 ∷ []) 1
+    ∷ call (turn) 633 [] 1
+    ∷ call (completion (cmd 2 1 1 1) []) 635 [] 0
+    ∷ call (completion (cmd 2 1 1 0) []) 633 [] 0
+    ∷ call (completion (cmd 2 1 1 2) []) 633 [] 0
+    ∷ call (turn) 633 (48323 ∷ []) 1
+    ∷ call (completion (cmd 2 1 1 3) []) 633 [] 0
+    ∷ call (turn) 635 (16287 ∷ []) 1
+    ∷ call (turn) 633 [] 1
+    ∷ call (completion (cmd 2 1 0 1) []) 633 [] 0
+    ∷ call (completion (cmd 2 1 0 0) []) 638 [] 0
+    ∷ call (turn) 633 (12134 ∷ 30311 ∷ 321 ∷ 16599 ∷ 27873 ∷ 65535 ∷ 65530 ∷ []) 1
+    ∷ call (turn) 633 (32745 ∷ []) 1
+    ∷ call (completion (cmd 1 2 0 0) (0 ∷ [])) 633 [] 0
+    ∷ call (completion (cmd 1 2 0 1) (0 ∷ [])) 638 [] 0
+    ∷ call (turn) 636 (15626 ∷ 3855 ∷ 65535 ∷ 15102 ∷ []) 1
     ∷ [])
 
 session6-outcomes : List Outcome
 session6-outcomes =
     (out 0 8 (cmd 0 0 0 0) []
+    ∷ out 6 0 (cmd 0 0 0 0) []
     ∷ out 0 2 (cmd 0 0 0 0) []
     ∷ out 0 0 (cmd 0 0 0 0) (0 ∷ [])
-    ∷ out 0 1 (cmd 2 3 0 0) (251 ∷ [])
-    ∷ out 0 0 (cmd 2 3 0 1) (0 ∷ [])
-    ∷ out 0 2 (cmd 0 0 0 0) []
-    ∷ out 0 0 (cmd 0 0 0 0) (0 ∷ [])
-    ∷ out 0 2 (cmd 0 0 0 0) []
+    ∷ out 0 1 (cmd 2 3 0 0) (0 ∷ [])
     ∷ out 0 0 (cmd 0 0 0 0) []
+    ∷ out 0 0 (cmd 2 3 0 1) (0 ∷ [])
+    ∷ out 0 0 (cmd 0 0 0 0) []
+    ∷ out 0 2 (cmd 0 0 0 0) []
+    ∷ out 0 0 (cmd 1 3 0 1) []
+    ∷ out 14 0 (cmd 0 0 0 0) []
+    ∷ out 14 0 (cmd 0 0 0 0) []
     ∷ out 0 0 (cmd 0 0 0 0) []
     ∷ out 0 1 (cmd 2 2 0 0) (0 ∷ [])
-    ∷ out 0 0 (cmd 2 2 0 1) (175 ∷ [])
     ∷ out 0 0 (cmd 0 0 0 0) []
-    ∷ out 12 0 (cmd 0 0 0 0) []
+    ∷ out 0 0 (cmd 2 2 0 1) (0 ∷ [])
+    ∷ out 0 0 (cmd 0 0 0 0) (0 ∷ [])
+    ∷ out 0 2 (cmd 0 0 0 0) []
     ∷ out 0 0 (cmd 0 0 0 0) []
-    ∷ out 0 0 (cmd 1 2 0 1) []
-    ∷ out 0 1 (cmd 2 0 0 0) (0 ∷ [])
-    ∷ out 0 0 (cmd 2 0 0 1) (0 ∷ [])
-    ∷ out 0 0 (cmd 0 0 0 0) []
-    ∷ out 0 0 (cmd 0 0 0 0) []
-    ∷ out 14 0 (cmd 0 0 0 0) []
+    ∷ out 15 0 (cmd 0 0 0 0) []
     ∷ out 0 0 (cmd 1 3 0 0) []
     ∷ out 0 0 (cmd 0 0 0 0) []
-    ∷ outFound 0 0 (cmd 0 0 0 0) (175 ∷ []) (foundLevel 0)
-    ∷ out 0 0 (cmd 1 3 0 1) []
-    ∷ out 0 2 (cmd 0 0 0 0) []
-    ∷ out 0 0 (cmd 0 0 0 0) []
-    ∷ out 0 0 (cmd 0 0 0 0) []
-    ∷ out 0 0 (cmd 1 0 0 0) []
-    ∷ out 0 0 (cmd 0 0 0 0) []
-    ∷ out 0 0 (cmd 0 0 0 0) (0 ∷ [])
+    ∷ outFound 0 0 (cmd 0 0 0 0) (179 ∷ []) foundCache
     ∷ out 0 2 (cmd 0 0 0 0) []
     ∷ out 0 3 (cmd 2 3 1 0) (0 ∷ [])
+    ∷ out 4 0 (cmd 0 0 0 0) []
     ∷ out 0 0 (cmd 0 0 0 0) []
     ∷ out 0 0 (cmd 2 3 1 1) (0 ∷ [])
-    ∷ out 0 0 (cmd 2 3 1 2) (226 ∷ [])
-    ∷ out 0 0 (cmd 0 0 0 0) (0 ∷ [])
-    ∷ out 0 0 (cmd 2 3 1 3) (251 ∷ [])
-    ∷ out 0 2 (cmd 0 0 0 0) []
     ∷ out 0 0 (cmd 0 0 0 0) []
+    ∷ out 0 0 (cmd 2 3 1 2) (0 ∷ [])
+    ∷ out 0 0 (cmd 0 0 0 0) []
+    ∷ out 0 0 (cmd 2 3 1 3) (0 ∷ [])
+    ∷ out 0 0 (cmd 0 0 0 0) []
+    ∷ out 0 1 (cmd 2 0 0 0) (0 ∷ [])
+    ∷ out 0 0 (cmd 2 0 0 1) (0 ∷ [])
+    ∷ out 10 0 (cmd 0 0 0 0) []
+    ∷ out 0 0 (cmd 0 0 0 0) []
+    ∷ out 0 0 (cmd 0 0 0 0) []
+    ∷ out 0 1 (cmd 2 1 0 0) (107 ∷ [])
+    ∷ out 0 0 (cmd 0 0 0 0) []
+    ∷ out 0 0 (cmd 2 1 0 1) (0 ∷ [])
+    ∷ out 0 0 (cmd 0 0 0 0) []
+    ∷ out 0 0 (cmd 1 1 0 0) []
+    ∷ out 0 0 (cmd 1 1 0 1) []
+    ∷ out 0 0 (cmd 0 0 0 0) []
+    ∷ out 0 0 (cmd 0 0 0 0) []
+    ∷ out 0 0 (cmd 0 0 0 0) (0 ∷ [])
+    ∷ out 0 2 (cmd 0 0 0 0) []
+    ∷ out 0 0 (cmd 1 0 0 0) []
+    ∷ out 3 0 (cmd 0 0 0 0) []
+    ∷ out 0 0 (cmd 0 0 0 0) []
+    ∷ outFound 0 0 (cmd 0 0 0 0) (0 ∷ []) foundCache
+    ∷ out 0 2 (cmd 0 0 0 0) []
+    ∷ out 0 4 (cmd 2 1 1 0) (179 ∷ [])
+    ∷ out 0 0 (cmd 2 1 1 1) (0 ∷ [])
+    ∷ out 0 0 (cmd 2 1 1 2) (107 ∷ [])
+    ∷ out 0 0 (cmd 0 0 0 0) []
+    ∷ out 0 0 (cmd 0 0 0 0) []
+    ∷ out 0 0 (cmd 0 0 0 0) []
+    ∷ out 0 0 (cmd 2 1 1 3) (0 ∷ [])
+    ∷ out 0 0 (cmd 0 0 0 0) []
+    ∷ out 0 1 (cmd 2 1 0 0) (0 ∷ [])
+    ∷ out 0 0 (cmd 2 1 0 1) (0 ∷ [])
     ∷ out 0 0 (cmd 0 0 0 0) []
     ∷ out 0 0 (cmd 0 0 0 0) []
     ∷ out 0 0 (cmd 1 2 0 0) []
-    ∷ out 0 0 (cmd 0 0 0 0) []
-    ∷ out 11 0 (cmd 0 0 0 0) []
-    ∷ out 0 4 (cmd 2 2 1 0) (214 ∷ [])
-    ∷ out 0 0 (cmd 0 0 0 0) []
-    ∷ out 0 0 (cmd 2 2 1 1) (0 ∷ [])
-    ∷ out 0 0 (cmd 2 2 1 2) (0 ∷ [])
+    ∷ out 0 0 (cmd 1 2 0 1) []
     ∷ out 0 0 (cmd 0 0 0 0) []
     ∷ out 0 0 (cmd 0 0 0 0) []
-    ∷ out 0 0 (cmd 2 2 1 3) (0 ∷ [])
-    ∷ out 0 0 (cmd 0 0 0 0) []
-    ∷ out 0 1 (cmd 2 3 0 0) (0 ∷ [])
-    ∷ out 0 0 (cmd 2 3 0 1) (0 ∷ [])
-    ∷ out 0 0 (cmd 0 0 0 0) []
-    ∷ out 0 0 (cmd 0 0 0 0) []
-    ∷ out 0 0 (cmd 1 3 0 0) []
-    ∷ out 0 0 (cmd 0 0 0 0) []
-    ∷ out 0 0 (cmd 1 3 1 1) []
-    ∷ out 14 0 (cmd 0 0 0 0) []
-    ∷ out 0 0 (cmd 1 0 0 1) []
-    ∷ out 0 0 (cmd 0 0 0 0) []
-    ∷ out 0 0 (cmd 0 0 0 0) []
-    ∷ outFound 0 0 (cmd 0 0 0 0) (0 ∷ []) foundCache
-    ∷ out 11 0 (cmd 0 0 0 0) []
-    ∷ out 0 2 (cmd 0 0 0 0) []
-    ∷ out 3 0 (cmd 0 0 0 0) []
-    ∷ out 0 3 (cmd 2 0 1 0) (0 ∷ [])
-    ∷ out 0 0 (cmd 0 0 0 0) []
+    ∷ out 0 3 (cmd 2 2 1 0) (0 ∷ [])
     ∷ [])
 
 session6 : run closed session6-calls ≡ session6-outcomes

@@ -8,130 +8,130 @@ use Rattle.rules.specs.Unfold.{model, shape, call, out, outFound}
 
 session7-calls : List Call
 session7-calls =
-    (call (opening (shape 2 2 2 1 2 2)) 495 (65027 ∷ 3925 ∷ 11026 ∷ []) 0
-    ∷ call (turn) 495 [] 1
-    ∷ call (request 2 0 (124 ∷ [])) 497 (3657 ∷ 50782 ∷ 40373 ∷ []) 0
+    (call (opening (shape 2 3 2 1 2 2)) 495 (41552 ∷ 63928 ∷ []) 0
+    ∷ call (request 2 1 (190 ∷ [])) 495 (59473 ∷ 17160 ∷ 1293 ∷ []) 0
+    ∷ call (opening (shape 2 2 2 1 2 2)) 495 (54368 ∷ []) 0
+    ∷ call (opening (shape 2 2 2 1 2 2)) 494 (48587 ∷ 51827 ∷ []) 1
     ∷ call (collect) 495 [] 1
-    ∷ call (request 1 0 []) 495 (65508 ∷ 48747 ∷ []) 0
-    ∷ call (turn) 495 (57409 ∷ 65329 ∷ 23278 ∷ 65523 ∷ 65464 ∷ 23294 ∷ 34397 ∷ []) 1
+    ∷ call (opening (shape 2 2 2 1 2 2)) 495 (1105 ∷ 17720 ∷ []) 0
+    ∷ call (request 2 0 (252 ∷ [])) 495 (32160 ∷ 60944 ∷ 41393 ∷ []) 0
+    ∷ call (collect) 495 [] 1
+    ∷ call (request 2 0 (151 ∷ [])) 495 (54814 ∷ 44897 ∷ 65523 ∷ []) 0
+    ∷ call (turn) 495 (21286 ∷ 27625 ∷ []) 1
+    ∷ call (request 1 1 (14 ∷ [])) 495 (46444 ∷ 65378 ∷ []) 0
+    ∷ call (turn) 495 [] 1
     ∷ call (completion (cmd 2 1 0 0) []) 495 [] 0
-    ∷ call (turn) 495 [] 1
     ∷ call (completion (cmd 2 1 0 1) []) 495 [] 0
+    ∷ call (collect) 497 [] 1
+    ∷ call (request 2 0 (58 ∷ [])) 497 (18496 ∷ 16385 ∷ 55816 ∷ []) 0
+    ∷ call (turn) 495 (25281 ∷ 64348 ∷ 25569 ∷ []) 2
+    ∷ call (completion (cmd 1 0 0 1) (130 ∷ [])) 495 [] 0
+    ∷ call (turn) 495 (3463 ∷ []) 1
     ∷ call (turn) 495 [] 1
-    ∷ call (completion (cmd 1 1 0 0) (124 ∷ [])) 495 [] 0
-    ∷ call (turn) 500 (44609 ∷ 65522 ∷ []) 1
-    ∷ call (collect) 495 [] 1
-    ∷ call (request 2 0 (30 ∷ [])) 495 (38030 ∷ 65522 ∷ 65534 ∷ []) 0
     ∷ call (completion (cmd 2 0 0 0) []) 495 [] 0
-    ∷ call (turn) 495 (43980 ∷ []) 1
     ∷ call (completion (cmd 2 0 0 1) []) 495 [] 0
-    ∷ call (turn) 502 [] 1
-    ∷ call (turn) 495 (39618 ∷ []) 1
+    ∷ call (collect) 495 [] 0
+    ∷ call (turn) 495 [] 1
+    ∷ call (turn) 495 [] 1
+    ∷ call (completion (cmd 1 0 0 0) (151 ∷ [])) 495 [] 0
     ∷ call (collect) 495 [] 1
-    ∷ call (completion (cmd 1 1 0 1) (0 ∷ [])) 495 [] 0
-    ∷ call (completion (cmd 1 0 0 0) (0 ∷ [])) 495 [] 0
-    ∷ call (turn) 495 (49320 ∷ 18718 ∷ 49705 ∷ []) 1
-    ∷ call (turn) 495 [] 1
-    ∷ call (collect) 495 [] 1
-    ∷ call (turn) 501 (65530 ∷ 31330 ∷ 47382 ∷ 17872 ∷ 30206 ∷ 53906 ∷ 51803 ∷ []) 1
-    ∷ call (completion (cmd 2 1 1 0) []) 495 [] 0
-    ∷ call (completion (cmd 2 1 1 1) []) 495 [] 0
-    ∷ call (turn) 495 (63174 ∷ []) 1
-    ∷ call (turn) 495 [] 1
-    ∷ call (request 2 0 (71 ∷ [])) 495 (47568 ∷ 36947 ∷ []) 0
-    ∷ call (completion (cmd 2 1 1 3) []) 495 [] 0
-    ∷ call (completion (cmd 2 1 1 2) []) 501 [] 0
-    ∷ call (turn) 495 (25419 ∷ 65534 ∷ []) 1
-    ∷ call (completion (cmd 2 1 0 0) []) 495 [] 0
-    ∷ call (turn) 495 (45195 ∷ []) 1
-    ∷ call (completion (cmd 2 1 0 1) []) 495 [] 0
-    ∷ call (turn) 495 [] 1
+    ∷ call (request 2 0 (244 ∷ [])) 495 (708 ∷ 23695 ∷ []) 0
     ∷ call (completion (cmd 1 0 0 1) (0 ∷ [])) 495 [] 0
-    ∷ call (turn) 495 (44751 ∷ 65535 ∷ 23070 ∷ 59852 ∷ []) 1
+    ∷ call (turn) 495 (30593 ∷ 64240 ∷ []) 1
+    ∷ call (turn) 495 (35987 ∷ 65534 ∷ 3131 ∷ []) 1
     ∷ call (completion (cmd 2 0 1 0) []) 495 [] 0
+    ∷ call (turn) 495 (65426 ∷ []) 1
+    ∷ call (turn) 495 (8617 ∷ []) 1
+    ∷ call (completion (cmd 2 0 1 2) []) 495 [] 0
+    ∷ call (completion (cmd 2 0 1 1) []) 495 [] 0
+    ∷ call (turn) 495 [] 1
+    ∷ call (request 1 0 (251 ∷ [])) 495 (61429 ∷ 17060 ∷ []) 0
+    ∷ call (completion (cmd 2 0 1 3) []) 499 [] 0
+    ∷ call (turn) 495 [] 1
+    ∷ call (completion (cmd 1 1 0 0) (0 ∷ [])) 495 [] 0
+    ∷ call (turn) 495 [] 1
+    ∷ call (completion (cmd 1 1 0 1) (0 ∷ [])) 495 [] 0
+    ∷ call (collect) 499 [] 1
+    ∷ call (turn) 501 (10915 ∷ 25718 ∷ []) 1
+    ∷ call (turn) 500 (13014 ∷ 20338 ∷ 65399 ∷ 65478 ∷ []) 1
+    ∷ call (completion (cmd 2 1 1 0) []) 495 [] 0
     ∷ call (turn) 495 [] 1
     ∷ call (turn) 495 [] 1
-    ∷ call (request 1 2 []) 495 (14781 ∷ 38238 ∷ []) 0
-    ∷ call (completion (cmd 2 0 1 2) []) 501 [] 0
-    ∷ call (turn) 495 (57905 ∷ []) 1
-    ∷ call (completion (cmd 2 0 1 1) []) 502 [] 0
-    ∷ call (completion (cmd 2 0 1 3) []) 495 [] 0
-    ∷ call (turn) 495 (60971 ∷ 49956 ∷ []) 1
-    ∷ call (completion (cmd 2 0 0 0) []) 495 [] 0
-    ∷ call (turn) 503 [] 1
-    ∷ call (completion (cmd 2 0 0 1) []) 495 [] 0
+    ∷ call (completion (cmd 2 1 1 2) []) 495 [] 0
     ∷ call (turn) 495 [] 1
-    ∷ call (turn) 495 (2882 ∷ []) 1
-    ∷ call (completion (cmd 1 0 0 0) (0 ∷ [])) 495 [] 0
-    ∷ call (completion (cmd 1 0 1 1) (30 ∷ [])) 495 [] 0
+    ∷ call (completion (cmd 2 1 1 1) []) 495 [] 0
+    ∷ call (completion (cmd 2 1 1 3) []) 502 [] 0
+    ∷ call (turn) 495 [] 1
+    ∷ call (completion (cmd 1 0 1 0) (58 ∷ [])) 495 [] 0
     ∷ call (collect) 495 [] 1
-    ∷ call (request 2 0 (171 ∷ [])) 495 (6921 ∷ 58469 ∷ []) 0
-    ∷ call (turn) 498 (1360 ∷ []) 1
+    ∷ call (turn) 495 (65535 ∷ []) 1
+    ∷ call (completion (cmd 2 0 0 0) []) 495 [] 0
+    ∷ call (request 2 1 (131 ∷ [])) 496 (6896 ∷ 32459 ∷ 55361 ∷ []) 0
     ∷ call (turn) 495 [] 1
     ∷ [])
 
 session7-outcomes : List Outcome
 session7-outcomes =
-    (out 0 2 (cmd 0 0 0 0) []
-    ∷ out 10 0 (cmd 0 0 0 0) []
+    (out 1 0 (cmd 0 0 0 0) []
+    ∷ out 2 0 (cmd 0 0 0 0) []
+    ∷ out 3 0 (cmd 0 0 0 0) []
+    ∷ out 2 0 (cmd 0 0 0 0) []
+    ∷ out 2 0 (cmd 0 0 0 0) []
+    ∷ out 0 2 (cmd 0 0 0 0) []
     ∷ out 0 2 (cmd 0 0 0 0) []
     ∷ out 0 0 (cmd 0 0 0 0) (0 ∷ [])
     ∷ out 0 2 (cmd 0 0 0 0) []
-    ∷ out 0 1 (cmd 2 1 0 0) (124 ∷ [])
-    ∷ out 0 0 (cmd 0 0 0 0) []
+    ∷ out 0 1 (cmd 2 1 0 0) (0 ∷ [])
+    ∷ out 4 0 (cmd 0 0 0 0) []
     ∷ out 0 0 (cmd 2 1 0 1) (0 ∷ [])
+    ∷ out 0 0 (cmd 0 0 0 0) []
+    ∷ out 0 0 (cmd 0 0 0 0) []
+    ∷ outFound 0 0 (cmd 0 0 0 0) (252 ∷ []) foundCache
+    ∷ out 0 2 (cmd 0 0 0 0) []
+    ∷ out 15 0 (cmd 0 0 0 0) []
+    ∷ out 11 0 (cmd 0 0 0 0) []
+    ∷ out 0 1 (cmd 2 0 0 0) (151 ∷ [])
+    ∷ out 0 0 (cmd 2 0 0 1) (0 ∷ [])
+    ∷ out 0 0 (cmd 0 0 0 0) []
+    ∷ out 0 0 (cmd 0 0 0 0) []
+    ∷ out 14 0 (cmd 0 0 0 0) []
+    ∷ out 0 0 (cmd 1 0 0 0) []
+    ∷ out 0 0 (cmd 1 0 0 1) []
+    ∷ out 0 0 (cmd 0 0 0 0) []
+    ∷ outFound 0 0 (cmd 0 0 0 0) (151 ∷ []) (foundLevel 0)
+    ∷ out 0 2 (cmd 0 0 0 0) []
+    ∷ out 0 0 (cmd 0 0 0 0) []
+    ∷ out 3 0 (cmd 0 0 0 0) []
+    ∷ out 0 3 (cmd 2 0 1 0) (58 ∷ [])
+    ∷ out 0 0 (cmd 0 0 0 0) []
+    ∷ out 0 0 (cmd 2 0 1 1) (0 ∷ [])
+    ∷ out 0 0 (cmd 2 0 1 2) (0 ∷ [])
+    ∷ out 0 0 (cmd 0 0 0 0) []
+    ∷ out 0 0 (cmd 0 0 0 0) []
+    ∷ out 0 0 (cmd 2 0 1 3) (0 ∷ [])
+    ∷ out 4 0 (cmd 0 0 0 0) []
     ∷ out 0 0 (cmd 0 0 0 0) []
     ∷ out 0 0 (cmd 1 1 0 0) []
     ∷ out 0 0 (cmd 0 0 0 0) []
-    ∷ out 0 1 (cmd 2 0 0 0) (0 ∷ [])
-    ∷ outFound 0 0 (cmd 0 0 0 0) (124 ∷ []) (foundLevel 0)
-    ∷ out 0 2 (cmd 0 0 0 0) []
-    ∷ out 0 0 (cmd 0 0 0 0) []
-    ∷ out 0 0 (cmd 2 0 0 1) (0 ∷ [])
-    ∷ out 0 0 (cmd 0 0 0 0) []
-    ∷ out 0 0 (cmd 1 0 0 0) []
     ∷ out 0 0 (cmd 1 1 0 1) []
+    ∷ out 0 0 (cmd 0 0 0 0) []
     ∷ out 14 0 (cmd 0 0 0 0) []
-    ∷ out 0 0 (cmd 0 0 0 0) []
-    ∷ out 0 0 (cmd 0 0 0 0) []
+    ∷ out 3 0 (cmd 0 0 0 0) []
     ∷ out 0 3 (cmd 2 1 1 0) (0 ∷ [])
+    ∷ out 0 0 (cmd 0 0 0 0) []
     ∷ out 0 0 (cmd 2 1 1 1) (0 ∷ [])
-    ∷ outFound 0 0 (cmd 0 0 0 0) (124 ∷ []) foundCache
-    ∷ out 9 0 (cmd 0 0 0 0) []
-    ∷ out 0 0 (cmd 0 0 0 0) []
-    ∷ out 0 0 (cmd 0 0 0 0) []
     ∷ out 0 0 (cmd 2 1 1 2) (0 ∷ [])
+    ∷ out 0 0 (cmd 0 0 0 0) []
     ∷ out 0 0 (cmd 2 1 1 3) (0 ∷ [])
-    ∷ out 0 2 (cmd 0 0 0 0) []
     ∷ out 0 0 (cmd 0 0 0 0) []
     ∷ out 0 0 (cmd 0 0 0 0) []
-    ∷ out 0 1 (cmd 2 1 0 0) (0 ∷ [])
-    ∷ out 0 0 (cmd 0 0 0 0) []
-    ∷ out 0 0 (cmd 2 1 0 1) (0 ∷ [])
-    ∷ out 0 0 (cmd 0 0 0 0) []
-    ∷ out 0 0 (cmd 1 0 0 1) []
-    ∷ out 0 0 (cmd 0 0 0 0) []
-    ∷ out 0 4 (cmd 2 0 1 0) (0 ∷ [])
-    ∷ out 0 0 (cmd 0 0 0 0) []
-    ∷ out 0 0 (cmd 2 0 1 1) (30 ∷ [])
-    ∷ out 0 0 (cmd 2 0 1 2) (0 ∷ [])
-    ∷ out 4 0 (cmd 0 0 0 0) []
-    ∷ out 0 0 (cmd 0 0 0 0) []
-    ∷ out 0 0 (cmd 2 0 1 3) (0 ∷ [])
-    ∷ out 0 0 (cmd 0 0 0 0) []
-    ∷ out 0 0 (cmd 0 0 0 0) []
-    ∷ out 0 1 (cmd 2 0 0 0) (0 ∷ [])
-    ∷ out 0 0 (cmd 0 0 0 0) []
-    ∷ out 0 0 (cmd 2 0 0 1) (0 ∷ [])
-    ∷ out 0 0 (cmd 0 0 0 0) []
-    ∷ out 0 0 (cmd 1 0 0 0) []
-    ∷ out 0 0 (cmd 1 0 1 1) []
-    ∷ out 0 0 (cmd 0 0 0 0) []
-    ∷ out 0 0 (cmd 0 0 0 0) []
-    ∷ outFound 0 0 (cmd 0 0 0 0) (30 ∷ []) (foundLevel 1)
-    ∷ out 0 2 (cmd 0 0 0 0) []
-    ∷ out 0 0 (cmd 1 0 0 1) []
     ∷ out 0 0 (cmd 1 0 1 0) []
+    ∷ out 0 0 (cmd 0 0 0 0) []
+    ∷ outFound 0 0 (cmd 0 0 0 0) (58 ∷ []) (foundLevel 1)
+    ∷ out 0 1 (cmd 2 0 0 0) (244 ∷ [])
+    ∷ out 0 0 (cmd 0 0 0 0) []
+    ∷ out 0 2 (cmd 0 0 0 0) []
+    ∷ out 0 0 (cmd 2 0 0 1) (0 ∷ [])
     ∷ [])
 
 session7 : run closed session7-calls ≡ session7-outcomes
@@ -140,66 +140,74 @@ session7 = refl
 
 session8-calls : List Call
 session8-calls =
-    (call (opening (shape 1 2 3 1 1 3)) 584 (28481 ∷ 4520 ∷ []) 0
-    ∷ call (request 2 0 (251 ∷ [])) 592 (42537 ∷ 53135 ∷ 63606 ∷ []) 0
+    (call (opening (shape 1 2 3 1 1 3)) 584 (42853 ∷ []) 0
+    ∷ call (request 2 0 (244 ∷ [])) 584 (26408 ∷ 44266 ∷ 65534 ∷ []) 0
     ∷ call (collect) 584 [] 1
-    ∷ call (turn) 584 (19369 ∷ 65535 ∷ []) 1
-    ∷ call (turn) 591 [] 1
-    ∷ call (request 2 0 (104 ∷ [])) 584 (65465 ∷ 16865 ∷ []) 0
+    ∷ call (request 2 0 (20 ∷ [])) 592 (22074 ∷ 32896 ∷ []) 0
+    ∷ call (turn) 584 (23307 ∷ []) 1
     ∷ call (completion (cmd 2 1 0 0) []) 584 [] 0
+    ∷ call (turn) 584 (23002 ∷ []) 1
     ∷ call (completion (cmd 2 1 0 1) []) 584 [] 0
-    ∷ call (turn) 584 [] 1
-    ∷ call (turn) 584 [] 1
-    ∷ call (completion (cmd 1 1 0 1) (0 ∷ [])) 584 [] 0
-    ∷ call (completion (cmd 1 1 0 0) (251 ∷ [])) 584 [] 0
-    ∷ call (turn) 585 (3520 ∷ 50179 ∷ 57347 ∷ []) 1
-    ∷ call (turn) 584 (61652 ∷ []) 1
-    ∷ call (turn) 584 (62310 ∷ []) 1
-    ∷ call (completion (cmd 2 1 1 1) []) 584 [] 0
-    ∷ call (turn) 588 (52597 ∷ []) 1
-    ∷ call (completion (cmd 2 1 1 0) []) 584 [] 0
-    ∷ call (completion (cmd 2 1 1 2) []) 584 [] 0
-    ∷ call (completion (cmd 2 1 1 3) []) 584 [] 0
-    ∷ call (turn) 584 (15679 ∷ []) 1
-    ∷ call (completion (cmd 1 1 1 3) (251 ∷ [])) 584 [] 0
+    ∷ call (completion (cmd 2 2 0 4) (77 ∷ [])) 584 [] 0
     ∷ call (collect) 584 [] 1
-    ∷ call (turn) 584 (6672 ∷ []) 1
-    ∷ call (completion (cmd 2 1 0 0) []) 584 [] 0
+    ∷ call (turn) 584 (15117 ∷ []) 1
+    ∷ call (request 2 0 (216 ∷ [])) 584 (21554 ∷ 65416 ∷ []) 0
+    ∷ call (turn) 584 (46694 ∷ []) 1
+    ∷ call (completion (cmd 2 0 0 1) []) 584 [] 0
+    ∷ call (completion (cmd 2 0 0 0) []) 584 [] 0
+    ∷ call (turn) 584 (18409 ∷ []) 1
+    ∷ call (turn) 584 (43842 ∷ []) 1
+    ∷ call (completion (cmd 1 0 0 1) (0 ∷ [])) 584 [] 0
+    ∷ call (completion (cmd 1 0 0 0) (20 ∷ [])) 587 [] 0
+    ∷ call (turn) 584 (30504 ∷ 65534 ∷ 42812 ∷ 31684 ∷ []) 1
+    ∷ call (completion (cmd 2 0 1 0) []) 586 [] 0
+    ∷ call (turn) 584 (28833 ∷ []) 1
+    ∷ call (completion (cmd 2 0 1 1) []) 584 [] 0
+    ∷ call (turn) 586 (65533 ∷ []) 1
+    ∷ call (completion (cmd 2 0 1 2) []) 584 [] 0
     ∷ call (turn) 584 [] 1
-    ∷ call (request 2 0 (148 ∷ [])) 584 (46838 ∷ 20038 ∷ 65437 ∷ []) 0
-    ∷ call (completion (cmd 2 1 0 1) []) 584 [] 0
-    ∷ call (turn) 589 [] 1
-    ∷ call (turn) 590 [] 1
-    ∷ call (completion (cmd 1 1 0 1) (104 ∷ [])) 584 [] 0
-    ∷ call (completion (cmd 1 1 0 0) (0 ∷ [])) 584 [] 0
-    ∷ call (turn) 584 (60742 ∷ []) 1
-    ∷ call (turn) 589 (26989 ∷ 59249 ∷ 6388 ∷ 65523 ∷ 24457 ∷ 63697 ∷ 8519 ∷ 65535 ∷ 55820 ∷ 9132 ∷ 54193 ∷ 1108 ∷ 34825 ∷ 24310 ∷ 42151 ∷ []) 1
-    ∷ call (completion (cmd 2 1 1 0) []) 590 [] 0
-    ∷ call (turn) 592 (2399 ∷ []) 1
-    ∷ call (completion (cmd 1 1 1 2) (0 ∷ [])) 585 [] 0
-    ∷ call (completion (cmd 1 1 1 0) (0 ∷ [])) 584 [] 0
-    ∷ call (completion (cmd 1 1 1 1) (0 ∷ [])) 584 [] 0
-    ∷ call (turn) 584 (53855 ∷ 65534 ∷ 65534 ∷ 1529 ∷ 643 ∷ 8706 ∷ 42183 ∷ 30226 ∷ 8302 ∷ []) 1
+    ∷ call (completion (cmd 2 0 1 3) []) 587 [] 0
+    ∷ call (turn) 584 (58237 ∷ []) 1
+    ∷ call (completion (cmd 1 0 1 1) (20 ∷ [])) 589 [] 0
+    ∷ call (collect) 590 [] 1
+    ∷ call (turn) 584 (61815 ∷ 883 ∷ []) 1
+    ∷ call (request 1 0 []) 584 (18551 ∷ 11344 ∷ 58962 ∷ []) 0
+    ∷ call (turn) 584 [] 1
+    ∷ call (completion (cmd 2 0 0 0) []) 584 [] 0
+    ∷ call (completion (cmd 2 0 0 1) []) 584 [] 0
+    ∷ call (turn) 584 [] 1
+    ∷ call (completion (cmd 1 0 0 0) (216 ∷ [])) 584 [] 0
+    ∷ call (turn) 584 [] 1
+    ∷ call (completion (cmd 1 0 0 1) (0 ∷ [])) 584 [] 0
     ∷ call (turn) 584 [] 1
     ∷ call (turn) 584 [] 1
-    ∷ call (completion (cmd 2 1 2 0) []) 584 [] 0
+    ∷ call (turn) 584 [] 1
+    ∷ call (completion (cmd 1 0 1 2) (0 ∷ [])) 584 [] 0
+    ∷ call (completion (cmd 1 0 1 3) (0 ∷ [])) 584 [] 0
+    ∷ call (completion (cmd 1 0 1 0) (0 ∷ [])) 584 [] 0
+    ∷ call (turn) 590 (43895 ∷ 29337 ∷ 38567 ∷ 56380 ∷ 36876 ∷ 65535 ∷ 31740 ∷ []) 1
+    ∷ call (turn) 584 (55482 ∷ 65533 ∷ 65532 ∷ 61679 ∷ 44948 ∷ 23116 ∷ 34247 ∷ 65535 ∷ 44802 ∷ []) 1
+    ∷ call (completion (cmd 2 0 2 0) []) 584 [] 0
+    ∷ call (turn) 586 [] 1
+    ∷ call (turn) 588 [] 1
+    ∷ call (turn) 584 [] 1
+    ∷ call (completion (cmd 2 0 2 1) []) 584 [] 0
+    ∷ call (turn) 584 [] 1
+    ∷ call (completion (cmd 2 0 2 3) []) 584 [] 0
+    ∷ call (turn) 584 [] 1
+    ∷ call (completion (cmd 2 0 2 5) []) 584 [] 0
+    ∷ call (turn) 584 [] 1
+    ∷ call (completion (cmd 2 0 2 4) []) 584 [] 0
+    ∷ call (completion (cmd 2 0 2 6) []) 587 [] 0
+    ∷ call (turn) 584 [] 1
+    ∷ call (completion (cmd 2 0 2 7) []) 587 [] 0
+    ∷ call (completion (cmd 2 0 2 2) []) 584 [] 0
     ∷ call (collect) 584 [] 0
-    ∷ call (turn) 590 [] 1
-    ∷ call (completion (cmd 2 1 2 1) []) 592 [] 0
-    ∷ call (completion (cmd 2 1 2 3) []) 587 [] 0
-    ∷ call (completion (cmd 2 1 2 2) []) 584 [] 0
-    ∷ call (turn) 584 (56592 ∷ 65524 ∷ 62093 ∷ 6765 ∷ 44626 ∷ 23971 ∷ 53314 ∷ 65333 ∷ 65534 ∷ 65535 ∷ 21992 ∷ 29163 ∷ 59286 ∷ 56377 ∷ 65365 ∷ []) 1
-    ∷ call (turn) 584 (63123 ∷ []) 1
-    ∷ call (completion (cmd 2 1 2 5) []) 584 [] 0
     ∷ call (turn) 584 [] 1
-    ∷ call (turn) 591 [] 1
-    ∷ call (completion (cmd 2 1 2 7) []) 587 [] 0
-    ∷ call (completion (cmd 2 1 2 4) []) 584 [] 0
-    ∷ call (completion (cmd 2 1 2 6) []) 590 [] 0
-    ∷ call (turn) 584 [] 1
-    ∷ call (completion (cmd 1 1 2 2) (104 ∷ [])) 584 [] 0
-    ∷ call (request 1 2 []) 584 (40591 ∷ 20655 ∷ []) 0
-    ∷ call (collect) 588 [] 1
+    ∷ call (collect) 584 [] 1
+    ∷ call (completion (cmd 1 0 2 4) (216 ∷ [])) 586 [] 0
+    ∷ call (collect) 584 [] 1
+    ∷ call (request 1 0 []) 584 (65514 ∷ 39037 ∷ []) 0
     ∷ [])
 
 session8-outcomes : List Outcome
@@ -207,142 +215,35 @@ session8-outcomes =
     (out 0 1 (cmd 0 0 0 0) []
     ∷ out 0 2 (cmd 0 0 0 0) []
     ∷ out 0 0 (cmd 0 0 0 0) (0 ∷ [])
-    ∷ out 0 1 (cmd 2 1 0 0) (251 ∷ [])
-    ∷ out 0 0 (cmd 2 1 0 1) (0 ∷ [])
     ∷ out 0 2 (cmd 0 0 0 0) []
-    ∷ out 0 0 (cmd 0 0 0 0) []
-    ∷ out 0 0 (cmd 0 0 0 0) []
-    ∷ out 0 0 (cmd 1 1 0 0) []
-    ∷ out 0 0 (cmd 1 1 0 1) []
-    ∷ out 0 0 (cmd 0 0 0 0) []
-    ∷ out 0 0 (cmd 0 0 0 0) []
-    ∷ out 0 3 (cmd 2 1 1 0) (0 ∷ [])
-    ∷ out 0 0 (cmd 2 1 1 1) (0 ∷ [])
-    ∷ out 0 0 (cmd 2 1 1 2) (0 ∷ [])
-    ∷ out 0 0 (cmd 0 0 0 0) []
-    ∷ out 0 0 (cmd 2 1 1 3) (251 ∷ [])
-    ∷ out 0 0 (cmd 0 0 0 0) []
-    ∷ out 0 0 (cmd 0 0 0 0) []
-    ∷ out 0 0 (cmd 0 0 0 0) []
-    ∷ out 0 0 (cmd 1 1 1 3) []
-    ∷ out 0 0 (cmd 0 0 0 0) []
-    ∷ outFound 0 0 (cmd 0 0 0 0) (251 ∷ []) (foundLevel 1)
     ∷ out 0 1 (cmd 2 1 0 0) (0 ∷ [])
     ∷ out 0 0 (cmd 0 0 0 0) []
-    ∷ out 0 0 (cmd 2 1 0 1) (104 ∷ [])
-    ∷ out 0 2 (cmd 0 0 0 0) []
+    ∷ out 0 0 (cmd 2 1 0 1) (0 ∷ [])
     ∷ out 0 0 (cmd 0 0 0 0) []
-    ∷ out 0 0 (cmd 1 1 0 0) []
-    ∷ out 0 0 (cmd 1 1 0 1) []
-    ∷ out 0 0 (cmd 0 0 0 0) []
-    ∷ out 0 0 (cmd 0 0 0 0) []
-    ∷ out 0 0 (cmd 1 1 1 0) []
-    ∷ out 0 0 (cmd 1 1 1 1) []
     ∷ out 11 0 (cmd 0 0 0 0) []
-    ∷ out 0 0 (cmd 1 1 1 2) []
-    ∷ out 0 0 (cmd 0 0 0 0) []
-    ∷ out 0 0 (cmd 0 0 0 0) []
-    ∷ out 0 0 (cmd 0 0 0 0) []
-    ∷ out 0 9 (cmd 2 1 2 0) (0 ∷ [])
-    ∷ out 0 0 (cmd 2 1 2 1) (0 ∷ [])
-    ∷ out 0 0 (cmd 2 1 2 2) (104 ∷ [])
-    ∷ out 0 0 (cmd 0 0 0 0) []
-    ∷ out 14 0 (cmd 0 0 0 0) []
-    ∷ out 0 0 (cmd 2 1 2 3) (0 ∷ [])
-    ∷ out 0 0 (cmd 0 0 0 0) []
-    ∷ out 0 0 (cmd 0 0 0 0) []
-    ∷ out 0 0 (cmd 0 0 0 0) []
-    ∷ out 0 0 (cmd 2 1 2 4) (0 ∷ [])
-    ∷ out 0 0 (cmd 2 1 2 5) (0 ∷ [])
-    ∷ out 0 0 (cmd 0 0 0 0) []
-    ∷ out 0 0 (cmd 2 1 2 6) (0 ∷ [])
-    ∷ out 0 0 (cmd 2 1 2 7) (0 ∷ [])
-    ∷ out 0 0 (cmd 0 0 0 0) []
-    ∷ out 0 0 (cmd 0 0 0 0) []
-    ∷ out 0 0 (cmd 0 0 0 0) []
-    ∷ out 0 0 (cmd 1 1 2 2) []
-    ∷ out 0 0 (cmd 0 0 0 0) []
-    ∷ out 4 0 (cmd 0 0 0 0) []
-    ∷ outFound 0 0 (cmd 0 0 0 0) (104 ∷ []) (foundLevel 2)
-    ∷ [])
-
-session8 : run closed session8-calls ≡ session8-outcomes
-unfolding model session8-calls session8-outcomes
-session8 = refl
-
-session9-calls : List Call
-session9-calls =
-    (call (opening (shape 5 1 3 1 1 3)) 493 (58321 ∷ []) 0
-    ∷ call (request 2 0 (153 ∷ [])) 488 (35223 ∷ 13383 ∷ 63936 ∷ []) 0
-    ∷ call (opening (shape 1 1 3 1 1 3)) 492 [] 0
-    ∷ call (opening (shape 1 1 3 1 1 3)) 487 (28418 ∷ []) 1
-    ∷ call (collect) 488 [] 1
-    ∷ call (opening (shape 1 1 3 1 1 3)) 488 (45485 ∷ []) 0
-    ∷ call (request 2 0 (101 ∷ [])) 493 (25244 ∷ 32544 ∷ 65358 ∷ []) 0
-    ∷ call (collect) 488 [] 1
-    ∷ call (collect) 488 [] 0
-    ∷ call (request 1 0 []) 488 (20724 ∷ 65534 ∷ 36517 ∷ []) 0
-    ∷ call (turn) 488 (12257 ∷ 20296 ∷ []) 1
-    ∷ call (turn) 488 [] 1
-    ∷ call (completion (cmd 2 0 0 0) []) 488 [] 0
-    ∷ call (completion (cmd 2 0 0 1) []) 488 [] 0
-    ∷ call (turn) 488 [] 1
-    ∷ call (completion (cmd 1 0 0 0) (101 ∷ [])) 488 [] 0
-    ∷ call (turn) 488 [] 1
-    ∷ call (completion (cmd 1 0 0 1) (0 ∷ [])) 488 [] 0
-    ∷ call (turn) 488 (41411 ∷ 65535 ∷ 47053 ∷ 54326 ∷ []) 1
-    ∷ call (turn) 488 [] 1
-    ∷ call (completion (cmd 2 0 1 0) []) 488 [] 0
-    ∷ call (turn) 488 [] 1
-    ∷ call (turn) 488 [] 1
-    ∷ call (completion (cmd 2 0 1 2) []) 495 [] 0
-    ∷ call (completion (cmd 2 0 1 1) []) 488 [] 0
-    ∷ call (completion (cmd 2 0 1 3) []) 488 [] 0
-    ∷ call (turn) 488 [] 1
-    ∷ call (completion (cmd 1 0 1 2) (101 ∷ [])) 488 [] 0
-    ∷ call (collect) 488 [] 1
-    ∷ call (turn) 488 (26716 ∷ 4605 ∷ []) 1
-    ∷ call (turn) 488 [] 1
-    ∷ call (request 2 0 (160 ∷ [])) 490 (23536 ∷ 65152 ∷ 65528 ∷ []) 0
-    ∷ call (completion (cmd 2 0 0 1) []) 488 [] 0
-    ∷ call (completion (cmd 2 0 0 0) []) 488 [] 0
-    ∷ call (turn) 488 [] 1
-    ∷ call (completion (cmd 1 0 0 0) (0 ∷ [])) 488 [] 0
-    ∷ call (turn) 489 (59820 ∷ []) 1
-    ∷ call (completion (cmd 1 0 0 1) (101 ∷ [])) 488 [] 0
-    ∷ call (turn) 488 [] 1
-    ∷ call (completion (cmd 1 0 1 0) (0 ∷ [])) 488 [] 0
-    ∷ call (turn) 488 (453 ∷ []) 1
-    ∷ call (completion (cmd 1 0 1 1) (135 ∷ [])) 488 [] 0
-    ∷ call (turn) 495 (8046 ∷ []) 1
-    ∷ call (completion (cmd 1 0 1 3) (0 ∷ [])) 488 [] 0
-    ∷ call (turn) 488 (65535 ∷ 65535 ∷ 5505 ∷ 10995 ∷ 56157 ∷ 8780 ∷ 14658 ∷ []) 1
-    ∷ call (turn) 488 (59645 ∷ 65534 ∷ 22958 ∷ 11733 ∷ 65535 ∷ 38602 ∷ 32774 ∷ 48767 ∷ []) 1
-    ∷ call (turn) 488 (17023 ∷ 65534 ∷ 65534 ∷ 43192 ∷ 65532 ∷ 2282 ∷ 65535 ∷ 61798 ∷ 65535 ∷ 17118 ∷ 6283 ∷ []) 1
-    ∷ call (completion (cmd 2 0 2 0) []) 488 [] 0
-    ∷ call (turn) 488 (9688 ∷ 61304 ∷ 17089 ∷ 33498 ∷ 24652 ∷ 65335 ∷ 37981 ∷ []) 2
-    ∷ call (turn) 488 [] 1
-    ∷ call (turn) 488 (45749 ∷ []) 1
-    ∷ call (turn) 488 [] 1
-    ∷ call (request 2 0 []) 488 (65521 ∷ 43758 ∷ []) 0
-    ∷ call (completion (cmd 2 0 2 1) []) 488 [] 0
-    ∷ call (request 2 0 (59 ∷ [])) 491 (65535 ∷ 54566 ∷ []) 0
-    ∷ call (turn) 488 [] 1
-    ∷ [])
-
-session9-outcomes : List Outcome
-session9-outcomes =
-    (out 1 0 (cmd 0 0 0 0) []
-    ∷ out 2 0 (cmd 0 0 0 0) []
-    ∷ out 3 0 (cmd 0 0 0 0) []
-    ∷ out 2 0 (cmd 0 0 0 0) []
-    ∷ out 2 0 (cmd 0 0 0 0) []
-    ∷ out 0 1 (cmd 0 0 0 0) []
+    ∷ outFound 0 0 (cmd 0 0 0 0) (244 ∷ []) foundCache
+    ∷ out 0 1 (cmd 2 0 0 0) (20 ∷ [])
     ∷ out 0 2 (cmd 0 0 0 0) []
-    ∷ out 0 0 (cmd 0 0 0 0) (0 ∷ [])
-    ∷ out 13 0 (cmd 0 0 0 0) []
+    ∷ out 0 0 (cmd 2 0 0 1) (0 ∷ [])
+    ∷ out 0 0 (cmd 0 0 0 0) []
+    ∷ out 0 0 (cmd 0 0 0 0) []
+    ∷ out 0 0 (cmd 1 0 0 0) []
+    ∷ out 0 0 (cmd 1 0 0 1) []
+    ∷ out 0 0 (cmd 0 0 0 0) []
+    ∷ out 0 0 (cmd 0 0 0 0) []
+    ∷ out 0 3 (cmd 2 0 1 0) (0 ∷ [])
+    ∷ out 0 0 (cmd 0 0 0 0) []
+    ∷ out 0 0 (cmd 2 0 1 1) (20 ∷ [])
+    ∷ out 0 0 (cmd 0 0 0 0) []
+    ∷ out 0 0 (cmd 2 0 1 2) (0 ∷ [])
+    ∷ out 0 0 (cmd 0 0 0 0) []
+    ∷ out 0 0 (cmd 2 0 1 3) (0 ∷ [])
+    ∷ out 0 0 (cmd 0 0 0 0) []
+    ∷ out 0 0 (cmd 1 0 1 1) []
+    ∷ out 0 0 (cmd 0 0 0 0) []
+    ∷ outFound 0 0 (cmd 0 0 0 0) (20 ∷ []) (foundLevel 1)
+    ∷ out 0 1 (cmd 2 0 0 0) (216 ∷ [])
     ∷ out 0 2 (cmd 0 0 0 0) []
-    ∷ out 0 1 (cmd 2 0 0 0) (101 ∷ [])
     ∷ out 0 0 (cmd 2 0 0 1) (0 ∷ [])
     ∷ out 0 0 (cmd 0 0 0 0) []
     ∷ out 0 0 (cmd 0 0 0 0) []
@@ -350,46 +251,37 @@ session9-outcomes =
     ∷ out 0 0 (cmd 0 0 0 0) []
     ∷ out 0 0 (cmd 1 0 0 1) []
     ∷ out 0 0 (cmd 0 0 0 0) []
-    ∷ out 0 4 (cmd 2 0 1 0) (0 ∷ [])
-    ∷ out 0 0 (cmd 2 0 1 1) (0 ∷ [])
-    ∷ out 0 0 (cmd 0 0 0 0) []
-    ∷ out 0 0 (cmd 2 0 1 2) (101 ∷ [])
-    ∷ out 0 0 (cmd 2 0 1 3) (0 ∷ [])
-    ∷ out 0 0 (cmd 0 0 0 0) []
-    ∷ out 0 0 (cmd 0 0 0 0) []
-    ∷ out 0 0 (cmd 0 0 0 0) []
-    ∷ out 0 0 (cmd 1 0 1 2) []
-    ∷ out 0 0 (cmd 0 0 0 0) []
-    ∷ outFound 0 0 (cmd 0 0 0 0) (101 ∷ []) (foundLevel 1)
-    ∷ out 0 1 (cmd 2 0 0 0) (0 ∷ [])
-    ∷ out 0 0 (cmd 2 0 0 1) (101 ∷ [])
-    ∷ out 0 2 (cmd 0 0 0 0) []
-    ∷ out 0 0 (cmd 0 0 0 0) []
-    ∷ out 0 0 (cmd 0 0 0 0) []
-    ∷ out 0 0 (cmd 1 0 0 0) []
-    ∷ out 0 0 (cmd 0 0 0 0) []
-    ∷ out 0 0 (cmd 1 0 0 1) []
-    ∷ out 0 0 (cmd 0 0 0 0) []
     ∷ out 0 0 (cmd 1 0 1 0) []
-    ∷ out 0 0 (cmd 0 0 0 0) []
-    ∷ out 0 0 (cmd 1 0 1 1) []
-    ∷ out 0 0 (cmd 0 0 0 0) []
+    ∷ out 0 0 (cmd 1 0 1 2) []
     ∷ out 0 0 (cmd 1 0 1 3) []
     ∷ out 0 0 (cmd 0 0 0 0) []
-    ∷ out 3 0 (cmd 0 0 0 0) []
-    ∷ out 3 0 (cmd 0 0 0 0) []
-    ∷ out 0 11 (cmd 2 0 2 0) (0 ∷ [])
     ∷ out 0 0 (cmd 0 0 0 0) []
-    ∷ out 15 0 (cmd 0 0 0 0) []
+    ∷ out 0 0 (cmd 0 0 0 0) []
+    ∷ out 3 0 (cmd 0 0 0 0) []
+    ∷ out 0 8 (cmd 2 0 2 0) (0 ∷ [])
+    ∷ out 0 0 (cmd 0 0 0 0) []
     ∷ out 0 0 (cmd 2 0 2 1) (0 ∷ [])
     ∷ out 0 0 (cmd 2 0 2 2) (0 ∷ [])
     ∷ out 0 0 (cmd 2 0 2 3) (0 ∷ [])
-    ∷ out 4 0 (cmd 0 0 0 0) []
     ∷ out 0 0 (cmd 0 0 0 0) []
-    ∷ out 4 0 (cmd 0 0 0 0) []
-    ∷ out 0 0 (cmd 2 0 2 4) (0 ∷ [])
+    ∷ out 0 0 (cmd 2 0 2 4) (216 ∷ [])
+    ∷ out 0 0 (cmd 0 0 0 0) []
+    ∷ out 0 0 (cmd 2 0 2 5) (0 ∷ [])
+    ∷ out 0 0 (cmd 0 0 0 0) []
+    ∷ out 0 0 (cmd 2 0 2 6) (0 ∷ [])
+    ∷ out 0 0 (cmd 0 0 0 0) []
+    ∷ out 0 0 (cmd 0 0 0 0) []
+    ∷ out 0 0 (cmd 2 0 2 7) (0 ∷ [])
+    ∷ out 0 0 (cmd 0 0 0 0) []
+    ∷ out 0 0 (cmd 0 0 0 0) []
+    ∷ out 14 0 (cmd 0 0 0 0) []
+    ∷ out 0 0 (cmd 1 0 2 4) []
+    ∷ out 14 0 (cmd 0 0 0 0) []
+    ∷ out 0 0 (cmd 0 0 0 0) []
+    ∷ outFound 0 0 (cmd 0 0 0 0) (216 ∷ []) (foundLevel 2)
+    ∷ out 0 2 (cmd 0 0 0 0) []
     ∷ [])
 
-session9 : run closed session9-calls ≡ session9-outcomes
-unfolding model session9-calls session9-outcomes
-session9 = refl
+session8 : run closed session8-calls ≡ session8-outcomes
+unfolding model session8-calls session8-outcomes
+session8 = refl

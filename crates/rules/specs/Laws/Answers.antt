@@ -18,6 +18,7 @@ use Rattle.rules.specs.Memory.{needed}
 use Rattle.rules.specs.Draws.{Drawn, draws}
 use Rattle.rules.specs.Laws.Draws.{Settles, Lent, settled, ended, lent, settles-draws}
 use Rattle.rules.specs.Questions.{Ask, opening, request, turn, completion, collect, Call, ready, questions, firstNo, number, bounds}
+use Rattle.rules.specs.Request.{release}
 use Rattle.rules.specs.Run.{Outcome, act, perform, handedFound, refuse, refused, accepted, sentCommand, handed, step, takenOf, numbersOf}
 
 -- each number of a list of questions is at most m
@@ -145,6 +146,10 @@ accepted-passed s c h = firstNo-zero (questions s (c .ask) (c .memory) (c .words
 pub step-accepted : (s : State) (c : Call) → number s c ≡ 0 → step s c ≡ accepted s (c .ask) (draws (bounds s (c .ask)) (c .words))
 unfolding step
 step-accepted s c h = rw (eq-eqb (number s c) 0 h)
+
+-- ..and what it leaves
+pub accepted-leaves : (s : State) (c : Call) → number s c ≡ 0 → step s c .0 ≡ release (perform s (c .ask) (numbersOf (draws (bounds s (c .ask)) (c .words))))
+accepted-leaves s c h = ap (λ (r : State × Outcome). r .0) (step-accepted s c h) ∙ (unfold accepted act in refl)
 
 -- The words lent settle the draws: those that are taken do, and no fewer
 pub settled-taken : (ms ws : List ℕ) → not (isNone (draws ms ws)) ≡ true → Settles ms (take (takenOf (draws ms ws)) ws) (numbersOf (draws ms ws))

@@ -1,18 +1,20 @@
 -- A read for a request is decided with one in hand only. Until it is released, a turn and a completion change no more of it than the level from which its
--- reads go on.
+-- reads go on, and what it awaits.
 use mathlib.Core.Path.{_≡_, refl, ap, sym, _∙_}
-use mathlib.Core.Bool.{Bool, true, false, true≢false}
+use mathlib.Core.Bool.{Bool, true, false, true≢false, _||_}
 use mathlib.Core.List.{List, [], _∷_}
 use mathlib.Core.Option.{Option, none, some, Option·getD}
-use Prim.Native.Nat.{ℕ}
+use Prim.Native.Nat.{ℕ, suc}
+use lib.ListN.{length}
 use lib.Dec.{eqb, ltb}
 use Rattle.lists.specs.Search.{any}
 use Rattle.lists.specs.Tests.{if_then_else_}
-use Rattle.rules.specs.Laws.Shapes.{complete-keeps}
+use Rattle.rules.specs.Completion.{complete}
+use Rattle.rules.specs.Laws.Shapes.{unawaited, complete-keeps}
 use Rattle.rules.specs.Questions.{turn, completion}
 use Rattle.rules.specs.Levels.{target}
 use Rattle.rules.specs.Rebuild.{unread, doRebuild}
-use Rattle.rules.specs.Request.{passLevel}
+use Rattle.rules.specs.Request.{passLevel, releasedFor}
 use Rattle.rules.specs.Run.{perform}
 use Rattle.rules.specs.Shape.{Shape, slots}
 use Rattle.rules.specs.State.{State, Command, Request}
@@ -30,7 +32,7 @@ forRequest (writeNext q t i) = false
 job-not : (s : State) (qs : List ℕ) → forRequest (jobStep s qs) ≡ false
 unfolding forRequest jobStep gatherStep rebuildStep writeStep
 job-not s [] = refl
-job-not s (q ∷ qs) = go (eqb (s .sent) 0) (unread s q) (any (λ c. eqb (c .partition) q) (s .outstanding)) (ltb (s .sent) (slots t))
+job-not s (q ∷ qs) = go (eqb (s .sent) 0) (unread s q) (any (λ c. eqb (c .partition) q) (s .outstanding) || releasedFor (s .partition) (s .request) q) (ltb (s .sent) (slots t))
   where
     t : ℕ
     t = target (s .shape) (s .counter q)
@@ -47,21 +49,21 @@ pub reads-asked : (s : State) (q ℓ i : ℕ) → decide s ≡ readForRequest q 
 unfolding decide requestStep forRequest
 reads-asked s q ℓ i e n = true≢false (sym (ap forRequest e) ∙ ap (λ o. forRequest (Option·getD (requestStep s o) (jobStep s (s .queue)))) n ∙ job-not s (s .queue))
 
--- a request but for that level
+-- a request but for that level and what it awaits
 abbrev pub asked : Option Request → Option Request
 asked none = none
-asked (some r) = some (record { kind = r .kind; block = r .block; bytes = r .bytes; next = r .next; evict = r .evict; level = 0; found = r .found })
+asked (some r) = some (record { kind = r .kind; block = r .block; bytes = r .bytes; next = r .next; evict = r .evict; level = 0; found = r .found; awaits = 0 })
 
-pass-asked : (ℓ : ℕ) (o : Option Request) → asked (passLevel ℓ o) ≡ asked o
+pass-asked : (ℓ n : ℕ) (o : Option Request) → asked (passLevel ℓ n o) ≡ asked o
 unfolding passLevel
-pass-asked ℓ none = refl
-pass-asked ℓ (some r) = refl
+pass-asked ℓ n none = refl
+pass-asked ℓ n (some r) = refl
 
 step-asked : (s : State) (x : Step) (js : List ℕ) → asked (doStep x js s .request) ≡ asked (s .request)
 unfolding doStep markRead send doRebuild
 step-asked s idle js = refl
 step-asked s noDummy js = refl
-step-asked s (readForRequest q ℓ i) js = pass-asked ℓ (s .request)
+step-asked s (readForRequest q ℓ i) js = pass-asked ℓ (suc (length (s .outstanding))) (s .request)
 step-asked s (readForJob q ℓ i) js = refl
 step-asked s (rebuild q t) js = refl
 step-asked s (writeNext q t i) js = refl
@@ -72,4 +74,8 @@ turn-asked s js = step-asked s (decide s) js
 
 pub completion-asked : (s : State) (c : Command) (bs js : List ℕ) → asked (perform s (completion c bs) js .request) ≡ asked (s .request)
 unfolding perform
-completion-asked s c bs js = ap (λ (x : Shape × Option Request). asked (x .1)) (complete-keeps s c bs)
+completion-asked s c bs js = sym (less (complete c bs s .request)) ∙ ap (λ (x : Shape × Option Request). asked (x .1)) (complete-keeps s c bs) ∙ less (s .request)
+  where
+    less : (o : Option Request) → asked (unawaited o) ≡ asked o
+    less none = refl
+    less (some r) = refl

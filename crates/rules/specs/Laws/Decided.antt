@@ -1,6 +1,6 @@
 -- What a turn decides is in range.
 use mathlib.Core.Path.{_≡_, refl}
-use mathlib.Core.Bool.{Bool, true, false}
+use mathlib.Core.Bool.{Bool, true, false, _||_}
 use mathlib.Core.List.{List, [], _∷_, map}
 use mathlib.Core.Option.{Option, none, some, Option·getD}
 use Prim.Native.Nat.{ℕ, zero, suc, _+_, _-_, _^_, _≤_, _<_}
@@ -11,6 +11,7 @@ use Rattle.lists.specs.Tests.{if_then_else_}
 use Rattle.lists.specs.Search
 use Rattle.lists.specs.Search.{below, orElse}
 use Rattle.lists.specs.All.{All, nil, cons, IfSome, all-map, all-append, all-keep, find-all, count-below, map-below, below-below}
+use Rattle.rules.specs.Blocks
 use Rattle.rules.specs.Request
 use Rattle.rules.specs.Rebuild
 use Rattle.rules.specs.Rebuild.{places}
@@ -56,10 +57,32 @@ unfolding orElse
 orElse-in P none b h k = k
 orElse-in P (some x) b h k = h
 
+pub ifUnread-in : (P : ℕ → Type 0) (p : ℕ → Bool) (o : Option ℕ) → IfSome P o → IfSome P (Request.ifUnread p o)
+unfolding Request.ifUnread
+ifUnread-in P p none h = tt
+ifUnread-in P p (some i) h = go (p i)
+  where
+    go : (t : Bool) → IfSome P (if t then some i else none)
+    go true = h
+    go false = tt
+
 module _ (s : State) (f : InRange s) where
   pub dummy-in : (q ℓ : ℕ) → q < s .shape .P → ℓ < s .shape .L → IfSome (λ i. i < slots ℓ) (Request.dummy s q ℓ)
   unfolding Request.dummy
   dummy-in q ℓ hq hℓ = find-all _ (map-below (λ i. i < slots ℓ) (λ k. s .order (cell (s .shape) q ℓ k)) (slots ℓ) (λ i k. f .orders q ℓ i hq hℓ k))
+
+  pub lowest-in : (q ℓ : ℕ) → q < s .shape .P → ℓ < s .shape .L → IfSome (λ i. i < slots ℓ) (Request.lowest s q ℓ)
+  unfolding Request.lowest
+  lowest-in q ℓ hq hℓ = find-all _ (map-below (λ i. i < slots ℓ) (λ k. s .order (cell (s .shape) q ℓ k)) (slots ℓ) (λ i k. f .orders q ℓ i hq hℓ k))
+
+  pub slotRead-in : (q ℓ : ℕ) (x : Place) → q < s .shape .P → ℓ < s .shape .L → PlaceIn (s .shape .L) x → IfSome (λ i. i < slots ℓ) (Request.slotRead s q x ℓ)
+  unfolding Request.slotRead
+  slotRead-in q ℓ x hq hℓ hx = go (Request.isSource s q ℓ)
+    where
+      go : (t : Bool) → IfSome (λ i. i < slots ℓ) (if t then orElse (Request.ifUnread (Blocks.isUnread s q ℓ) (Request.slotIn ℓ x)) (Request.lowest s q ℓ) else orElse (Request.slotIn ℓ x) (Request.dummy s q ℓ))
+      go true = orElse-in (λ i. i < slots ℓ) (Request.ifUnread (Blocks.isUnread s q ℓ) (Request.slotIn ℓ x)) (Request.lowest s q ℓ)
+          (ifUnread-in (λ i. i < slots ℓ) (Blocks.isUnread s q ℓ) (Request.slotIn ℓ x) (slotIn-in (s .shape .L) ℓ x hx)) (lowest-in q ℓ hq hℓ)
+      go false = orElse-in (λ i. i < slots ℓ) (Request.slotIn ℓ x) (Request.dummy s q ℓ) (slotIn-in (s .shape .L) ℓ x hx) (dummy-in q ℓ hq hℓ)
 
   pub levels-in : (r : Request) → r .level ≤ s .shape .L → All (λ ℓ. ℓ < s .shape .L) (Request.levelsLeft s r)
   unfolding Request.levelsLeft
@@ -71,11 +94,10 @@ module _ (s : State) (f : InRange s) where
   readStep-in q ℓ (some i) hq hℓ h = (hq, hℓ, h)
 
   pub firstRead-in : (q : ℕ) (x : Place) (ls : List ℕ) → q < s .shape .P → PlaceIn (s .shape .L) x → All (λ ℓ. ℓ < s .shape .L) ls
-      → IfSome (StepIn (s .shape)) (Turn.firstRead q x (Request.dummy s q) ls)
+      → IfSome (StepIn (s .shape)) (Turn.firstRead q (Request.slotRead s q x) ls)
   unfolding Turn.firstRead
   firstRead-in q x [] hq hx h = tt
-  firstRead-in q x (ℓ ∷ ls) hq hx (cons h t) = readStep-in q ℓ (orElse (Request.slotIn ℓ x) (Request.dummy s q ℓ)) hq h
-      (orElse-in (λ i. i < slots ℓ) (Request.slotIn ℓ x) (Request.dummy s q ℓ) (slotIn-in (s .shape .L) ℓ x hx) (dummy-in q ℓ hq h))
+  firstRead-in q x (ℓ ∷ ls) hq hx (cons h t) = readStep-in q ℓ (Request.slotRead s q x ℓ) hq h (slotRead-in q ℓ x hq h hx)
 
   pub requestStep-in : (r : Option Request) → IfSome (RequestIn (s .shape)) r → IfSome (StepIn (s .shape)) (Turn.requestStep s r)
   unfolding Turn.requestStep
@@ -85,7 +107,7 @@ module _ (s : State) (f : InRange s) where
       q : ℕ
       q = s .partition (r .block)
 
-      go : (t : Bool) → IfSome (StepIn (s .shape)) (if t then none else Turn.firstRead q (s .place (r .block)) (Request.dummy s q) (Request.levelsLeft s r))
+      go : (t : Bool) → IfSome (StepIn (s .shape)) (if t then none else Turn.firstRead q (Request.slotRead s q (s .place (r .block))) (Request.levelsLeft s r))
       go true = tt
       go false = firstRead-in q (s .place (r .block)) (Request.levelsLeft s r) (f .partitions (r .block) (h .block)) (f .places (r .block) (h .block)) (levels-in r (h .level))
 
@@ -115,7 +137,7 @@ module _ (s : State) (f : InRange s) where
 
       go : (t : Bool) → StepIn (s .shape) (if t then Turn.gatherStep q (Rebuild.unread s q) (Turn.rebuildStep s q) else Turn.writeStep s q)
       go true = gatherStep-in q (Rebuild.unread s q) (Turn.rebuildStep s q) h
-          (find-all _ (all-map (λ p k. (omega (arith, trailing-le (s .shape .L) (s .counter q)), k .1)) (places-in (trailingOnes (s .shape .L) (s .counter q))))) (go₁ (Search.any (λ (c : Command). eqb (c .partition) q) (s .outstanding)))
+          (find-all _ (all-map (λ p k. (omega (arith, trailing-le (s .shape .L) (s .counter q)), k .1)) (places-in (trailingOnes (s .shape .L) (s .counter q))))) (go₁ (Search.any (λ (c : Command). eqb (c .partition) q) (s .outstanding) || Request.releasedFor (s .partition) (s .request) q))
       go false = go₂ (ltb (s .sent) (slots goal)) refl
 
   pub decide-in : StepIn (s .shape) (decide s)

@@ -11,7 +11,7 @@ use lib.Pow.{pow-pos}
 use borrow.Author.Tests.{eqb-true, eqb-false, leb-true, ltb-true}
 use Rattle.lists.specs.Search
 use Rattle.lists.specs.Search.{indexOf}
-use Rattle.lists.specs.Lengths.{without-length}
+use Rattle.lists.specs.Lengths.{without-length, firstLeft-le}
 use Rattle.lists.specs.Tests
 use Rattle.lists.specs.Tests.{if_then_else_, and-l, and-r}
 use Rattle.lists.specs.All.{All, nil, cons, IfSome, all-append, all-keep, all-without, all-getD, map-below, all-replicate, below-below}
@@ -28,7 +28,7 @@ use Rattle.rules.specs.Shape.{Shape, cell, slots, within}
 use Rattle.rules.specs.Laws.Decided.{StepIn, stepBounds-pos, decide-in}
 use Rattle.rules.specs.Rebuild
 use Rattle.rules.specs.Rebuild.{places}
-use Rattle.rules.specs.Laws.RangeSetters.{inPlace, inBytes, inCounter, inOrder, inMark, inHolds, inWaiting, inQueue, inCursor, inSent, inOutstanding, inRequest}
+use Rattle.rules.specs.Laws.RangeSetters.{inPlace, inBytes, inCounter, inOrder, inMark, inHolds, inWaiting, inQueue, inBegun, inCursor, inSent, inOutstanding, inRequest}
 use Rattle.rules.specs.Open
 use Rattle.rules.specs.State.{State, closed, Command, Place, nowhere, stored, Request}
 use Rattle.rules.specs.Run
@@ -62,15 +62,15 @@ pub mark-in : (s : State) → InRange s → (q ℓ i : ℕ) → InRange (Turn.ma
 unfolding Turn.markRead
 mark-in s f q ℓ i = inMark s f (put (cell (s .shape) q ℓ i) 0 (s .mark)) (λ p m j hp hm hj. put-has (λ v. v ≤ 1) (cell (s .shape) q ℓ i) 0 (s .mark) (cell (s .shape) p m j) (omega arith) (f .marks p m j hp hm hj))
 
-pub pass-in : (h : Shape) (ℓ : ℕ) (r : Option Request) → ℓ < h .L → IfSome (RequestIn h) r → IfSome (RequestIn h) (Request.passLevel ℓ r)
+pub pass-in : (h : Shape) (ℓ n : ℕ) (r : Option Request) → ℓ < h .L → n ≤ h .W → IfSome (RequestIn h) r → IfSome (RequestIn h) (Request.passLevel ℓ n r)
 unfolding Request.passLevel
-pass-in h ℓ none k f = tt
-pass-in h ℓ (some r) k f = record { kind = f .kind; block = f .block; bytes = f .bytes; next = f .next; evict = f .evict; level = k; found = f .found }
+pass-in h ℓ n none k w f = tt
+pass-in h ℓ n (some r) k w f = record { kind = f .kind; block = f .block; bytes = f .bytes; next = f .next; evict = f .evict; level = k; found = f .found; awaits = w }
 
-pub pass-jobs : (qs : List ℕ) (ℓ : ℕ) (r : Option Request) → JobsIn qs r → JobsIn qs (Request.passLevel ℓ r)
+pub pass-jobs : (qs : List ℕ) (ℓ n : ℕ) (r : Option Request) → JobsIn qs r → JobsIn qs (Request.passLevel ℓ n r)
 unfolding Request.passLevel
-pass-jobs qs ℓ none h = h
-pass-jobs qs ℓ (some r) h = h
+pass-jobs qs ℓ n none h = h
+pass-jobs qs ℓ n (some r) h = h
 
 pub all-leave : {P : ℕ → Type 0} (o : Option ℕ) {xs : List ℕ} → All P xs → All P (Rebuild.leave o xs)
 unfolding Rebuild.leave
@@ -125,7 +125,7 @@ module _ (s : State) (f : InRange s) (q t : ℕ) (ht : t < s .shape .L) (o : Lis
 
   pub rebuild-in : InRange (Rebuild.doRebuild q t o s)
   unfolding Rebuild.doRebuild Rebuild.newPlace start
-  rebuild-in = inSent _ (inHolds _ (inMark _ (inOrder _ (inWaiting _ (inPlace s f _
+  rebuild-in = inSent _ (inBegun _ (inHolds _ (inMark _ (inOrder _ (inWaiting _ (inPlace s f _
       (λ b hb. itemPlace-in (s .shape .L) t o (indexOf b (Rebuild.gathered s q)) (s .place b) ht ho (f .places b hb)))
       _ (all-leave (Rebuild.chosen s q) (f .waiting)) (leave-waits (s .shape .E) (s .waiting) (Rebuild.chosen s q) (s .request) (f .cache)))
       _ (λ p ℓ i hp hℓ hi. putAll-has (λ v. v < slots ℓ) start o (s .order) (cell (s .shape) p ℓ i)
@@ -135,21 +135,26 @@ module _ (s : State) (f : InRange s) (q t : ℕ) (ht : t < s .shape .L) (o : Lis
       _ (λ p ℓ i hp hℓ hi. putAll-has (λ v. v ≤ s .shape .N) start (Rebuild.newHolds (slots t) (Rebuild.gathered s q) o) _ (cell (s .shape) p ℓ i)
       (λ a b. all-getD _ (newHolds-in (s .shape .N) (slots t) (Rebuild.gathered s q) o (gathered-in s q)) (omega arith))
       (cleared-in (s .shape .N) _ _ (s .holds) (cell (s .shape) p ℓ i) (f .holds p ℓ i hp hℓ hi))))
-      1 (pow-pos (s .shape .L))
+      1 (omega arith)) 1 (pow-pos (s .shape .L))
 
 pub jobs-tail : (q : ℕ) (l : List ℕ) (r : Option Request) → JobsIn (q ∷ l) r → JobsIn l r
 jobs-tail q l none h = omega arith
 jobs-tail q l (some r) h = omega arith
 
 module _ (s : State) (f : InRange s) where
+  begun-in : (t : Bool) → (if t then 1 else s .begun) ≤ 1
+  begun-in true = omega arith
+  begun-in false = f .begun
+
   pub doStep-in : (x : Step) (js : List ℕ) → StepIn (s .shape) x → length (s .outstanding) < s .shape .W → InRange (doStep x js s)
   unfolding doStep Turn.markRead Rebuild.doRebuild
   doStep-in idle js h w = f
   doStep-in noDummy js h w = f
-  doStep-in (readForRequest q ℓ i) js h w = send-in _ (inRequest _ (mark-in s f q ℓ i) _
-      (pass-in (s .shape) ℓ (s .request) (h .1) (f .request)) (pass-jobs (s .queue) ℓ (s .request) (f .jobs)) (pass-waits (s .shape .E) ℓ (s .waiting) (s .request) (f .cache)))
+  doStep-in (readForRequest q ℓ i) js h w = send-in _ (inBegun _ (inRequest _ (mark-in s f q ℓ i) _
+      (pass-in (s .shape) ℓ (suc (length (s .outstanding))) (s .request) (h .1) w (f .request)) (pass-jobs (s .queue) ℓ (suc (length (s .outstanding))) (s .request) (f .jobs))
+      (pass-waits (s .shape .E) ℓ (suc (length (s .outstanding))) (s .waiting) (s .request) (f .cache))) _ (begun-in (Request.isSource s q ℓ)))
       _ (record { kind = kind-read; partition = h .0; level = h .1; slot = h .2 }) w
-  doStep-in (readForJob q ℓ i) js h w = send-in _ (inCursor _ (mark-in s f q ℓ i) _ (offset-in (s .shape .L) ℓ i (h .1) (h .2))) _ (record { kind = kind-read; partition = h .0; level = h .1; slot = h .2 }) w
+  doStep-in (readForJob q ℓ i) js h w = send-in _ (inCursor _ (inBegun _ (mark-in s f q ℓ i) 1 (omega arith)) _ (offset-in (s .shape .L) ℓ i (h .1) (h .2))) _ (record { kind = kind-read; partition = h .0; level = h .1; slot = h .2 }) w
   doStep-in (rebuild q t) js h w = send-in _ (rebuild-in s f q t (h .1) (newOrder (slots t) js) (order-below (slots t) js (pow-pos (t + 1))) (length-order (slots t) js))
       _ (record { kind = kind-write; partition = h .0; level = h .1; slot = pow-pos (t + 1) }) w
   doStep-in (writeNext q t i) js h w = send-in _ (inSent s f (suc i) (omega (arith, slots-le (s .shape) t (h .1)))) _ (record { kind = kind-write; partition = h .0; level = h .1; slot = h .2 }) w
@@ -160,8 +165,8 @@ module _ (s : State) (f : InRange s) where
   finishJob-in (q ∷ l) (cons a t) b = go (Completion.jobDone s q)
     where
       go : (u : Bool) → InRange (if u then Completion.endJob q l s else s)
-      go true = inSent _ (inCursor _ (inQueue _ (inCounter s f _ (λ p hp. put-has (λ c. c < 2 ^ s .shape .L) q (grown (s .shape) (s .counter q)) (s .counter) p
-          (grown-lt (s .shape) (s .counter q) (levels-pos (s .shape) (f .shape)) (f .counters q a)) (f .counters p hp))) l t (jobs-tail q l (s .request) b)) 0 (omega arith)) 0 (omega arith)
+      go true = inSent _ (inCursor _ (inBegun _ (inQueue _ (inCounter s f _ (λ p hp. put-has (λ c. c < 2 ^ s .shape .L) q (grown (s .shape) (s .counter q)) (s .counter) p
+          (grown-lt (s .shape) (s .counter q) (levels-pos (s .shape) (f .shape)) (f .counters q a)) (f .counters p hp))) l t (jobs-tail q l (s .request) b)) 0 (omega arith)) 0 (omega arith)) 0 (omega arith)
       go false = f
 
   pub gatherBytes-in : (o : Option ℕ) (bs : List ℕ) → InRange (Completion.gatherBytes o bs s)
@@ -171,7 +176,20 @@ module _ (s : State) (f : InRange s) where
 
   pub completed-in : (c : Command) → InRange (Completion.completed c s)
   unfolding Completion.completed
-  completed-in c = inOutstanding s f (Search.without (Completion.isCommand c) (s .outstanding)) (all-without _ (f .outstanding)) (omega (arith, without-length (Completion.isCommand c) (s .outstanding), f .free))
+  completed-in c = inOutstanding _ (inRequest s f _ (less-in (s .request) (f .request)) (less-jobs (s .queue) (s .request) (f .jobs)) (less-waits (s .shape .E) (s .waiting) (s .request) (f .cache)))
+      (Search.without (Completion.isCommand c) (s .outstanding)) (all-without _ (f .outstanding)) (omega (arith, without-length (Completion.isCommand c) (s .outstanding), f .free))
+    where
+      less-in : (o : Option Request) → IfSome (RequestIn (s .shape)) o → IfSome (RequestIn (s .shape)) (Option·map (Completion.awaitsLess c (s .outstanding)) o)
+      less-in none k = tt
+      less-in (some r) k = (record { kind = k .kind; block = k .block; bytes = k .bytes; next = k .next; evict = k .evict; level = k .level; found = k .found; awaits = omega (arith, k .awaits, firstLeft-le (Completion.isCommand c) (r .awaits) (s .outstanding)) })
+
+      less-jobs : (qs : List ℕ) (o : Option Request) → JobsIn qs o → JobsIn qs (Option·map (Completion.awaitsLess c (s .outstanding)) o)
+      less-jobs qs none h = h
+      less-jobs qs (some r) h = h
+
+      less-waits : (e : ℕ) (xs : List ℕ) (o : Option Request) → Waits e xs o → Waits e xs (Option·map (Completion.awaitsLess c (s .outstanding)) o)
+      less-waits e xs none h = h
+      less-waits e xs (some r) h = h
 
   pub collected-in : (r : Option Request) → IfSome (RequestIn (s .shape)) r → JobsIn (s .queue) r → Waits (s .shape .E) (s .waiting) r → InRange (Collect.collected r s)
   unfolding Collect.collected Collect.finish others
@@ -187,6 +205,7 @@ module _ (s : State) (f : InRange s) where
     waiting = all-append (all-keep _ (f .waiting)) (cons (a .block) nil);
     queue = all-append (f .queue) (cons (f .partitions (r .block) (a .block)) (cons (a .evict) nil));
     outstanding = f .outstanding;
+    begun = f .begun;
     cursor = f .cursor;
     sent = f .sent;
     free = f .free;
@@ -206,7 +225,7 @@ module _ (s : State) where
   released-waits e xs none h = h
   released-waits e xs (some r) h = go (Request.held r && not (Request.blocked s r))
     where
-      go : (t : Bool) → Waits e xs (some (if t then Request.withFound (Blocks.lookUp s (r .block)) r else r))
+      go : (t : Bool) → Waits e xs (some (if t then Request.withFound (Blocks.lookUp s (r .block)) (length (s .outstanding)) r else r))
       go true = h
       go false = h
 
@@ -226,8 +245,8 @@ module _ (s : State) (f : InRange s) where
   released-in none k = tt
   released-in (some r) k = go (Request.held r && not (Request.blocked s r))
     where
-      go : (t : Bool) → RequestIn (s .shape) (if t then Request.withFound (Blocks.lookUp s (r .block)) r else r)
-      go true = record { kind = k .kind; block = k .block; bytes = k .bytes; next = k .next; evict = k .evict; level = k .level; found = found-in (r .block) (k .block) }
+      go : (t : Bool) → RequestIn (s .shape) (if t then Request.withFound (Blocks.lookUp s (r .block)) (length (s .outstanding)) r else r)
+      go true = record { kind = k .kind; block = k .block; bytes = k .bytes; next = k .next; evict = k .evict; level = k .level; found = found-in (r .block) (k .block); awaits = f .free }
       go false = k
 
   pub release-in : InRange (Request.release s)
@@ -247,6 +266,7 @@ fresh-in h js w d = record {
   waiting = nil;
   queue = nil;
   outstanding = nil;
+  begun = omega arith;
   cursor = omega arith;
   sent = omega arith;
   free = omega arith;
@@ -262,13 +282,13 @@ module _ (s : State) (f : InRange s) where
     where
       go : (t : Bool) → InRange (if t then Completion.completeRead c bs s else Completion.completeWrite c s)
       go true = gatherBytes-in (Completion.completed c s) (completed-in s f c) (Blocks.holder s (c .partition) (c .level) (c .slot)) bs
-      go false = finishJob-in (Completion.completed c s) (completed-in s f c) (s .queue) (f .queue) (f .jobs)
+      go false = finishJob-in (Completion.completed c s) (completed-in s f c) (s .queue) (f .queue) (completed-in s f c .jobs)
 
   pub perform-in : (a : Ask) (m : ℕ) (ws : List ℕ) (k : ℕ) (js : List ℕ) → Passed (questions s a m ws k) → Drew (bounds s a) js → InRange (Run.perform s a js)
   unfolding Run.perform questions bounds Request.accept
   perform-in (opening h) m ws k js p d = fresh-in h js (p .0) d
   perform-in (request j b bs) m ws k (x ∷ y ∷ []) p (a, (c, _)) = inRequest s f _
-      (record { kind = and-r (Questions.ready s m) (isKind j) (p .0); block = ltb-true b (s .shape .N) (p .1 .1 .0); bytes = eqb-true _ _ (p .1 .1 .1 .0); next = a; evict = c; level = omega arith; found = tt })
+      (record { kind = and-r (Questions.ready s m) (isKind j) (p .0); block = ltb-true b (s .shape .N) (p .1 .1 .0); bytes = eqb-true _ _ (p .1 .1 .1 .0); next = a; evict = c; level = omega arith; found = tt; awaits = omega arith })
       (leb-true (length (s .queue)) 62 (p .1 .1 .1 .1 .0))
       (let h = waits-le (s .shape .E) (s .waiting) (s .request) (f .cache) in (h, others-room (s .shape .E) b (s .waiting) h (p .1 .1 .1 .1 .1 .0)))
   perform-in turn m ws k js p d = doStep-in s f (decide s) js (decide-in s f) (ltb-true (length (s .outstanding)) (s .shape .W) (p .1 .0))

@@ -39,6 +39,7 @@ pub record RequestIn (h : Shape) (r : Request) : Type 0 where
   pub evict : r .evict < h .P
   pub level : r .level ≤ h .L
   pub found : FoundIn (h .L) (r .found)
+  pub awaits : r .awaits ≤ h .W
 
 abbrev pub JobsIn : List ℕ → Option Request → Type 0
 JobsIn qs none = length qs ≤ 64
@@ -56,6 +57,7 @@ pub record InRange (s : State) : Type 0 where
   pub waiting : All (λ b. b < s .shape .N) (s .waiting)
   pub queue : All (λ q. q < s .shape .P) (s .queue)
   pub outstanding : All (CommandIn (s .shape)) (s .outstanding)
+  pub begun : s .begun ≤ 1
   pub cursor : s .cursor ≤ slots (s .shape .L) - 2
   pub sent : s .sent ≤ 2 ^ s .shape .L
   pub free : length (s .outstanding) ≤ s .shape .W
@@ -106,12 +108,13 @@ request-in h (some r) e = let y = every-yes _ e in record {
   evict = ltb-true (r .evict) (h .P) (y .1 .1 .1 .1 .0);
   level = leb-true (r .level) (h .L) (y .1 .1 .1 .1 .1 .0);
   found = found-in (h .L) (r .found) (y .1 .1 .1 .1 .1 .1 .0);
+  awaits = leb-true (r .awaits) (h .W) (y .1 .1 .1 .1 .1 .1 .1 .0);
 }
 
 in-request : (h : Shape) (r : Option Request) → IfSome (RequestIn h) r → Ranges.rangeRequest h r ≡ true
 unfolding Ranges.rangeRequest
 in-request h none k = refl
-in-request h (some r) k = yes-every _ (k .kind, (lt-ltb (r .block) (h .N) (k .block), (eq-eqb _ _ (k .bytes), (lt-ltb (r .next) (h .P) (k .next), (lt-ltb (r .evict) (h .P) (k .evict), (le-leb (r .level) (h .L) (k .level), (in-found (h .L) (r .found) (k .found), tt)))))))
+in-request h (some r) k = yes-every _ (k .kind, (lt-ltb (r .block) (h .N) (k .block), (eq-eqb _ _ (k .bytes), (lt-ltb (r .next) (h .P) (k .next), (lt-ltb (r .evict) (h .P) (k .evict), (le-leb (r .level) (h .L) (k .level), (in-found (h .L) (r .found) (k .found), (le-leb (r .awaits) (h .W) (k .awaits), tt))))))))
 
 jobs-in : (qs : List ℕ) (r : Option Request) → Ranges.queueFits qs r ≡ true → JobsIn qs r
 unfolding Ranges.queueFits
@@ -146,12 +149,13 @@ range-facts s e = let h = s .shape in let y = every-yes (ranges s) e in record {
   waiting = all-map (λ b. ltb-true b (h .N)) (all-yes _ (s .waiting) (y .1 .1 .1 .1 .1 .1 .1 .0));
   queue = all-map (λ q. ltb-true q (h .P)) (all-yes _ (s .queue) (y .1 .1 .1 .1 .1 .1 .1 .1 .0));
   outstanding = all-map (command-in h) (all-yes _ (s .outstanding) (y .1 .1 .1 .1 .1 .1 .1 .1 .1 .0));
-  cursor = leb-true _ _ (y .1 .1 .1 .1 .1 .1 .1 .1 .1 .1 .0);
-  sent = leb-true _ _ (y .1 .1 .1 .1 .1 .1 .1 .1 .1 .1 .1 .0);
-  free = leb-true _ _ (y .1 .1 .1 .1 .1 .1 .1 .1 .1 .1 .1 .1 .0);
-  request = request-in h (s .request) (y .1 .1 .1 .1 .1 .1 .1 .1 .1 .1 .1 .1 .1 .0);
-  jobs = jobs-in (s .queue) (s .request) (y .1 .1 .1 .1 .1 .1 .1 .1 .1 .1 .1 .1 .1 .1 .0);
-  cache = cache-in (h .E) (s .waiting) (s .request) (y .1 .1 .1 .1 .1 .1 .1 .1 .1 .1 .1 .1 .1 .1 .1 .0);
+  begun = leb-true _ _ (y .1 .1 .1 .1 .1 .1 .1 .1 .1 .1 .0);
+  cursor = leb-true _ _ (y .1 .1 .1 .1 .1 .1 .1 .1 .1 .1 .1 .0);
+  sent = leb-true _ _ (y .1 .1 .1 .1 .1 .1 .1 .1 .1 .1 .1 .1 .0);
+  free = leb-true _ _ (y .1 .1 .1 .1 .1 .1 .1 .1 .1 .1 .1 .1 .1 .0);
+  request = request-in h (s .request) (y .1 .1 .1 .1 .1 .1 .1 .1 .1 .1 .1 .1 .1 .1 .0);
+  jobs = jobs-in (s .queue) (s .request) (y .1 .1 .1 .1 .1 .1 .1 .1 .1 .1 .1 .1 .1 .1 .1 .0);
+  cache = cache-in (h .E) (s .waiting) (s .request) (y .1 .1 .1 .1 .1 .1 .1 .1 .1 .1 .1 .1 .1 .1 .1 .1 .0);
 }
 
 pub facts-range : (s : State) → InRange s → inRange s ≡ true
@@ -177,16 +181,19 @@ facts-range s f = let h = s .shape in yes-every (ranges s) (
                   (
                     yes-all (all-map (in-command h) (f .outstanding)),
                     (
-                      le-leb _ _ (f .cursor),
+                      le-leb _ _ (f .begun),
                       (
-                        le-leb _ _ (f .sent),
+                        le-leb _ _ (f .cursor),
                         (
-                          le-leb _ _ (f .free),
+                          le-leb _ _ (f .sent),
                           (
-                            in-request h (s .request) (f .request),
+                            le-leb _ _ (f .free),
                             (
-                              in-jobs (s .queue) (s .request) (f .jobs),
-                              (in-cache (h .E) (s .waiting) (s .request) (f .cache), tt),
+                              in-request h (s .request) (f .request),
+                              (
+                                in-jobs (s .queue) (s .request) (f .jobs),
+                                (in-cache (h .E) (s .waiting) (s .request) (f .cache), tt),
+                              ),
                             ),
                           ),
                         ),

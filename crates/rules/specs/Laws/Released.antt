@@ -1,29 +1,35 @@
 -- What a release leaves as it was.
-use mathlib.Core.Path.{_≡_, refl, ap, _∙_}
+use mathlib.Core.Path.{_≡_, refl, ap}
 use mathlib.Core.Bool.{Bool, true, false, not, _&&_}
 use mathlib.Core.List.{[]}
 use mathlib.Core.Option.{Option, none, some, Option·map}
 use Prim.Native.Nat.{ℕ}
 use lib.Dec.{eqb}
+use lib.ListN.{length}
+use Rattle.lists.specs.Search.{isNone}
 use Rattle.lists.specs.Tests.{if_then_else_}
 use Rattle.rules.specs.Blocks.{holder, slotBytes, zeros, lookUp}
 use Rattle.rules.specs.Request.{blocked, held, withFound, releasedIn, release}
-use Rattle.rules.specs.Before.{heldOnly, heldByRule}
+use Rattle.rules.specs.Silent.{heldOnly, withoutFound, unseenIn, releaseUnseen}
 use Rattle.rules.specs.Questions.{Ask, opening, request, turn, completion, collect}
 use Rattle.rules.specs.Run.{written, handed}
 use Rattle.rules.specs.Turn.{decide, command}
 use Rattle.rules.specs.Setters.{setRequest}
-use Rattle.rules.specs.State.{State, Command, write, Request, Found}
+use Rattle.rules.specs.State.{State, Command, write, Request, Found, foundNowhere}
 
--- whatever does not look at where the block was found
-pub released-same : {A : Type 0} (g : Option Request → A) → ((r : Request) (x : Found) → g (some (withFound x r)) ≡ g (some r)) → (s : State) (o : Option Request) →
+-- a request without where its block was found
+abbrev pub without : Option Request → Option Request
+without o = Option·map heldOnly o
+
+-- whatever does not look at where the block was found, nor at what the request awaits
+pub released-same : {A : Type 0} (g : Option Request → A) → ((r : Request) (x : Found) (n : ℕ) → g (some (withFound x n r)) ≡ g (some r)) → (s : State) (o : Option Request) →
     g (Option·map (releasedIn s) o) ≡ g o
 unfolding releasedIn
 released-same g e s none = refl
 released-same g e s (some r) = go (held r && not (blocked s r))
   where
-    go : (t : Bool) → g (some (if t then withFound (lookUp s (r .block)) r else r)) ≡ g (some r)
-    go true = e r (lookUp s (r .block))
+    go : (t : Bool) → g (some (if t then withFound (lookUp s (r .block)) (length (s .outstanding)) r else r)) ≡ g (some r)
+    go true = e r (lookUp s (r .block)) (length (s .outstanding))
     go false = refl
 
 -- what is written does not depend on the request in hand
@@ -48,21 +54,24 @@ handed-release s turn s′ = written-release s′ (command (decide s))
 handed-release s (completion c bs) s′ = refl
 handed-release s collect s′ = refl
 
--- and what document 01's rule says of the request
-pub rule-release : (s : State) → heldByRule (release s) ≡ heldByRule s
-rule-release s = ap (λ o. setRequest o s) (go (s .request))
+-- a release that looks nothing up leaves the same but for what was found
+pub unseen-release : (s : State) → withoutFound (releaseUnseen s) ≡ withoutFound (release s)
+unseen-release s = ap (λ o. setRequest o s) (go (s .request))
   where
-    one : (r : Request) (t : Bool) → some (heldOnly (blocked s r) (if t then withFound (lookUp s (r .block)) r else r)) ≡ some (heldOnly (blocked s r) r)
-    one r true = refl
+    one : (r : Request) (t : Bool) → without (some (if t then withFound foundNowhere (length (s .outstanding)) r else r))
+        ≡ without (some (if t then withFound (lookUp s (r .block)) (length (s .outstanding)) r else r))
+    one r true = unfold held isNone in refl
     one r false = refl
 
-    same : (r : Request) (t : Bool) → blocked (release s) (if t then withFound (lookUp s (r .block)) r else r) ≡ blocked s r
-    same r true = unfold blocked in refl
-    same r false = unfold blocked in refl
-
-    go : (o : Option Request) → Option·map (λ r. heldOnly (blocked (release s) r) r) (Option·map (releasedIn s) o) ≡ Option·map (λ r. heldOnly (blocked s r) r) o
+    go : (o : Option Request) → without (Option·map (unseenIn s) o) ≡ without (Option·map (releasedIn s) o)
     go none = refl
-    go (some r) =
-        let t = held r && not (blocked s r) in
-        let x : releasedIn s r ≡ (if t then withFound (lookUp s (r .block)) r else r) = unfold releasedIn in refl in
-        ap (λ y. some (heldOnly (blocked (release s) y) y)) x ∙ ap (λ u. some (heldOnly u (if t then withFound (lookUp s (r .block)) r else r))) (same r t) ∙ one r t
+    go (some r) = unfold unseenIn releasedIn in (one r (held r && not (blocked s r)))
+
+-- and what is handed out
+pub handed-unseen : (s : State) (a : Ask) (s′ : State) → handed s a (releaseUnseen s′) ≡ handed s a s′
+unfolding handed
+handed-unseen s (opening h) s′ = refl
+handed-unseen s (request k b bs) s′ = refl
+handed-unseen s turn s′ = written-same s′ (Option·map (unseenIn s′) (s′ .request)) (command (decide s))
+handed-unseen s (completion c bs) s′ = refl
+handed-unseen s collect s′ = refl

@@ -1,14 +1,14 @@
--- No call but an open changes the shape, and a completion not the request in hand.
-use mathlib.Core.Path.{_≡_, refl, ap}
+-- No call but an open changes the shape, and a completion nothing of the request in hand but what it awaits.
+use mathlib.Core.Path.{_≡_, refl, ap, _∙_}
 use mathlib.Core.Bool.{Bool, true, false, true≢false}
 use mathlib.Core.List.{List, [], _∷_}
-use mathlib.Core.Option.{Option, none, some}
+use mathlib.Core.Option.{Option, none, some, Option·map}
 use Prim.Native.Nat.{ℕ}
 use lib.Dec.{eqb}
 use Rattle.lists.specs.Tests.{if_then_else_}
 use Rattle.rules.specs.Blocks.{holder}
 use Rattle.rules.specs.Collect.{collected, finish}
-use Rattle.rules.specs.Completion.{complete, completeRead, completeWrite, completed, gatherBytes, finishJob, endJob, jobDone}
+use Rattle.rules.specs.Completion.{complete, completeRead, completeWrite, completed, gatherBytes, finishJob, endJob, jobDone, awaitsLess}
 use Rattle.rules.specs.Laws.Answers.{opens}
 use Rattle.rules.specs.Questions.{Ask, opening, request, turn, completion, collect}
 use Rattle.rules.specs.Rebuild.{doRebuild}
@@ -27,10 +27,15 @@ turn-shape s (readForJob q ℓ i) js = refl
 turn-shape s (rebuild q t) js = refl
 turn-shape s (writeNext q t i) js = refl
 
-abbrev pub both : State → Shape × Option Request
-both s = (s .shape, s .request)
+-- a request but for the commands that it awaits
+abbrev pub unawaited : Option Request → Option Request
+unawaited none = none
+unawaited (some r) = some (record { kind = r .kind; block = r .block; bytes = r .bytes; next = r .next; evict = r .evict; level = r .level; found = r .found; awaits = 0 })
 
--- a completion changes neither the shape nor the request in hand
+abbrev pub both : State → Shape × Option Request
+both s = (s .shape, unawaited (s .request))
+
+-- a completion changes neither the shape nor, but for what it awaits, the request in hand
 pub complete-keeps : (s : State) (c : Command) (bs : List ℕ) → both (complete c bs s) ≡ both s
 unfolding complete completeRead completeWrite completed gatherBytes finishJob endJob
 complete-keeps s c bs = go (eqb (c .kind) 1) (holder s (c .partition) (c .level) (c .slot)) (s .queue)
@@ -38,15 +43,22 @@ complete-keeps s c bs = go (eqb (c .kind) 1) (holder s (c .partition) (c .level)
     s′ : State
     s′ = completed c s
 
-    ended : (q : ℕ) (qs : List ℕ) (t : Bool) → both (if t then endJob q qs s′ else s′) ≡ both s
+    less : (o : Option Request) → unawaited (Option·map (awaitsLess c (s .outstanding)) o) ≡ unawaited o
+    less none = refl
+    less (some r) = refl
+
+    ended : (q : ℕ) (qs : List ℕ) (t : Bool) → both (if t then endJob q qs s′ else s′) ≡ both s′
     ended q qs true = refl
     ended q qs false = refl
 
+    first : (t : Bool) (b : Option ℕ) (qs : List ℕ) → both (if t then gatherBytes b bs s′ else finishJob qs s′) ≡ both s′
+    first true none qs = refl
+    first true (some b) qs = refl
+    first false b [] = refl
+    first false b (q ∷ qs) = ended q qs (jobDone s′ q)
+
     go : (t : Bool) (b : Option ℕ) (qs : List ℕ) → both (if t then gatherBytes b bs s′ else finishJob qs s′) ≡ both s
-    go true none qs = refl
-    go true (some b) qs = refl
-    go false b [] = refl
-    go false b (q ∷ qs) = ended q qs (jobDone s′ q)
+    go t b qs = first t b qs ∙ ap (λ (o : Option Request). (s .shape, o)) (less (s .request))
 
 collect-shape : (s : State) (o : Option Request) → collected o s .shape ≡ s .shape
 unfolding collected finish

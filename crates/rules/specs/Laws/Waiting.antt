@@ -54,10 +54,10 @@ others-room e b xs le h = go (ltb (length xs) e) refl h (keep-le (λ a. not (eqb
     go true d h k = omega (arith, ltb-true (length xs) e d)
     go false d h k = omega (arith, others-member b xs h)
 
-pub pass-waits : (e ℓ : ℕ) (xs : List ℕ) (r : Option Request) → Waits e xs r → Waits e xs (Request.passLevel ℓ r)
+pub pass-waits : (e ℓ n : ℕ) (xs : List ℕ) (r : Option Request) → Waits e xs r → Waits e xs (Request.passLevel ℓ n r)
 unfolding Request.passLevel
-pass-waits e ℓ xs none h = h
-pass-waits e ℓ xs (some r) h = h
+pass-waits e ℓ n xs none h = h
+pass-waits e ℓ n xs (some r) h = h
 
 pub leave-waits : (e : ℕ) (xs : List ℕ) (o : Option ℕ) (r : Option Request) → Waits e xs r → Waits e (Rebuild.leave o xs) r
 unfolding Rebuild.leave others

@@ -11,9 +11,8 @@ use Rattle.sending.specs.Sent.{rebuilt-stands}
 use native.Mathlib.Omega.{arith}
 use Rattle.sending.proofs.write_level.Statement.{statement}
 use Rattle.sending.proofs.write_level.Tie as tie
-use Rattle.sending.proofs.write_level.Reads as reads
-use Rattle.sending.proofs.write_level.Lts as lts
 use Rattle.bits.proofs.sources.Reads as sources-reads
+use Rattle.client.proofs.Client.with_begun.Reads as with-begun-reads
 use Rattle.client.proofs.Client.with_sent.Reads as with-sent-reads
 use Rattle.memory.proofs.tables.counter.Reads as counter-reads
 use Rattle.rebuild.proofs.rebuild_tables.Reads as rebuild-tables-reads
@@ -42,6 +41,9 @@ leave-requires c κs =
     let r = a .args in
     (omega arith, omega arith, place-below (r .c) (r .m .now) (r .q) (r .x) (a .pre .3))
 
+with-begun-requires : tie.Need-with-begun-requires
+with-begun-requires c κs = omega arith
+
 with-sent-requires : tie.Need-with-sent-requires
 with-sent-requires c κs = omega arith
 
@@ -50,13 +52,13 @@ same-length c = omega arith
 
 returns : tie.Need-returns
 returns c =
-    let l = c .before .before .before .leave in
-    let b = c .before .before .before .before .before .before .before .rebuild-tables in
-    let s = c .before .before .before .before .before .before .before .before .before .sources in
-    let k = c .before .before .before .before .before .before .before .before .before .before .counter in
-    let a = c .before .before .before .before .before .before .before .before .before .before .before .before .before .before .before in
+    let l = c .before .before .before .before .leave in
+    let b = c .before .before .before .before .before .before .before .before .rebuild-tables in
+    let s = c .before .before .before .before .before .before .before .before .before .before .sources in
+    let k = c .before .before .before .before .before .before .before .before .before .before .before .counter in
+    let a = c .before .before .before .before .before .before .before .before .before .before .before .before .before .before .before .before in
     let r = a .args in
-    rw (c .with-sent .ensures) (l .ensures .0, l .ensures .1, rebuilt-stands (r .c) (l .result) (r .m .now) _ _ (r .q) (r .t) (s .result) _ _ (r .x) (l .ensures .0) (b .ensures) (l .ensures .2) (a .pre .3) (a .pre .4) (sources-is (r .c) (r .m .now) (r .q) (k .result) (s .result) (k .ensures) (s .ensures .0)), l .ensures .3)
+    rw (c .with-sent .ensures, c .before .with-begun .ensures) (l .ensures .0, l .ensures .1, rebuilt-stands (r .c) (l .result) (r .m .now) _ _ (r .q) (r .t) (s .result) _ _ (r .x) (l .ensures .0) (b .ensures) (l .ensures .2) (a .pre .3) (a .pre .4) (sources-is (r .c) (r .m .now) (r .q) (k .result) (s .result) (k .ensures) (s .ensures .0)), l .ensures .3)
 
 pub write-level-spec : {M : Type 1} → statement M
 write-level-spec =
@@ -66,6 +68,7 @@ write-level-spec =
     sources-requires
     rebuild-tables-requires
     leave-requires
+    with-begun-requires
     with-sent-requires
     same-length
     returns)

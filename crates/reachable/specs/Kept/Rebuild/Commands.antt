@@ -1,26 +1,30 @@
 -- A rebuild keeps the invariant: the commands outstanding, and all of it together.
 use mathlib.Core.Path.{_≡_, refl, ap, sym, _∙_}
 use mathlib.Core.Logic.{_⊎_, inl, inr, ⊎-elim}
-use mathlib.Core.Bool.{false}
-use mathlib.Core.List.{List}
+use mathlib.Core.Bool.{true, false}
+use mathlib.Core.Option.{some}
+use mathlib.Core.List.{List, [], _∷_}
 use Prim.Native.Nat.{ℕ, _<_, _-_}
 use native.Mathlib.Omega.{arith}
 use lib.Dec.{eqb}
 use lib.ListN.{getD}
 use borrow.Author.Tests.{eqb-false}
-use Rattle.lists.specs.All.{nil, cons, all-append, all-map, all-both}
+use Rattle.lists.specs.All.{nil, cons, all-append, all-map, all-both, drop-snoc}
+use Rattle.lists.specs.Totals.{total-same}
 use Rattle.lists.specs.Distinct.{Mem, index}
 use Rattle.lists.specs.Members.{all-mem, decMem}
 use Rattle.rules.specs.Laws.Range.{InRange, CommandIn}
 use Rattle.rules.specs.Levels.{sources}
 use Rattle.rules.specs.Rebuild.{gathered, doRebuild}
+use Rattle.rules.specs.Blocks.{readsOf}
 use Rattle.rules.specs.Request
+use Rattle.rules.specs.Request.{isFront}
 use Rattle.rules.specs.Shape.{slots, Shape, cell}
 use Rattle.rules.specs.State.{State, Command, write, Request, cmd, stored}
 use Rattle.rules.specs.Turn
 use Rattle.reachable.specs.Blocks.{place-lt, stored-inj, target-min, chosen-waits}
 use Rattle.reachable.specs.Consequences.{sources-read, block-lt}
-use Rattle.reachable.specs.Invariant.{Reached, Unread, Own, Spent, Fetched, Reading, Commands, storedAt}
+use Rattle.reachable.specs.Invariant.{Reached, Unworn, Unread, Own, Spent, Fetched, Reading, Commands, storedAt}
 use Rattle.reachable.specs.Kept.Rebuild.Counts.{room-kept, full-kept}
 use Rattle.reachable.specs.Kept.Rebuild.Drawing.{Drawing, place-in, partition-in, place-out, above-target, top-lt, waiting-kept, orders-kept}
 use Rattle.reachable.specs.Kept.Rebuild.Holds.{agree-kept, taken-kept}
@@ -73,7 +77,7 @@ module _ (s : State) (f : Reached s) (q t : ℕ) (o : List ℕ) (d : Drawing s q
       let hx = block-lt s f r e in
       let hq = all-mem (f .range .queue) q (rw (d .step .front) (inl refl)) in
       let unheld : Request.held r ≡ false = ⊎-elim (λ z. absurd (omega arith)) (λ u. u) (f .unheld r e) in
-      let away : ¬ (s .partition (r .block) ≡ q) = λ z. f .released r e unheld (rw (d .step .front) (inl z)) in
+      let away : ¬ (s .partition (r .block) ≡ q) = d .step .apart r e unheld in
       let out : ¬ Mem (r .block) (gathered s q) = λ k. ⊎-elim (λ c. away (chosen-waits s q (r .block) c .0)) (λ c. away (c .0)) (gathered-why s f q hq (r .block) k) in
       let old : s .place (r .block) ≡ stored m j = sym (place-out s f q t o d (r .block) out) ∙ p in
       let y = place-lt (h .L) m j (s .place (r .block)) (f .range .places (r .block) hx) old in
@@ -98,6 +102,20 @@ module _ (s : State) (f : Reached s) (q t : ℕ) (o : List ℕ) (d : Drawing s q
       (all-map (λ c k. ⊎-elim (λ a. inl (reading-still c a (k .1 .0) (k .1 .1))) (λ a. absurd (a .busy (d .step .calm))) (k .0)) (all-both (f .commands) (all-both (d .step .quiet) (f .range .outstanding))))
       (cons (inr (record { kind = refl; front = rw (d .step .front) (front-is q (d .step .rest)); busy = λ e. omega arith; goal = d .step .goal; slot = omega arith })) nil)
 
+  queued : s .queue ≡ [] → _≡_ {A = ℕ} 0 1
+  queued e = let w : q ∷ d .step .rest ≡ [] = sym (d .step .front) ∙ e in cc
+
+  -- the front job is not that of a request that is not held
+  other : (x : Request) → s .request ≡ some x → Request.held x ≡ false → ¬ (isFront (s .queue) (s .partition (x .block)) ≡ true)
+  other x e k a = d .step .apart x e k (front-eq (s .partition (x .block)) q (s .queue) (d .step .rest) (d .step .front) a)
+
+  unworn-kept : Unworn s′
+  unfolding Turn.send doRebuild readsOf
+  unworn-kept x e k ℓ l hℓ full n =
+      let same = total-same (slots ℓ) (λ j. 1 - s′ .mark (cell h (s .partition (x .block)) ℓ j)) (λ j. 1 - s .mark (cell h (s .partition (x .block)) ℓ j))
+      (λ j hj. ap (λ v. 1 - v) (mark-else s f q t o d (s .partition (x .block)) ℓ j hℓ hj (λ w. d .step .apart x e k (sym (w .0))))) in
+      omega (arith, same, f .unworn x e k ℓ l hℓ full (λ g. other x e k (g .0)))
+
   pub rebuild-kept : Reached s′
   unfolding Turn.send doRebuild counted drawn storedAt Live.storedIn pending Request.held
   rebuild-kept = record {
@@ -112,11 +130,14 @@ module _ (s : State) (f : Reached s) (q t : ℕ) (o : List ℕ) (d : Drawing s q
     begun = begun-kept s f q t o d;
     reads = reads-kept s f q t o d;
     unheld = f .unheld;
-    released = f .released;
+    released = λ x e k. ⊎-elim inl (λ a. absurd (other x e k (a .0))) (f .released x e k);
+    unworn = unworn-kept;
+    unawaited = λ x e k. drop-snoc (x .awaits) (s .outstanding) (cmd write q t 0) (all-map (λ c a w. absurd (other x e k (a w .0 .0))) (f .unawaited x e k)) (λ w. absurd (d .step .apart x e k (sym w)));
     unread = unread-kept;
     fetched = fetched-kept;
     scanned = λ p ℓ i a z. absurd (omega arith);
-    jobless = f .jobless;
+    jobless = λ e. let z : _≡_ {A = ℕ} 0 1 = queued e in absurd (omega arith);
+    unbegun = λ e. absurd (omega arith);
     spent = spent-kept;
     apart = apart-kept;
     commands = commands-kept;

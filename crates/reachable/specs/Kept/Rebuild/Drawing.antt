@@ -1,7 +1,7 @@
 -- A rebuild: its order, the levels that are live after it, and the places it gives.
 use mathlib.Core.Path.{_≡_, ap, sym, _∙_}
 use mathlib.Core.Logic.{_⊎_, inl, inr, ⊎-elim}
-use mathlib.Core.Bool.{true, false, true≢false}
+use mathlib.Core.Bool.{true, true≢false}
 use mathlib.Core.List.{List}
 use mathlib.Core.Option.{Option, none, some}
 use Prim.Native.Nat.{ℕ, _+_, _^_, _≤_, _<_, _-_}
@@ -28,7 +28,8 @@ use Rattle.reachable.specs.Blocks.{nowhere-below, chosen-waits, lt-below
 use Rattle.reachable.specs.Cells.{level-at, level-else}
 use Rattle.reachable.specs.Decided.{Rebuilds}
 use Rattle.reachable.specs.Invariant.{Reached, Orders, Waiting}
-use Rattle.reachable.specs.Live.{counted, counted-drawn, front-is, counted-other, isFront, counted-calm}
+use Rattle.rules.specs.Request.{isFront}
+use Rattle.reachable.specs.Live.{counted, counted-drawn, front-is, counted-other, counted-calm}
 use Rattle.reachable.specs.Never.{never-many}
 use Rattle.reachable.specs.Slots.{front-in, gathered-why, why-gathered}
 

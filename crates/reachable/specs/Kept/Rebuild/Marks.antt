@@ -2,23 +2,19 @@
 use mathlib.Core.List.{map, List, _∷_}
 use mathlib.Core.Path.{_≡_, ap, sym, _∙_}
 use mathlib.Core.Logic.{_⊎_, inl, inr, ⊎-elim}
-use mathlib.Core.Bool.{true, _||_}
+use mathlib.Core.Bool.{true}
 use Prim.Native.Nat.{ℕ, suc, _+_, _%_, _^_, _≤_, _<_, _-_}
 use native.Mathlib.Omega.{arith}
 use native.Mathlib.Decide.{ℕ-discrete}
 use lib.Pow.{pow-pos}
 use lib.ListN.{getD, length-map, List·getD-eq-default, length, replicate, length-replicate, getD-replicate}
-use borrow.Author.Tests.{ne-eqb}
 use Rattle.lists.specs.All.{all-getD}
 use Rattle.lists.specs.Distinct.{index-at}
 use Rattle.lists.specs.Members.{getD-map}
-use Rattle.lists.specs.Search
-use Rattle.lists.specs.Search.{member}
-use Rattle.lists.specs.Tests.{if_then_else_}
+use Rattle.lists.specs.Lengths.{bit}
 use Rattle.lists.specs.Totals.{total-none, total, total-same}
 use Rattle.rules.specs.Levels.{target, filled, sources}
 use Rattle.rules.specs.Rebuild.{gathered, doRebuild}
-use Rattle.rules.specs.Run.{after}
 use Rattle.rules.specs.Shape.{slots, Shape, cell}
 use Rattle.rules.specs.State.{State}
 use Rattle.reachable.specs.Bits.{grown-mod}
@@ -27,8 +23,9 @@ use Rattle.reachable.specs.Cells.{level-at, level-else}
 use Rattle.reachable.specs.Invariant.{Reached, Reads, Begun, Items}
 use Rattle.reachable.specs.Kept.Rebuild.Drawing.{Drawing, top-lt, lives, count-q, levels-some, counter-lt, count-p}
 use Rattle.reachable.specs.Kept.Rebuild.Holds.{holds-here, holds-else}
-use Rattle.reachable.specs.Live.{pending, passedBy, undrawn, readsOf, counted, Gathers, counted-calm, front-eq}
-use Rattle.reachable.specs.Pending.{pending-le}
+use Rattle.rules.specs.Blocks.{readsOf}
+use Rattle.reachable.specs.Live.{pending, passedBy, undrawn, times, counted, Gathers, counted-calm, front-eq}
+use Rattle.reachable.specs.Pending.{times-here, times-else}
 use Rattle.reachable.specs.Terms.{Numbered}
 
 module _ (s : State) (f : Reached s) (q t : ℕ) (o : List ℕ) (d : Drawing s q t o) where
@@ -41,18 +38,22 @@ module _ (s : State) (f : Reached s) (q t : ℕ) (o : List ℕ) (d : Drawing s q
   abbrev s′ : State
   s′ = doRebuild q t o s
 
+  before : (p : ℕ) → times p (undrawn (s .queue) (s .sent)) ≡ times p (q ∷ d .step .rest)
+  unfolding undrawn
+  before p = rw (d .step .front, d .step .calm)
+
+  after : (p : ℕ) → times p (undrawn (s .queue) 1) ≡ times p (d .step .rest)
+  unfolding undrawn
+  after p = rw (d .step .front)
+
   pending-other : (p ℓ : ℕ) → ¬ (p ≡ q) → pending s′ p ℓ ≡ pending s p ℓ
   unfolding doRebuild pending
-  pending-other p ℓ n = ap (λ x. if x || passedBy (s .partition) (s .request) p ℓ then 1 else 0) (after ∙ same ∙ sym before)
-    where
-      before : member p (undrawn (s .queue) (s .sent)) ≡ member p (undrawn (q ∷ d .step .rest) 0)
-      before = rw (d .step .front, d .step .calm)
+  pending-other p ℓ n = ap (λ x. x + bit (passedBy (s .partition) (s .request) p ℓ)) (after p ∙ sym (times-else p q (d .step .rest) n) ∙ sym (before p))
 
-      after : member p (undrawn (s .queue) 1) ≡ member p (undrawn (q ∷ d .step .rest) 1)
-      after = rw (d .step .front)
-
-      same : member p (undrawn (q ∷ d .step .rest) 1) ≡ member p (undrawn (q ∷ d .step .rest) 0)
-      same = unfold undrawn member Search.any in (rw (ne-eqb p q n))
+  -- the job that is drawn is pending no more
+  pending-front : (ℓ : ℕ) → pending s q ℓ ≡ suc (pending s′ q ℓ)
+  unfolding doRebuild pending
+  pending-front ℓ = omega (arith, before q, after q, times-here q (d .step .rest))
 
   marks-length : length {A = ℕ} (replicate (slots t) 1) ≡ slots t
   marks-length = length-replicate (slots t) 1
@@ -85,7 +86,9 @@ module _ (s : State) (f : Reached s) (q t : ℕ) (o : List ℕ) (d : Drawing s q
           go (yes k) (inr r) = omega (
             arith,
             same,
-            pending-le s p ℓ,
+            ap (λ x. pending s x ℓ) k,
+            ap (λ x. pending s′ x ℓ) k,
+            pending-front ℓ,
             ap (λ x. x % 2 ^ ℓ) (ap (counted s′) k ∙ (count-q s f q t o d)),
             grown-mod h c (levels-some s f q t o d) (counter-lt s f q t o d) ℓ (rw (← d .step .goal) (w .2 k)) hℓ,
             ap (λ x. x % 2 ^ ℓ) (ap (counted s) k ∙ counted-calm s q (d .step .calm)),

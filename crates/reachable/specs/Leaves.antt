@@ -1,0 +1,129 @@
+-- Document 02, P4: "and the wanted block leaves the job."
+use mathlib.Core.Path.{_≡_, refl, ap, sym, _∙_}
+use mathlib.Core.Logic.{_⊎_, inl, inr}
+use mathlib.Core.Bool.{Bool, true, false, _||_, true≢false}
+use mathlib.Core.List.{List, [], _∷_}
+use mathlib.Core.Option.{Option, none, some}
+use Prim.Native.Nat.{ℕ, suc, _<_}
+use lib.Dec.{eqb}
+use borrow.Author.Tests.{eqb-true, eqb-false}
+use Rattle.lists.specs.All.{All, cons, keep-passes}
+use Rattle.lists.specs.Distinct.{Mem}
+use Rattle.lists.specs.Members.{member-mem, all-mem}
+use Rattle.lists.specs.Search.{below, member}
+use Rattle.lists.specs.Tables.{put-same, put-has}
+use Rattle.lists.specs.Tests.{if_then_else_, or-true}
+use Rattle.rules.specs.Blocks.{entries, holder}
+use Rattle.rules.specs.Collect.{collected, finish}
+use Rattle.rules.specs.Completion
+use Rattle.rules.specs.Completion.{complete}
+use Rattle.rules.specs.Draws.{draws}
+use Rattle.rules.specs.Laws.Answers.{step-accepted, step-refused, accepted-leaves}
+use Rattle.rules.specs.Laws.Levels.{sources-le}
+use Rattle.rules.specs.Levels.{sources}
+use Rattle.rules.specs.Open.{fresh}
+use Rattle.rules.specs.Questions.{Ask, opening, request, turn, completion, collect, Call, bounds, number}
+use Rattle.rules.specs.Rebuild.{chosen, isChosen, gathered}
+use Rattle.rules.specs.Request.{accept, release}
+use Rattle.rules.specs.Run
+use Rattle.rules.specs.Run.{Outcome, perform, sentCommand, step, run, after}
+use Rattle.rules.specs.State.{State, Command, read, write, Place, nowhere, Request, closed}
+use Rattle.rules.specs.Turn.{Step, idle, noDummy, readForRequest, readForJob, rebuild, writeNext, decide, command, doStep, markRead, send}
+use Rattle.reachable.specs.Invariant.{Reached}
+use Rattle.reachable.specs.Live.{isBelow}
+use Rattle.reachable.specs.Slots.{entry-why, is-chosen}
+
+-- a block without a slot is gathered only as the one that is chosen from the cache
+pub gathered-chosen : (s : State) → Reached s → (q b : ℕ) → q < s .shape .P → s .place b ≡ nowhere → Mem b (gathered s q) → chosen s q ≡ some b
+gathered-chosen s f q b hq e m = go (or-true (isChosen (chosen s q) b) (member (suc b) (entries s q top)) passes)
+  where
+    top : ℕ
+    top = sources (s .shape) (s .counter q)
+
+    passes : (isChosen (chosen s q) b || member (suc b) (entries s q top)) ≡ true
+    passes = all-mem (keep-passes (λ b. isChosen (chosen s q) b || member (suc b) (entries s q top)) (below (s .shape .N))) b (unfold gathered in m)
+
+    stored : isBelow top (s .place b) ≡ true → ⊥
+    stored k = true≢false (sym k ∙ ap (isBelow top) e ∙ unfold isBelow in refl)
+
+    go : (isChosen (chosen s q) b ≡ true) ⊎ (member (suc b) (entries s q top) ≡ true) → chosen s q ≡ some b
+    go (inl k) = is-chosen (chosen s q) b k
+    go (inr k) = absurd (stored (entry-why s f q hq top b (sources-le (s .shape) (s .counter q)) (member-mem (suc b) (entries s q top) k) .2))
+
+-- a collect takes its block out of its slot
+pub collected-nowhere : (s : State) (k : Call) → k .ask ≡ collect → number s k ≡ 0 → (r : Request) → s .request ≡ some r → step s k .0 .place (r .block) ≡ nowhere
+collected-nowhere s k a z r e = ap (λ (x : State). x .place (r .block)) (accepted-leaves s k z) ∙ left (k .ask) a
+  where
+    js : List ℕ
+    js = Run.numbersOf (draws (bounds s (k .ask)) (k .words))
+
+    left : (b : Ask) → b ≡ collect → release (perform s b js) .place (r .block) ≡ nowhere
+    left b w = ap (λ x. release (perform s x js) .place (r .block)) w ∙ (unfold perform in (ap (λ o. collected o s .place (r .block)) e ∙ unfold collected finish in (put-same (r .block) nowhere (s .place))))
+
+-- ---- and until a write is sent it stays so: only a rebuild gives a block a slot
+module _ (s : State) (b : ℕ) (e : s .place b ≡ nowhere) where
+  turn-stays : (x : Step) (js : List ℕ) → ¬ (command x .kind ≡ write) → doStep x js s .place b ≡ nowhere
+  unfolding doStep markRead send command
+  turn-stays idle js n = e
+  turn-stays noDummy js n = e
+  turn-stays (readForRequest q ℓ i) js n = e
+  turn-stays (readForJob q ℓ i) js n = e
+  turn-stays (rebuild q t) js n = absurd (n refl)
+  turn-stays (writeNext q t i) js n = e
+
+  complete-stays : (c : Command) (bs : List ℕ) → complete c bs s .place b ≡ nowhere
+  unfolding complete Completion.completeRead Completion.completeWrite Completion.completed Completion.gatherBytes Completion.finishJob Completion.endJob
+  complete-stays c bs = go (eqb (c .kind) read) (holder s (c .partition) (c .level) (c .slot)) (s .queue)
+    where
+      s′ : State
+      s′ = Completion.completed c s
+
+      ended : (q : ℕ) (qs : List ℕ) (t : Bool) → (if t then Completion.endJob q qs s′ else s′) .place b ≡ nowhere
+      ended q qs true = e
+      ended q qs false = e
+
+      go : (t : Bool) (o : Option ℕ) (qs : List ℕ) → (if t then Completion.gatherBytes o bs s′ else Completion.finishJob qs s′) .place b ≡ nowhere
+      go true none qs = e
+      go true (some d) qs = e
+      go false o [] = e
+      go false o (q ∷ qs) = ended q qs (Completion.jobDone s′ q)
+
+  collect-stays : (o : Option Request) → collected o s .place b ≡ nowhere
+  unfolding collected finish
+  collect-stays none = e
+  collect-stays (some r) = put-has (λ (x : Place). x ≡ nowhere) (r .block) nowhere (s .place) b refl e
+
+  perform-stays : (a : Ask) (js : List ℕ) → ¬ (sentCommand s a .kind ≡ write) → perform s a js .place b ≡ nowhere
+  unfolding perform sentCommand
+  perform-stays (opening h) js n = unfold fresh in refl
+  perform-stays (request k d bs) js n = unfold accept in e
+  perform-stays turn js n = turn-stays (decide s) js n
+  perform-stays (completion c bs) js n = complete-stays c bs
+  perform-stays collect js n = collect-stays (s .request)
+
+  step-stays : (c : Call) → ¬ (step s c .1 .command .kind ≡ write) → step s c .0 .place b ≡ nowhere
+  unfolding Run.refuse
+  step-stays c n = go (eqb (number s c) 0) refl
+    where
+      refused-stays : (a : Ask) → Run.refuse s a .place b ≡ nowhere
+      refused-stays (opening h) = unfold closed in refl
+      refused-stays (request k d bs) = e
+      refused-stays turn = e
+      refused-stays (completion c bs) = e
+      refused-stays collect = e
+
+      go : (t : Bool) → eqb (number s c) 0 ≡ t → step s c .0 .place b ≡ nowhere
+      go true k =
+          let z = eqb-true (number s c) 0 k in
+          let w : step s c .1 .command ≡ sentCommand s (c .ask) = ap (λ (x : State × Outcome). x .1 .command) (step-accepted s c z) ∙ (unfold Run.accepted in refl) in
+          ap (λ (x : State). x .place b) (accepted-leaves s c z) ∙ perform-stays (c .ask) (Run.numbersOf (draws (bounds s (c .ask)) (c .words))) (λ v. n (ap (λ (x : Command). x .kind) w ∙ v))
+      go false k = ap (λ (x : State × Outcome). x .0 .place b) (step-refused s c (eqb-false (number s c) 0 k)) ∙ refused-stays (c .ask)
+
+-- no call of these sends a write
+abbrev pub Unwritten : List Outcome → Type 0
+Unwritten os = All (λ (o : Outcome). ¬ (o .command .kind ≡ write)) os
+
+pub after-stays : (ds : List Call) (s : State) (b : ℕ) → s .place b ≡ nowhere → Unwritten (run s ds) → after s ds .place b ≡ nowhere
+unfolding run after
+after-stays [] s b e n = e
+after-stays (d ∷ ds) s b e (cons n ns) = after-stays ds (step s d .0) b (step-stays s b e d n) ns

@@ -1,0 +1,105 @@
+-- The rule on worn levels holds no request: while a request is held, and so has sent no read, a level of its partition that is no source has been read
+-- less than 2^ℓ times beside the only job, not yet drawn. Its reads are at most the jobs drawn since it was written, and one for that job; and as some level below it is empty, these are
+-- less than 2^ℓ.
+use mathlib.Core.Path.{_≡_, refl, ap, sym, _∙_}
+use mathlib.Core.Logic.{_⊎_, ⊎-elim}
+use mathlib.Core.Bool.{Bool, true, false, not, _&&_, true≢false}
+use mathlib.Core.List.{List, [], _∷_}
+use mathlib.Core.Option.{some}
+use Prim.Native.Nat.{ℕ, suc, _+_, _%_, _^_, _≤_, _<_}
+use native.Mathlib.Nat.{mod-lt}
+use native.Mathlib.Omega.{arith}
+use native.Mathlib.Decide.{decLt}
+use lib.Dec.{leb}
+use lib.Pow.{pow-pos}
+use borrow.Author.Tests.{eqb-true, leb-true}
+use Rattle.lists.specs.Distinct.{Mem}
+use Rattle.lists.specs.Search.{any, below, member}
+use Rattle.lists.specs.All.{any-all, below-below}
+use Rattle.lists.specs.Tests.{and-l, and-r, not-true}
+use Rattle.rules.specs.Blocks.{readsOf}
+use Rattle.rules.specs.Laws.Levels.{levels-pos}
+use Rattle.rules.specs.Levels.{filled, target, grown}
+use Rattle.rules.specs.Request.{isFront, behindFront, undrawnOnly, isSource, worn, heldFor, blocked, held}
+use Rattle.rules.specs.State.{State, Request}
+use Rattle.reachable.specs.Bits.{filled-source, grown-mod}
+use Rattle.reachable.specs.Consequences.{block-lt}
+use Rattle.reachable.specs.Invariant.{Reached}
+use Rattle.reachable.specs.Live.{counted, counted-calm, pending, passedBy, undrawn, times, Alone, only-alone, gathers-source}
+use Rattle.reachable.specs.Pending.{times-here, times-none, bit-no, passed-why}
+
+-- a job that is the only one is one
+once : (q : ℕ) (qs : List ℕ) → isFront qs q ≡ true → ¬ Mem q (behindFront qs) → times q qs ≡ 1
+unfolding isFront behindFront
+once q [] e n = absurd (true≢false (sym e))
+once q (p ∷ qs) e n = let w : p ≡ q = eqb-true p q e in ap (λ x. times q (x ∷ qs)) w ∙ times-here q qs ∙ ap suc (times-none q qs n)
+
+module _ (s : State) (f : Reached s) (r : Request) (inHand : s .request ≡ some r) (u : held r ≡ true) (alone : Alone s (s .partition (r .block))) where
+  abbrev q : ℕ
+  q = s .partition (r .block)
+
+  hb : r .block < s .shape .N
+  hb = block-lt s f r inHand
+
+  -- a filled level that is no source
+  few : (ℓ : ℕ) → ℓ < s .shape .L → filled (s .counter q) ℓ ≡ true → isSource s q ℓ ≡ false → readsOf (s .shape) (s .mark) q ℓ < 2 ^ ℓ
+  unfolding pending undrawn
+  few ℓ hℓ full n = ⊎-elim (λ g. absurd (true≢false (sym (gathers-source s q ℓ g) ∙ n))) less (f .reads q ℓ (f .range .partitions (r .block) hb) hℓ (ap (λ c. filled c ℓ) (counted-calm s q (alone .2)) ∙ full))
+    where
+      hL : 1 ≤ s .shape .L
+      hL = levels-pos (s .shape) (f .range .shape)
+
+      hc : s .counter q < 2 ^ s .shape .L
+      hc = f .range .counters q (f .range .partitions (r .block) hb)
+
+      above : target (s .shape) (s .counter q) < ℓ
+      above = go (decLt (target (s .shape) (s .counter q)) ℓ)
+        where
+          go : Dec (target (s .shape) (s .counter q) < ℓ) → target (s .shape) (s .counter q) < ℓ
+          go (yes l) = l
+          go (no l) = absurd (true≢false (sym (gathers-source s q ℓ (alone .0, alone .2, filled-source (s .shape) (s .counter q) hL hc ℓ (omega arith) full)) ∙ n))
+
+      low : r .level ≡ 0
+      low = ⊎-elim (λ z. z) (λ z. absurd (true≢false (sym u ∙ z))) (f .unheld r inHand)
+
+      jobs : times q (undrawn (s .queue) (s .sent)) ≡ 1
+      jobs = ap (λ n. times q (undrawn (s .queue) n)) (alone .2) ∙ once q (s .queue) (alone .0) (alone .1)
+
+      less : readsOf (s .shape) (s .mark) q ℓ ≤ counted s q % 2 ^ ℓ + pending s q ℓ → readsOf (s .shape) (s .mark) q ℓ < 2 ^ ℓ
+      less k = omega (
+        arith,
+        k,
+        jobs,
+        ap (λ c. c % 2 ^ ℓ) (counted-calm s q (alone .2)),
+        bit-no (passedBy (s .partition) (s .request) q ℓ) (λ j. let w = passed-why (s .partition) (s .request) r q ℓ inHand j in omega (arith, low, w .1)),
+        grown-mod (s .shape) (s .counter q) hL hc ℓ above hℓ,
+        mod-lt (grown (s .shape) (s .counter q)) (pow-pos ℓ),
+      )
+
+  never-worn : (ℓ : ℕ) → ℓ < s .shape .L → worn s q ℓ ≡ true → ⊥
+  unfolding worn
+  never-worn ℓ hℓ e =
+      let t = and-r (filled (s .counter q) ℓ) (not (isSource s q ℓ) && leb (2 ^ ℓ) (readsOf (s .shape) (s .mark) q ℓ)) e in
+      omega (
+        arith,
+        few ℓ hℓ (and-l (filled (s .counter q) ℓ) (not (isSource s q ℓ) && leb (2 ^ ℓ) (readsOf (s .shape) (s .mark) q ℓ)) e)
+            (not-true (isSource s q ℓ) (and-l (not (isSource s q ℓ)) (leb (2 ^ ℓ) (readsOf (s .shape) (s .mark) q ℓ)) t)),
+        leb-true (2 ^ ℓ) (readsOf (s .shape) (s .mark) q ℓ) (and-r (not (isSource s q ℓ)) (leb (2 ^ ℓ) (readsOf (s .shape) (s .mark) q ℓ)) t),
+      )
+
+-- So a held request to which the rule for holding applies has a job of its partition queued, and that is not the only one, at the front and undrawn
+pub blocked-why : (s : State) → Reached s → (r : Request) → s .request ≡ some r → held r ≡ true → blocked s r ≡ true
+    → (member (s .partition (r .block)) (s .queue) ≡ true) × (undrawnOnly s (s .partition (r .block)) ≡ false)
+blocked-why s f r e u k = go (member q (s .queue)) (undrawnOnly s q) (any (worn s q) (below (s .shape .L))) refl refl refl (unfold blocked heldFor in k)
+  where
+    q : ℕ
+    q = s .partition (r .block)
+
+    go : (a b c : Bool) → member q (s .queue) ≡ a → undrawnOnly s q ≡ b → any (worn s q) (below (s .shape .L)) ≡ c → (a && not (b && not c)) ≡ true
+        → (member q (s .queue) ≡ true) × (undrawnOnly s q ≡ false)
+    go false b c ea eb ec w = absurd (true≢false (sym w))
+    go true false c ea eb ec w = (ea, eb)
+    go true true false ea eb ec w = absurd (true≢false (sym w))
+    go true true true ea eb ec w =
+        let x = any-all (worn s q) (below-below (s .shape .L)) ec in
+        absurd (never-worn s f r e u (only-alone s q eb) (x .0) (x .1 .1) (x .1 .0))

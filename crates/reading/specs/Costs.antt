@@ -1,0 +1,107 @@
+-- What a level costs a look-up, and whether it has been read as often as it has dummies, by counts of its slots.
+use mathlib.Core.Path.{_≡_, refl, ap, sym, _∙_}
+use mathlib.Core.Bool.{Bool, true, false, not, _&&_, true≢false}
+use Prim.Native.Nat.{ℕ, zero, suc, _+_, _-_, _^_, _≤_, _<_}
+use native.Mathlib.Omega.{arith}
+use native.Mathlib.Decide.{ℕ-discrete}
+use lib.Dec.{leb, ltb}
+use borrow.Author.Tests.{eqb-true, eq-eqb, lt-ltb, ltb-true}
+use Rattle.lists.specs.All.{any-none, any-all, below-below}
+use Rattle.lists.specs.Members.{all-mem, below-mem}
+use Rattle.lists.specs.Search.{any, below}
+use Rattle.lists.specs.Tests.{both-true}
+use Rattle.lists.specs.Totals.{total, total-gap, total-none}
+use Rattle.rules.specs.Shape.{slots, cell}
+use Rattle.rules.specs.State.{State}
+use Rattle.rules.specs.Levels.{filled}
+use Rattle.rules.specs.Blocks.{isUnread, readsOf}
+use Rattle.rules.specs.Request.{isSource, worn, costs}
+
+-- ---- Tests over the numbers below n
+module _ (p : ℕ → Bool) (n : ℕ) where
+  pub some-below : (i : ℕ) → i < n → p i ≡ true → any p (below n) ≡ true
+  some-below i l e = go (any p (below n)) refl
+    where
+      go : (t : Bool) → any p (below n) ≡ t → t ≡ true
+      go true w = refl
+      go false w = absurd (true≢false (sym e ∙ all-mem (any-none p (below n) w) i (below-mem n i l)))
+
+  pub none-below : ((i : ℕ) → i < n → p i ≡ false) → any p (below n) ≡ false
+  none-below h = go (any p (below n)) refl
+    where
+      go : (t : Bool) → any p (below n) ≡ t → t ≡ false
+      go false w = refl
+      go true w = let x = any-all p (below-below n) w in absurd (true≢false (sym (x .1 .0) ∙ h (x .0) (x .1 .1)))
+
+-- ---- A level has an unread slot exactly if fewer slots than it has were read
+total-most : (n : ℕ) (f : ℕ → ℕ) → ((i : ℕ) → i < n → f i ≤ 1) → total n f ≤ n
+unfolding total
+total-most zero f h = omega arith
+total-most (suc n) f h = omega (arith, total-most n f (λ i l. h i (omega arith)), h n (omega arith))
+
+total-lt : (n j : ℕ) (f : ℕ → ℕ) → ((i : ℕ) → i < n → f i ≤ 1) → j < n → f j ≡ 0 → total n f < n
+unfolding total
+total-lt zero j f h l e = absurd (omega arith)
+total-lt (suc n) j f h l e = go (ℕ-discrete j n) (total-lt n j f (λ i k. h i (omega arith)))
+  where
+    go : Dec (j ≡ n) → (j < n → f j ≡ 0 → total n f < n) → total n f + f n < suc n
+    go (yes k) ih = let z : f n ≡ 0 = ap f (sym k) ∙ e in omega (arith, total-most n f (λ i u. h i (omega arith)))
+    go (no k) ih = omega (arith, ih (omega arith) e, h n (omega arith))
+
+module _ (s : State) (q ℓ : ℕ) (marks : (i : ℕ) → i < slots ℓ → s .mark (cell (s .shape) q ℓ i) ≤ 1) where
+  abbrev reads : ℕ
+  reads = readsOf (s .shape) (s .mark) q ℓ
+
+  unread-left : any (isUnread s q ℓ) (below (slots ℓ)) ≡ ltb reads (slots ℓ)
+  unfolding isUnread readsOf
+  unread-left = both-true _ _ fewer some
+    where
+      fewer : any (isUnread s q ℓ) (below (slots ℓ)) ≡ true → ltb reads (slots ℓ) ≡ true
+      fewer w =
+          let x = any-all (isUnread s q ℓ) (below-below (slots ℓ)) w in
+          let z = eqb-true (s .mark (cell (s .shape) q ℓ (x .0))) 1 (x .1 .0) in
+          lt-ltb _ _ (total-lt (slots ℓ) (x .0) (λ i. 1 - s .mark (cell (s .shape) q ℓ i)) (λ i l. omega arith) (x .1 .1) (omega arith))
+
+      some : ltb reads (slots ℓ) ≡ true → any (isUnread s q ℓ) (below (slots ℓ)) ≡ true
+      some w =
+          let f : ℕ → ℕ = λ i. 1 - s .mark (cell (s .shape) q ℓ i) in
+          let g : ℕ → ℕ = λ i. 0 in
+          let z = total-none (slots ℓ) g (λ i l. refl) in
+          let x = total-gap (slots ℓ) f g (omega (arith, z, ltb-true (total (slots ℓ) f) (slots ℓ) w)) in
+          some-below (isUnread s q ℓ) (slots ℓ) (x .0) (x .1 .0) (eq-eqb (s .mark (cell (s .shape) q ℓ (x .0))) 1 (omega (arith, x .1 .1, marks (x .0) (x .1 .0))))
+
+  pub costs-source : filled (s .counter q) ℓ ≡ true → isSource s q ℓ ≡ true → costs s q ℓ ≡ ltb reads (slots ℓ)
+  unfolding costs
+  costs-source a b = rw (a, b) unread-left
+
+module _ (s : State) (q ℓ : ℕ) where
+  pub costs-empty : filled (s .counter q) ℓ ≡ false → costs s q ℓ ≡ false
+  unfolding costs
+  costs-empty a = rw a
+
+  pub costs-other : filled (s .counter q) ℓ ≡ true → isSource s q ℓ ≡ false → costs s q ℓ ≡ true
+  unfolding costs
+  costs-other a b = rw (a, b)
+
+  pub costs-above : isSource s q ℓ ≡ false → costs s q ℓ ≡ filled (s .counter q) ℓ
+  costs-above b = go (filled (s .counter q) ℓ) refl
+    where
+      go : (t : Bool) → filled (s .counter q) ℓ ≡ t → costs s q ℓ ≡ filled (s .counter q) ℓ
+      go true a = costs-other a b ∙ sym a
+      go false a = costs-empty a ∙ sym a
+
+  pub worn-empty : filled (s .counter q) ℓ ≡ false → worn s q ℓ ≡ false
+  unfolding worn
+  worn-empty a = rw a
+
+  pub worn-source : isSource s q ℓ ≡ true → worn s q ℓ ≡ false
+  unfolding worn
+  worn-source b = go (filled (s .counter q) ℓ)
+    where
+      go : (t : Bool) → (t && (not (isSource s q ℓ) && leb (2 ^ ℓ) (readsOf (s .shape) (s .mark) q ℓ))) ≡ false
+      go true = rw b
+      go false = refl
+
+  pub worn-other : filled (s .counter q) ℓ ≡ true → isSource s q ℓ ≡ false → worn s q ℓ ≡ leb (2 ^ ℓ) (readsOf (s .shape) (s .mark) q ℓ)
+  unfolding worn
+  worn-other a b = rw (a, b)
