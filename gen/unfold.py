@@ -8,12 +8,14 @@ TOP = Path(__file__).resolve().parent.parent
 FILES = {
     'lists': ('Rattle.lists.specs', 'Tests Search Tables Totals'),
     'rules': ('Rattle.rules.specs', '''
-        Shape State Ranges Memory Draws Levels Blocks Open Request Rebuild Turn Completion Collect Questions Run Figures'''),
+        Shape State Ranges Memory Draws Levels Blocks Open Request Rebuild Turn Completion Collect
+        Form/Numbers Form/Sums Form/Payload Form/Longest Form/Reading Form/Loading Questions Run Figures'''),
 }
 
 HEAD = '''-- One name under which all definitions unfold: a proof by computation says `unfolding model`. Written by gen/unfold.py.
-use mathlib.Core.List.{List, [], _∷_}
+use mathlib.Core.List.{List, [], _∷_, _++_}
 use Prim.Native.Nat.{ℕ}
+use lib.ListN.{replicate}
 '''
 
 TAIL = '''use Rattle.rules.specs.Shape.{Shape}
@@ -35,6 +37,10 @@ call a m ws n = record { ask = a; memory = m; words = ws; buffer = n }
 abbrev pub out : ℕ → ℕ → Command → List ℕ → Outcome
 out n k c bs = record { number = n; taken = k; command = c; bytes = bs; found = foundNowhere }
 
+-- n zeros in front of a list
+abbrev pub zerosThen : ℕ → List ℕ → List ℕ
+zerosThen n xs = replicate n 0 ++ xs
+
 abbrev pub outFound : ℕ → ℕ → Command → List ℕ → Found → Outcome
 outFound n k c bs x = record { number = n; taken = k; command = c; bytes = bs; found = x }
 '''
@@ -45,7 +51,7 @@ for crate, (folder, files) in FILES.items():
         source = (TOP / 'crates' / crate / 'specs' / f'{file}.antt').read_text(encoding='utf-8')
         found = re.findall(r'^\s*unfoldable pub (\S+) :', source, re.M)
         if found:
-            text += f'use {folder}.{file}.{{{", ".join(found)}}}\n'
+            text += f'use {folder}.{file.replace("/", ".")}.{{{", ".join(found)}}}\n'
             names += found
 text += TAIL % ' '.join(names)
 (TOP / 'crates/rules/specs/Unfold.antt').write_text(text, encoding='utf-8')

@@ -12,8 +12,10 @@ find "$work/anew/crates" -name '*.antt' -exec \
     awk 'FNR == 1 && tolower($0) ~ /written by (gen|plain)\// { print FILENAME }' {} + >"$work/files"
 while IFS= read -r file; do rm "$file"; done <"$work/files"
 for program in "$work"/anew/gen/*.py; do python3 "$program"; done
-CARGO_TARGET_DIR=${CARGO_TARGET_DIR:-$PWD/target/cargo} cargo run --quiet --release --offline --locked \
-    --manifest-path plain/Cargo.toml --bin sessions -- "$work/anew/crates/rules/specs/Checked" >"$work/said"
+for program in sessions saved_sessions; do
+    CARGO_TARGET_DIR=${CARGO_TARGET_DIR:-$PWD/target/cargo} cargo run --quiet --release --offline --locked \
+        --manifest-path plain/Cargo.toml --bin $program -- "$work/anew/crates/rules/specs/Checked" >"$work/said"
+done
 
 if diff -r crates "$work/anew/crates" >"$work/differences"; then
     echo "$(wc -l <"$work/files") generated files are as they are written"

@@ -9,21 +9,24 @@ use std::fmt::Display;
 /// The lines of a header.
 pub const HEADER_LINES: usize = 7;
 
-/// The lines before the sessions with this text. Of the names for what is
-/// found, it brings in those that the text has.
-pub fn header(sessions: &str) -> String {
-    let used = |names: &[&str]| -> String {
-        let used = names.iter().filter(|name| sessions.contains(**name));
-        used.map(|name| format!(", {name}")).collect()
+/// The lines before the sessions with this text, which a program of plain/
+/// writes. Of the names that not all sessions need, it brings in those that the
+/// text has.
+pub fn header(program: &str, sessions: &str) -> String {
+    let used = |names: &[(&str, &str)]| -> String {
+        let used = names.iter().filter(|(text, _)| sessions.contains(text));
+        used.map(|(_, name)| format!(", {name}")).collect()
     };
-    let (found, out) = (used(&["foundCache", "foundLevel"]), used(&["outFound"]));
+    let found = used(&[("foundCache", "foundCache"), ("foundLevel", "foundLevel")]);
+    let calls = used(&[("call (save)", "save"), ("call (load ", "load")]);
+    let out = used(&[("outFound", "outFound"), ("zerosThen", "zerosThen")]);
     format!(
         "\
--- Random sessions, with the outcomes of an independent implementation. Written by plain/src/bin/sessions.rs.
+-- Random sessions, with the outcomes of an independent implementation. Written by plain/src/bin/{program}.rs.
 use mathlib.Core.Path.{{_≡_, refl}}
 use mathlib.Core.List.{{List, [], _∷_}}
 use Rattle.rules.specs.State.{{cmd, closed{found}}}
-use Rattle.rules.specs.Questions.{{opening, request, turn, completion, collect, Call}}
+use Rattle.rules.specs.Questions.{{opening, request, turn, completion, collect{calls}, Call}}
 use Rattle.rules.specs.Run.{{Outcome, run}}
 use Rattle.rules.specs.Unfold.{{model, shape, call, out{out}}}
 "
@@ -36,6 +39,40 @@ fn list<T: Display>(items: &[T]) -> String {
     }
     let parts: Vec<String> = items.iter().map(|item| format!("{item} ∷ ")).collect();
     format!("({}[])", parts.concat())
+}
+
+/// Zeros from which on a run of them is told by its length, and the numbers or
+/// runs of a line.
+const RUN: usize = 8;
+const ROW: usize = 64;
+
+/// Bytes, with runs of zeros told by their length and broken into lines.
+fn bytes(bytes: &[u8]) -> String {
+    if bytes.is_empty() {
+        return "[]".into();
+    }
+    let equal = bytes.chunk_by(|left, right| *left == 0 && *right == 0);
+    let parts = equal.flat_map(|part| match part.len() {
+        RUN.. => vec![part],
+        _ => part.chunks(1).collect(),
+    });
+    let (mut text, mut closing) = (String::from("("), String::from(")"));
+    for (index, part) in parts.enumerate() {
+        if index > 0
+            && index.is_multiple_of(ROW)
+            && let Some(line) = text.strip_suffix(" ∷ ")
+        {
+            text = format!("{line}\n    ∷ ");
+        }
+        match part {
+            [byte] => text += &format!("{byte} ∷ "),
+            zeros => {
+                text += &format!("zerosThen {} (", zeros.len());
+                closing += ")";
+            }
+        }
+    }
+    (text + "[]" + &closing).replace("([])", "[]")
 }
 
 fn command(c: &Command) -> String {
@@ -52,12 +89,17 @@ fn ask(ask: &Ask) -> String {
             kind,
             block,
             contents,
-        } => format!("request {kind} {block} {}", list(contents)),
+        } => format!("request {kind} {block} {}", bytes(contents)),
         Ask::Turn => "turn".into(),
-        Ask::Completion { command: c, bytes } => {
-            format!("completion {} {}", command(c), list(bytes))
-        }
+        Ask::Completion {
+            command: c,
+            bytes: read,
+        } => format!("completion {} {}", command(c), bytes(read)),
         Ask::Collect => "collect".into(),
+        Ask::Save => "save".into(),
+        Ask::Load(form) => format!("load {}", bytes(form)),
+        // No session has it: what it loads is not told by the call.
+        Ask::Reload => "reload".into(),
     }
 }
 
@@ -72,7 +114,7 @@ fn call(call: &Call) -> String {
 }
 
 fn outcome(o: &Outcome) -> String {
-    let (command, bytes) = (command(&o.command), list(&o.bytes));
+    let (command, bytes) = (command(&o.command), bytes(&o.bytes));
     let all = format!("{} {} {command} {bytes}", o.number, o.taken);
     match o.found {
         Found::Nowhere => format!("out {all}"),
@@ -86,8 +128,8 @@ fn definition(name: &str, kind: &str, lines: Vec<String>) -> String {
     format!("{name} : List {kind}\n{name} =\n    ({body}\n    ∷ [])\n")
 }
 
-pub fn session(index: usize, calls: &[Call], outcomes: &[Outcome]) -> String {
-    let name = format!("session{index}");
+/// The session of this name.
+pub fn session(name: &str, calls: &[Call], outcomes: &[Outcome]) -> String {
     let lists = [
         definition(
             &format!("{name}-calls"),

@@ -1,9 +1,11 @@
 //! The plain array: a store behaves, request by request, like an array of
 //! blocks. Random calls are made against an honest host that completes the
 //! outstanding commands in random order. Where a block was found is compared
-//! with what the tables of the levels have.
+//! with what the tables of the levels have. The client may be saved and loaded
+//! now and then.
 
 use crate::calls::{Ask, Call, Outcome, Store};
+use crate::form::longest;
 use crate::found::Found;
 use crate::host::Host;
 use crate::mistakes::Mistake;
@@ -22,9 +24,15 @@ struct Check {
     /// Where its block was when nothing held it any longer.
     found: Option<Found>,
     /// How often each number was answered.
-    numbers: [usize; 16],
+    numbers: Numbers,
     collected: usize,
+    /// In how many of a hundred cases a call is a save, which a load follows if
+    /// it is not refused.
+    saves: usize,
 }
+
+/// By number, how often it was answered.
+pub type Numbers = [usize; 19];
 
 /// Makes so many calls. Hands back how often each number was answered and
 /// how many requests were collected, or says what departs from the array.
@@ -33,7 +41,18 @@ pub fn check(
     mistake: Mistake,
     seed: u64,
     calls: usize,
-) -> Result<([usize; 16], usize), String> {
+) -> Result<(Numbers, usize), String> {
+    check_saving(shape, mistake, seed, calls, 0)
+}
+
+/// The same with saves and loads, in so many of a hundred cases.
+pub fn check_saving(
+    shape: Shape,
+    mistake: Mistake,
+    seed: u64,
+    calls: usize,
+    saves: usize,
+) -> Result<(Numbers, usize), String> {
     let mut check = Check {
         shape,
         rng: Rng::new(seed),
@@ -42,8 +61,9 @@ pub fn check(
         array: vec![vec![0; shape.bytes]; shape.blocks],
         request: None,
         found: None,
-        numbers: [0; 16],
+        numbers: [0; 19],
         collected: 0,
+        saves,
     };
     check.make(Ask::Open(shape), shape.blocks)?;
     for place in 0..calls {
@@ -87,11 +107,15 @@ fn found(state: &State, block: usize) -> Found {
 impl Check {
     /// Only an accepted collect tells where a block was found.
     fn make(&mut self, ask: Ask, words: usize) -> Result<Outcome, String> {
+        let buffer = match ask {
+            Ask::Save => longest(&self.shape),
+            _ => self.shape.bytes,
+        };
         let call = Call {
             ask,
             memory: self.shape.needed(),
             words: self.rng.tape(words),
-            buffer: self.shape.bytes,
+            buffer,
         };
         let outcome = self.store.call(&call);
         self.numbers[usize::from(outcome.number)] += 1;
@@ -103,6 +127,9 @@ impl Check {
     }
 
     fn random_call(&mut self) -> Result<(), String> {
+        if self.saves > 0 && self.rng.chance(self.saves) {
+            return self.save_and_load();
+        }
         let number = match self.rng.below(9) {
             0 => self.request()?,
             1 => self.collect()?,
@@ -114,6 +141,19 @@ impl Check {
             2 | 3 | 11 | 12 => Err(format!("answered {number}")),
             8 if self.shape.places == self.shape.blocks => Err("answered 8 with E = N".into()),
             _ => Ok(()),
+        }
+    }
+
+    /// What is at rest can be saved, and what is saved can be loaded.
+    fn save_and_load(&mut self) -> Result<(), String> {
+        let at_rest = self.store.state.as_ref().is_some_and(State::is_at_rest);
+        match (self.make(Ask::Save, 0)?.number, at_rest) {
+            (16, false) => Ok(()),
+            (0, true) => match self.make(Ask::Reload, 0)?.number {
+                0 => Ok(()),
+                number => Err(format!("a load answered {number}")),
+            },
+            (number, _) => Err(format!("a save answered {number}")),
         }
     }
 

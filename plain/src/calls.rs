@@ -1,4 +1,5 @@
-//! The five calls, their questions and their outcomes.
+//! The five calls, their questions and their outcomes. Save and load are in
+//! saving.rs.
 
 use crate::draws::WIDTH;
 use crate::found::Found;
@@ -23,10 +24,18 @@ pub enum Ask {
         bytes: Vec<u8>,
     },
     Collect,
+    Save,
+    /// The bytes of a form.
+    Load(Vec<u8>),
+    /// The load of the form that the call just before saved, or of no bytes if
+    /// it saved none. As that depends on the words drawn, lists need a name for
+    /// it.
+    Reload,
 }
 
 /// A call with what it is lent: bytes of memory, words of the tape, and the
-/// length of a turn's write buffer or a collect's answer buffer.
+/// length of a turn's write buffer, a collect's answer buffer or a save's
+/// buffer.
 #[derive(Clone, Debug, PartialEq, Eq)]
 pub struct Call {
     pub ask: Ask,
@@ -36,8 +45,8 @@ pub struct Call {
 }
 
 /// The number answered, the words taken, a turn's command, the bytes put in
-/// the lent buffer and where a collected block was found. The default is that
-/// of an accepted completion.
+/// the lent buffer from its start, where a collected block was found, and the
+/// length of a saved form. The default is that of an accepted completion.
 #[derive(Clone, Debug, Default, PartialEq, Eq)]
 pub struct Outcome {
     pub number: u8,
@@ -45,6 +54,7 @@ pub struct Outcome {
     pub command: Command,
     pub bytes: Vec<u8>,
     pub found: Found,
+    pub length: usize,
 }
 
 impl Outcome {
@@ -77,6 +87,8 @@ pub struct Store {
     pub width: u32,
     /// The bounds of the last call's draws, in turn.
     pub bounds: Vec<usize>,
+    /// The form that the last call saved, or no bytes.
+    pub saved: Vec<u8>,
 }
 
 impl Store {
@@ -90,11 +102,23 @@ impl Store {
             state: None,
             width,
             bounds: Vec::new(),
+            saved: Vec::new(),
         }
     }
 
     pub fn call(&mut self, call: &Call) -> Outcome {
         self.bounds.clear();
+        let saved = std::mem::take(&mut self.saved);
+        match &call.ask {
+            Ask::Save => self.save(call),
+            Ask::Load(form) => self.load(form, call.memory),
+            Ask::Reload => self.load(&saved, call.memory),
+            _ => self.draw(call),
+        }
+    }
+
+    /// One of the five calls of document 01, which may draw.
+    fn draw(&mut self, call: &Call) -> Outcome {
         let bounds = &mut self.bounds;
         let mut draws = Draws::of_width(self.width, self.mistake, &call.words, bounds);
         let answer = match (&call.ask, &mut self.state) {
@@ -147,7 +171,7 @@ impl State {
     fn call(&mut self, call: &Call, draws: &mut Draws) -> Result<Outcome, u8> {
         let mut outcome = Outcome::default();
         match &call.ask {
-            Ask::Open(_) => return Err(2),
+            Ask::Open(_) | Ask::Save | Ask::Load(_) | Ask::Reload => return Err(2),
             Ask::Request {
                 kind,
                 block,

@@ -6,9 +6,11 @@
 
 mod made;
 mod rebuilt;
+mod reloaded;
 
 pub use made::{drawn_again, layered, lent_again, two_stored};
 pub use rebuilt::{above_sources, source_read, source_spent, source_unread};
+pub use reloaded::{reloaded_marks, reloaded_queue, reloading};
 
 use crate::calls::{Ask, Call, Store};
 use crate::mistakes::Mistake;

@@ -1,10 +1,11 @@
 //! What may occur in a session: numbers, where blocks are found, which words
-//! draws pass over, and look-ups while a partition is rebuilt.
+//! draws pass over, look-ups while a partition is rebuilt, and saves and loads.
 
 use crate::calls::{Ask, Call, Outcome, Store};
 use crate::draws::{WIDTH, limit};
 use crate::found::Found;
 use crate::mistakes::Mistake;
+use crate::saves::{self, Saved};
 use crate::situations::{Situation, Watch};
 use crate::state::State;
 
@@ -25,6 +26,8 @@ pub enum Mark {
     Unsettled,
     /// A look-up while a partition is rebuilt.
     Met(Situation),
+    /// A save or a load.
+    Saved(Saved),
 }
 
 /// The marks that have to occur in what is found.
@@ -73,6 +76,7 @@ pub fn marks(calls: &[Call], outcomes: &[Outcome]) -> Vec<Mark> {
         }
     }
     marks.extend(watch.met.into_iter().map(Mark::Met));
+    marks.extend(saves::met(calls, outcomes).into_iter().map(Mark::Saved));
     marks
 }
 

@@ -1,6 +1,7 @@
 //! Wrong rules that can be switched on in the model. A test that compares
 //! outcomes or transcripts has to tell each of them from the right rules.
 
+use crate::form::Rule;
 use crate::joined::joined;
 
 #[derive(Clone, Copy, Debug, PartialEq, Eq, Hash)]
@@ -103,14 +104,55 @@ pub enum Mistake {
     JobStandsStill,
     /// A block whose slot the job has read is told to be in the cache.
     ReadCountsAsCache,
+    /// A block's sum leaves out the block's number.
+    SumWithoutNumber,
+    /// A mark is 1 for a slot that has not been read.
+    MarksTurned,
+    /// The order of a saved level has the item of each slot.
+    OrderBySlot,
+    /// Age 0 is that of the block that has waited shortest.
+    AgesReversed,
+    /// A state with a request in hand is saved.
+    SavesInHand,
+    /// A state with commands outstanding is saved, a request's or a job's.
+    SavesOutstanding,
+    /// A state with a job begun is saved.
+    SavesBegun,
+    /// A request's read of a source's slot does not begin the job.
+    SharedReadBeginsNothing,
+    /// A save's buffer need be no longer than the form is.
+    BufferByForm,
+    /// The buffer behind a saved form is filled with zeros.
+    TailCleared,
+    /// A save that is refused with 16 reports the length of the form.
+    LengthWhenRefused,
+    /// A refused load leaves the state as it was.
+    RefusedLoadKeeps,
+    /// 18 is asked before the sums.
+    FormBeforeSums,
+    /// The memory for a form's shape is asked before its other fields.
+    MemoryBeforeForm,
+    /// Records in another order than longest waiting first are refused.
+    RecordsFixed,
+    /// A load forgets the contents of the block that has waited longest.
+    ContentsDropped,
+    /// After a load the front job counts as begun.
+    LoadBegins,
+    /// After a load no slot counts as read.
+    LoadClearsMarks,
+    /// A load brings jobs forward whose partition has a block waiting.
+    LoadPrefersWaiting,
+    /// A load does not ask this.
+    Unasked(Rule),
 }
 
 impl Mistake {
-    pub const ALL: [Mistake; 43] = joined(&[
+    pub const ALL: [Mistake; 73] = joined(&[
         &Mistake::BASE,
         &Mistake::FOUND,
         &Mistake::DRAWS,
         &Mistake::BESIDE,
+        &Mistake::SAVED,
     ]);
 
     /// Those in document 01's rules.
@@ -189,4 +231,39 @@ impl Mistake {
         Mistake::JobStandsStill,
         Mistake::ReadCountsAsCache,
     ];
+
+    /// Those in saving the client (document 02, P5). No session saves.
+    pub const SAVED: [Mistake; 30] = joined(&[&Mistake::FORMS, &Mistake::UNASKED]);
+
+    const FORMS: [Mistake; 19] = [
+        Mistake::SumWithoutNumber,
+        Mistake::MarksTurned,
+        Mistake::OrderBySlot,
+        Mistake::AgesReversed,
+        Mistake::SavesInHand,
+        Mistake::SavesOutstanding,
+        Mistake::SavesBegun,
+        Mistake::SharedReadBeginsNothing,
+        Mistake::BufferByForm,
+        Mistake::TailCleared,
+        Mistake::LengthWhenRefused,
+        Mistake::RefusedLoadKeeps,
+        Mistake::FormBeforeSums,
+        Mistake::MemoryBeforeForm,
+        Mistake::RecordsFixed,
+        Mistake::ContentsDropped,
+        Mistake::LoadBegins,
+        Mistake::LoadClearsMarks,
+        Mistake::LoadPrefersWaiting,
+    ];
+
+    const UNASKED: [Mistake; 11] = {
+        let mut all = [Mistake::None; 11];
+        let mut at = 0;
+        while at < all.len() {
+            all[at] = Mistake::Unasked(Rule::FORGOTTEN[at]);
+            at += 1;
+        }
+        all
+    };
 }

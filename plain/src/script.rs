@@ -1,6 +1,11 @@
 //! Random sessions: calls chosen one by one from what the honest store would
 //! do next, with an honest host, and some calls that are to be refused.
 
+mod made;
+mod saves;
+
+pub use saves::Forms;
+
 use crate::calls::{Ask, Call, Outcome, Store};
 use crate::host::Host;
 use crate::mistakes::Mistake;
@@ -18,6 +23,10 @@ pub struct Script {
     /// If requests are mostly made while their partition is rebuilt, how much
     /// one counts that comes before the rebuild is under way.
     beside: Option<usize>,
+    /// Whether the store is saved and loaded, too.
+    saves: bool,
+    /// The last form that was saved.
+    last: Option<Vec<u8>>,
     pub calls: Vec<Call>,
     pub outcomes: Vec<Outcome>,
 }
@@ -75,9 +84,16 @@ impl Script {
             host: Host::default(),
             recent: 0,
             beside: None,
+            saves: false,
+            last: None,
             calls: Vec::new(),
             outcomes: Vec::new(),
         }
+    }
+
+    /// The shape of the store that was opened or loaded last.
+    pub fn shape(&self) -> Shape {
+        self.shape
     }
 
     fn make(&mut self, ask: Ask, words: usize, buffer: usize) {
@@ -108,7 +124,8 @@ impl Script {
                 Ask::Request { block, .. } => self.recent = *block,
                 Ask::Turn => self.host.send(outcome.command, outcome.bytes.clone()),
                 Ask::Completion { command, .. } => self.host.done(*command),
-                Ask::Collect => {}
+                Ask::Collect | Ask::Save => {}
+                Ask::Load(_) | Ask::Reload => self.host.pending.clear(),
             }
         }
         self.calls.push(call);
@@ -246,6 +263,10 @@ impl Script {
         let (command, mut bytes) = self.host.answer(index);
         if self.rng.chance(3) {
             bytes = self.rng.bytes(bytes.len());
+        }
+        if self.saves && command.kind == READ {
+            // A form may be of another store.
+            bytes.resize(self.shape.bytes, 0);
         }
         self.make(Ask::Completion { command, bytes }, 0, 0);
     }

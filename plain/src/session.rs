@@ -2,6 +2,7 @@
 //! out, with a tape, a store and a host in memory.
 
 use crate::calls::{Ask, Call, Outcome, Store};
+use crate::form::longest;
 use crate::host::Host;
 use crate::mistakes::Mistake;
 use crate::page::page;
@@ -126,6 +127,23 @@ impl Session {
     /// The page of the store, or no text before an O has been accepted.
     pub fn page(&self) -> String {
         self.state().map_or_else(String::new, page)
+    }
+
+    /// Saves the store and loads it, if it is at rest. The session prints no
+    /// less and no other for it.
+    pub fn reload(&mut self) -> bool {
+        let at_rest = self.state().filter(|state| state.is_at_rest());
+        let Some(shape) = at_rest.map(|state| state.shape) else {
+            return false;
+        };
+        let ask = |ask| Call {
+            ask,
+            memory: shape.needed(),
+            words: Vec::new(),
+            buffer: longest(&shape),
+        };
+        let numbers = [Ask::Save, Ask::Reload].map(|one| self.store.call(&ask(one)).number);
+        numbers == [0, 0]
     }
 
     /// The words left of the tape.

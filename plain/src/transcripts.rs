@@ -37,6 +37,10 @@ pub struct Transcripts {
     pub met: BTreeSet<Situation>,
     /// Whether with some tape such a request was collected.
     pub collected: bool,
+    /// Whether with some tape the client was loaded from its own form, and
+    /// whether a read was sent after that.
+    pub reloaded: bool,
+    pub read_after: bool,
 }
 
 impl Transcripts {
@@ -53,6 +57,8 @@ impl Transcripts {
             unsettled: false,
             met: BTreeSet::new(),
             collected: false,
+            reloaded: false,
+            read_after: false,
         }
     }
 

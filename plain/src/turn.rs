@@ -72,7 +72,7 @@ impl State {
         if of_job && self.mistake == Mistake::SourceReadUnmarked {
             self.levels[p][level].read[slot] = was_read;
         }
-        self.begun |= of_job;
+        self.begun |= of_job && self.mistake != Mistake::SharedReadBeginsNothing;
         let request = self.request.as_mut().ok_or(2)?;
         request.level = level + 1;
         request.awaits.push(sent.0);

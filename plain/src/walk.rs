@@ -11,7 +11,7 @@ use crate::lists::Pair;
 use crate::mistakes::Mistake;
 use crate::mixer::Mixer;
 use crate::situations::is_released;
-use crate::state::State;
+use crate::state::{READ, State};
 use crate::transcripts::Transcripts;
 use crate::words::{Caller, Way, Words};
 use std::collections::HashMap;
@@ -31,6 +31,8 @@ struct Run {
     asked: usize,
     /// The last ones gone over, if they are lent again, first of all.
     again: Vec<u16>,
+    /// Whether the client was loaded from a form that it saved.
+    reloaded: bool,
 }
 
 /// Runs with the number of their tapes.
@@ -88,6 +90,7 @@ impl Walk<'_> {
             length: 0,
             asked: 0,
             again: Vec::new(),
+            reloaded: false,
         };
         (run, 1)
     }
@@ -146,6 +149,9 @@ impl Walk<'_> {
         let outcome = run.store.call(call);
         run.node = self.found.after(run.node, &outcome);
         self.found.collected |= beside && call.ask == Ask::Collect && outcome.number == 0;
+        run.reloaded |= call.ask == Ask::Reload && outcome.number == 0;
+        self.found.reloaded |= run.reloaded;
+        self.found.read_after |= run.reloaded && outcome.command.kind == READ;
         if let Some(state) = run.store.state.as_ref()
             && !released
             && is_released(&run.store)

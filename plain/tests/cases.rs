@@ -95,7 +95,12 @@ fn cases_print_every_number() {
 #[test]
 fn cases_tell_every_mistake() {
     let cases = cases();
-    let hidden = [&Mistake::UNPRINTED[..], &Mistake::OUTSTANDING].concat();
+    let hidden = [
+        &Mistake::UNPRINTED[..],
+        &Mistake::OUTSTANDING,
+        &Mistake::SAVED,
+    ]
+    .concat();
     let shown = |mistake: &Mistake| !hidden.contains(mistake);
     for mistake in Mistake::ALL.into_iter().filter(shown) {
         let tells = |case: &Case| {

@@ -115,7 +115,8 @@ impl Pair {
 
     fn call_fast(&mut self, ask: &Ask, words: &[u16], buffer: &mut [u8]) -> Answer {
         let number = match ask {
-            Ask::Open(_) => 2,
+            // The fast store has no saves.
+            Ask::Open(_) | Ask::Save | Ask::Load(_) | Ask::Reload => 2,
             Ask::Request {
                 kind,
                 block,

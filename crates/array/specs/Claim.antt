@@ -1,6 +1,6 @@
 -- Demand 2, the plain array: over every sequence of calls from one open up to the next, each given the state the last one left, and a host
 -- that completes each read with the bytes last written to that slot, in whatever order, collected contents are those of a plain array
--- of blocks that starts as zeros.
+-- of blocks that starts as zeros. Document 02, P5: "the array goes on through a load if no call came between it and the save of its form".
 -- To believe the claim, read this file and crate `rules`. It is proved in Theorem.antt; Hosts.antt has two hosts that meet its premise.
 use mathlib.Core.Path.{_≡_}
 use mathlib.Core.Logic.{_⊎_}
@@ -10,9 +10,10 @@ use mathlib.Core.Option.{Option, none, some}
 use Prim.Native.Nat.{ℕ}
 use lib.ListN.{replicate}
 use lib.Dec.{eqb}
+use Rattle.rules.specs.Resumes.{Resumes}
 use Rattle.lists.specs.Tables.{put}
 use Rattle.lists.specs.Tests.{if_then_else_}
-use Rattle.rules.specs.Questions.{Ask, opening, request, turn, completion, collect, Call}
+use Rattle.rules.specs.Questions.{Ask, opening, request, turn, completion, collect, save, load, Call}
 use Rattle.rules.specs.Run.{Outcome, run}
 use Rattle.rules.specs.Shape.{Shape}
 use Rattle.rules.specs.State.{State, Command, read, write}
@@ -48,6 +49,8 @@ Brings last x turn = Unit {0}
 Brings last x (completion c bs) = (c .kind ≡ write → x (c .partition) (c .level) (c .slot) ≡ last (c .partition) (c .level) (c .slot))
     × (c .kind ≡ read → bs ≡ x (c .partition) (c .level) (c .slot))
 Brings last x collect = Unit {0}
+Brings last x save = Unit {0}
+Brings last x (load form) = Unit {0}
 
 -- The host of a list of calls: at each call it has some map x that it may have moved to. Nothing is asked of the order of completions, of
 -- what is lent, or of calls that are refused
@@ -81,6 +84,8 @@ next m (request k b bs) = record { asked = some (record { kind = k; block = b; b
 next m turn = m
 next m (completion c bs) = m
 next m collect = record { asked = none; array = change (m .asked) (m .array) }
+next m save = m
+next m (load form) = m
 
 -- a refused call changes nothing of it
 unfoldable pub expects : Expected → Ask → Outcome → Expected
@@ -97,6 +102,8 @@ Hands m (request k b bs) o = Unit {0}
 Hands m turn o = Unit {0}
 Hands m (completion c bs) o = Unit {0}
 Hands m collect o = Has (m .asked) (m .array) (o .bytes)
+Hands m save o = Unit {0}
+Hands m (load form) o = Unit {0}
 
 -- The store of a list of calls
 abbrev pub Plain : Expected → List Call → List Outcome → Type 0
@@ -104,7 +111,8 @@ Plain m [] os = Unit {0}
 Plain m (c ∷ cs) [] = Unit {0}
 Plain m (c ∷ cs) (o ∷ os) = (o .number ≡ 0 → Hands m (c .ask) o) × Plain (expects m (c .ask) o) cs os
 
--- ---- Demand 2: whatever was before the open (state, host, array), whatever calls follow it. A later open starts a new array
+-- ---- Demand 2: whatever was before the open (state, host, array), whatever calls follow it, each load of the form that the call just before it
+-- has saved. A later open starts a new array; a save and a load change nothing of it
 abbrev pub Claim : Type 0
 Claim = (s : State) (host : Host) (m : Expected) (h : Shape) (c : Call) (cs : List Call) → c .ask ≡ opening h
-    → Honest host (c ∷ cs) (run s (c ∷ cs)) → Plain m (c ∷ cs) (run s (c ∷ cs))
+    → Resumes [] (c ∷ cs) (run s (c ∷ cs)) → Honest host (c ∷ cs) (run s (c ∷ cs)) → Plain m (c ∷ cs) (run s (c ∷ cs))

@@ -1,6 +1,6 @@
 -- A collect hands out the contents of its block, and keeps those of every other; an open starts with zeros.
 use mathlib.Core.Path.{_≡_, refl, ap, sym, _∙_}
-use mathlib.Core.Logic.{_⊎_, inl, ⊎-elim}
+use mathlib.Core.Logic.{inl, ⊎-elim}
 use mathlib.Core.Bool.{Bool, true, false, not, _&&_}
 use mathlib.Core.List.{List, [], _∷_}
 use mathlib.Core.Option.{some}
@@ -31,7 +31,8 @@ use Rattle.reachable.specs.Live.{Target}
 use Rattle.reachable.specs.Outstanding.{command-is}
 use Rattle.reachable.specs.Pending.{front-more}
 use Rattle.array.specs.Claim.{Slots, Asked, change}
-use Rattle.array.specs.Contents.{Contents, Out, Sent, Due}
+use Rattle.array.specs.Contents.{Contents, Sent, Due}
+use Rattle.reachable.specs.Values.{Out}
 
 -- A collect
 module _ (s : State) (f : Reached s) (last has : Slots) (array : ℕ → List ℕ) (k : Contents s last has array) (r : Request) (inHand : s .request ≡ some r)
@@ -51,9 +52,9 @@ module _ (s : State) (f : Reached s) (last has : Slots) (array : ℕ → List �
       same ℓ m i j v w = rw (v, w)
 
       go : (x : Place) → s .place b ≡ x → (t : Bool) → Search.member b (s .waiting) ≡ t → (if Blocks.isNowhere x && not t then Blocks.zeros s else s .bytes b) ≡ array b
-      go nowhere e true m = k .waiting b hb (member-mem b (s .waiting) m)
+      go nowhere e true m = k .values .waiting b hb (member-mem b (s .waiting) m)
       go nowhere e false m = k .absent b hb e (not-member b (s .waiting) m)
-      go (stored ℓ i) e t m = k .known b ℓ i hb e (λ z. omega (arith, z, finished-read s f r ℓ i inHand done e))
+      go (stored ℓ i) e t m = k .values .known b ℓ i hb e (λ z. omega (arith, z, finished-read s f r ℓ i inHand done e))
           (λ z. let x = any-all (isCommand (cmd read (s .partition b) ℓ i)) (finished-aside s f r inHand done) z in
           let w = command-is (cmd read (s .partition b) ℓ i) (x .0) (x .1 .0) .1 in
           x .1 .1 (sym (w .0)) .1 (e ∙ same ℓ (x .0 .level) i (x .0 .slot) (w .1) (w .2)))
@@ -110,10 +111,10 @@ module _ (s : State) (f : Reached s) (last has : Slots) (array : ℕ → List �
     value v = bytes-other x other ∙ v ∙ sym (array-other x other)
 
     collect-drawn : Target c′ (c′ .partition x) ℓ → c′ .bytes x ≡ array′ x
-    collect-drawn z = value (k .drawn x ℓ i hx e′ (target-was (s .partition x) ℓ (rw part at z)))
+    collect-drawn z = value (k .values .drawn x ℓ i hx e′ (target-was (s .partition x) ℓ (rw part at z)))
 
     collect-known : ¬ (s .mark (cell (s .shape) (c′ .partition x) ℓ i) ≡ 1) → ¬ Out s (c′ .partition x) ℓ i → c′ .bytes x ≡ array′ x
-    collect-known n o = value (k .known x ℓ i hx e′ (rw part at n) (rw part at o))
+    collect-known n o = value (k .values .known x ℓ i hx e′ (rw part at n) (rw part at o))
 
     still-sent : Sent c′ (c′ .partition x) ℓ i → Sent s (s .partition x) ℓ i
     unfolding finish
@@ -129,9 +130,7 @@ module _ (s : State) (f : Reached s) (last has : Slots) (array : ℕ → List �
   unfolding finish Blocks.zeros others
   collect-contents = record {
     absent = λ x hx e n. absent x hx e n (ℕ-discrete x b);
-    waiting = λ x hx m. waiting x hx m (ℕ-discrete x b);
-    drawn = collect-drawn;
-    known = collect-known;
+    values = record { waiting = λ x hx m. waiting x hx m (ℕ-discrete x b); drawn = collect-drawn; known = collect-known };
     written = collect-written;
     settled = collect-settled;
   }
@@ -142,16 +141,14 @@ module _ (s : State) (f : Reached s) (last has : Slots) (array : ℕ → List �
 
       waiting : (x : ℕ) → x < s .shape .N → Mem x (c′ .waiting) → Dec (x ≡ b) → c′ .bytes x ≡ array′ x
       waiting x hx m (yes w) = ap (c′ .bytes) w ∙ put-same b _ (s .bytes) ∙ array-same ∙ ap array′ (sym w)
-      waiting x hx m (no w) = bytes-other x w ∙ k .waiting x hx (⊎-elim (λ z. keep-mem _ (s .waiting) x z) (λ z. ⊎-elim (λ v. absurd (w v)) (λ v. absurd v) z) (append-mem x (others (s .waiting) b) (b ∷ []) m)) ∙ sym (array-other x w)
+      waiting x hx m (no w) = bytes-other x w ∙ k .values .waiting x hx (⊎-elim (λ z. keep-mem _ (s .waiting) x z) (λ z. ⊎-elim (λ v. absurd (w v)) (λ v. absurd v) z) (append-mem x (others (s .waiting) b) (b ∷ []) m)) ∙ sym (array-other x w)
 
 -- An open
 pub fresh-contents : (h : Shape) (js : List ℕ) (last has : Slots) → Contents (fresh h js) last has (λ b. replicate (h .B) 0)
 unfolding fresh Blocks.zeros
 fresh-contents h js last has = record {
   absent = λ b hb e n. refl;
-  waiting = λ b hb m. refl;
-  drawn = λ b ℓ i hb e. absurd (not-nowhere ℓ i e);
-  known = λ b ℓ i hb e. absurd (not-nowhere ℓ i e);
+  values = record { waiting = λ b hb m. refl; drawn = λ b ℓ i hb e. absurd (not-nowhere ℓ i e); known = λ b ℓ i hb e. absurd (not-nowhere ℓ i e) };
   written = λ b ℓ i hb e. absurd (not-nowhere ℓ i e);
   settled = λ b ℓ i hb e. absurd (not-nowhere ℓ i e);
 }

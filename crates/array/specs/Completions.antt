@@ -1,6 +1,6 @@
 -- A completion keeps the contents of every block.
 use mathlib.Core.Path.{_≡_, refl, ap, sym, _∙_}
-use mathlib.Core.Logic.{_⊎_, inl, inr, ⊎-elim}
+use mathlib.Core.Logic.{inl, inr, ⊎-elim}
 use mathlib.Core.Bool.{Bool, true, false, not}
 use mathlib.Core.List.{List, [], _∷_}
 use mathlib.Core.Option.{Option, none, some}
@@ -28,7 +28,8 @@ use Rattle.reachable.specs.Live.{Target, front-eq}
 use Rattle.reachable.specs.Outstanding.{command-is, same-command, decOne}
 use Rattle.reachable.specs.Terms.{One}
 use Rattle.array.specs.Claim.{Slots}
-use Rattle.array.specs.Contents.{Contents, Due, Sent, Out}
+use Rattle.array.specs.Contents.{Contents, Due, Sent}
+use Rattle.reachable.specs.Values.{Out}
 
 -- A read that completes with what the host has
 module _ (s : State) (f : Reached s) (last has : Slots) (array : ℕ → List ℕ) (k : Contents s last has array) (c : Command) (kind : c .kind ≡ read)
@@ -73,9 +74,11 @@ module _ (s : State) (f : Reached s) (last has : Slots) (array : ℕ → List �
   unfolding completed Blocks.zeros
   read-contents y new old = record {
     absent = k .absent;
-    waiting = λ b hb m. old b (λ e. not-nowhere (c .level) (c .slot) (sym (f .waiting .absent b m) ∙ own-place b e .1)) ∙ k .waiting b hb m;
-    drawn = λ b ℓ i hb e z. old b (λ w. no-target ℓ (rw (own-place b w .0) at z)) ∙ k .drawn b ℓ i hb e z;
-    known = known;
+    values = record {
+      waiting = λ b hb m. old b (λ e. not-nowhere (c .level) (c .slot) (sym (f .waiting .absent b m) ∙ own-place b e .1)) ∙ k .values .waiting b hb m;
+      drawn = λ b ℓ i hb e z. old b (λ w. no-target ℓ (rw (own-place b w .0) at z)) ∙ k .values .drawn b ℓ i hb e z;
+      known = known;
+    };
     written = λ b ℓ i hb e u. k .written b ℓ i hb e (still-sent (s .partition b) ℓ i u);
     settled = λ b ℓ i hb e u n. k .settled b ℓ i hb e (still-sent (s .partition b) ℓ i u) (λ z. n (any-kept _ (isCommand c) (s .outstanding) z (no-write b ℓ i)));
   }
@@ -96,7 +99,7 @@ module _ (s : State) (f : Reached s) (last has : Slots) (array : ℕ → List �
               let at : has (c .partition) (c .level) (c .slot) ≡ has (s .partition b) ℓ i = rw (w .0, w .1, w .2) in
               new b (place-own b ℓ i hb e w) ∙ brings ∙ at ∙ k .settled b ℓ i hb e (inr out′, λ z. absurd (no-target ℓ (rw (w .0) at z))) (λ z. not-due (rw (w .0, w .1, w .2) at z))
           go (no w) =
-              old b (λ z. let x = own-place b z in w (x .0, apart x .0, apart x .1)) ∙ k .known b ℓ i hb e n (λ z. o (any-kept _ (isCommand c) (s .outstanding) z other))
+              old b (λ z. let x = own-place b z in w (x .0, apart x .0, apart x .1)) ∙ k .values .known b ℓ i hb e n (λ z. o (any-kept _ (isCommand c) (s .outstanding) z other))
             where
               apart : (s .partition b ≡ c .partition) × (s .place b ≡ stored (c .level) (c .slot)) → (ℓ ≡ c .level) × (i ≡ c .slot)
               apart x = let z : stored ℓ i ≡ stored (c .level) (c .slot) = sym e ∙ x .1 in (cc, cc)
@@ -125,10 +128,12 @@ module _ (s : State) (last has : Slots) (array : ℕ → List ℕ) (k : Contents
   unfolding completed Blocks.zeros
   completed-contents c kind has-it = record {
     absent = k .absent;
-    waiting = k .waiting;
-    drawn = k .drawn;
-    known = λ b ℓ i hb e m o. k .known b ℓ i hb e m (λ z. o (any-kept _ (isCommand c) (s .outstanding) z
-        (λ x p q. let v : _≡_ {A = ℕ} 1 2 = command-is (cmd read (s .partition b) ℓ i) x p .0 ∙ sym (command-is c x q .0) ∙ kind in omega arith)));
+    values = record {
+      waiting = k .values .waiting;
+      drawn = k .values .drawn;
+      known = λ b ℓ i hb e m o. k .values .known b ℓ i hb e m (λ z. o (any-kept _ (isCommand c) (s .outstanding) z
+          (λ x p q. let v : _≡_ {A = ℕ} 1 2 = command-is (cmd read (s .partition b) ℓ i) x p .0 ∙ sym (command-is c x q .0) ∙ kind in omega arith)));
+    };
     written = λ b ℓ i hb e u. k .written b ℓ i hb e (still-sent (s .partition b) ℓ i u);
     settled = λ b ℓ i hb e u n. settled b ℓ i hb e (still-sent (s .partition b) ℓ i u) n (decOne (s .partition b) ℓ i (c .partition) (c .level) (c .slot));
   }
@@ -148,9 +153,7 @@ module _ (s : State) (last has : Slots) (array : ℕ → List ℕ) (k : Contents
   unfolding endJob Blocks.zeros
   end-contents f q qs front all = record {
     absent = k .absent;
-    waiting = k .waiting;
-    drawn = λ b ℓ i hb e z. absurd (z .1 refl);
-    known = k .known;
+    values = record { waiting = k .values .waiting; drawn = λ b ℓ i hb e z. absurd (z .1 refl); known = k .values .known };
     written = λ b ℓ i hb e u. k .written b ℓ i hb e (u .0, all-sent b ℓ i hb e);
     settled = λ b ℓ i hb e u. k .settled b ℓ i hb e (u .0, all-sent b ℓ i hb e);
   }

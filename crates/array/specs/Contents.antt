@@ -9,13 +9,10 @@ use Rattle.lists.specs.Search.{any}
 use Rattle.rules.specs.Blocks
 use Rattle.rules.specs.Completion
 use Rattle.rules.specs.Shape.{cell}
-use Rattle.rules.specs.State.{State, cmd, read, write, nowhere, stored}
+use Rattle.rules.specs.State.{State, cmd, write, nowhere, stored}
 use Rattle.reachable.specs.Live.{Target}
+use Rattle.reachable.specs.Values.{Values, Out}
 use Rattle.array.specs.Claim.{Slots}
-
--- the read of this slot is outstanding
-abbrev pub Out : State → ℕ → ℕ → ℕ → Type 0
-Out s q ℓ i = any (Completion.isCommand (cmd read q ℓ i)) (s .outstanding) ≡ true
 
 -- a write of this slot is outstanding
 abbrev pub Due : State → ℕ → ℕ → ℕ → Type 0
@@ -24,18 +21,6 @@ Due s q ℓ i = any (Completion.isCommand (cmd write q ℓ i)) (s .outstanding) 
 -- a block that is nowhere: zeros
 abbrev pub Nowhere : State → (ℕ → List ℕ) → Type 0
 Nowhere s array = (b : ℕ) → b < s .shape .N → s .place b ≡ nowhere → ¬ Mem b (s .waiting) → Blocks.zeros s ≡ array b
-
--- a waiting block: its bytes
-abbrev pub Waits : State → (ℕ → List ℕ) → Type 0
-Waits s array = (b : ℕ) → b < s .shape .N → Mem b (s .waiting) → s .bytes b ≡ array b
-
--- in the target of a drawn job: its bytes
-abbrev pub Drawn : State → (ℕ → List ℕ) → Type 0
-Drawn s array = (b ℓ i : ℕ) → b < s .shape .N → s .place b ≡ stored ℓ i → Target s (s .partition b) ℓ → s .bytes b ≡ array b
-
--- read and completed: its bytes
-abbrev pub Known : State → (ℕ → List ℕ) → Type 0
-Known s array = (b ℓ i : ℕ) → b < s .shape .N → s .place b ≡ stored ℓ i → ¬ (s .mark (cell (s .shape) (s .partition b) ℓ i) ≡ 1) → ¬ Out s (s .partition b) ℓ i → s .bytes b ≡ array b
 
 -- unread, or its read outstanding, and its write was sent
 abbrev pub Sent : State → ℕ → ℕ → ℕ → Type 0
@@ -49,11 +34,10 @@ Written s last array = (b ℓ i : ℕ) → b < s .shape .N → s .place b ≡ st
 abbrev pub Settled : State → Slots → (ℕ → List ℕ) → Type 0
 Settled s has array = (b ℓ i : ℕ) → b < s .shape .N → s .place b ≡ stored ℓ i → Sent s (s .partition b) ℓ i → ¬ Due s (s .partition b) ℓ i → has (s .partition b) ℓ i ≡ array b
 
+-- The contents of every block: the client's own (`Values`: of one that waits, is in the target of a drawn job, or was read), zeros, or the host's
 pub record Contents (s : State) (last has : Slots) (array : ℕ → List ℕ) : Type 0 where
   pub absent : Nowhere s array
-  pub waiting : Waits s array
-  pub drawn : Drawn s array
-  pub known : Known s array
+  pub values : Values s array
   pub written : Written s last array
   pub settled : Settled s has array
 
@@ -61,9 +45,7 @@ pub record Contents (s : State) (last has : Slots) (array : ℕ → List ℕ) : 
 pub moved : {s : State} {last has : Slots} {array : ℕ → List ℕ} → Contents s last has array → (x : Slots) → ((q ℓ i : ℕ) → (x q ℓ i ≡ has q ℓ i) ⊎ (x q ℓ i ≡ last q ℓ i)) → Contents s last x array
 moved {s = s} k x f = record {
   absent = k .absent;
-  waiting = k .waiting;
-  drawn = k .drawn;
-  known = k .known;
+  values = k .values;
   written = k .written;
   settled = λ b ℓ i hb e u n. ⊎-elim (λ z. z ∙ k .settled b ℓ i hb e u n) (λ z. z ∙ k .written b ℓ i hb e u) (f (s .partition b) ℓ i);
 }

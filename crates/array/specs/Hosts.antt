@@ -7,8 +7,9 @@ use Prim.Native.Nat.{ℕ}
 use native.Mathlib.Omega.{arith}
 use lib.Dec.{eqb}
 use borrow.Author.Tests.{eqb-true, eq-eqb, ne-eqb}
+use Rattle.rules.specs.Resumes.{Resumes}
 use Rattle.lists.specs.Tests.{if_then_else_}
-use Rattle.rules.specs.Questions.{Ask, opening, request, turn, completion, collect, Call}
+use Rattle.rules.specs.Questions.{Ask, opening, request, turn, completion, collect, save, load, Call}
 use Rattle.rules.specs.Run.{Outcome, run}
 use Rattle.rules.specs.Shape.{Shape}
 use Rattle.rules.specs.State.{State, read, write}
@@ -25,6 +26,8 @@ Fetches x (request k b bs) = Unit {0}
 Fetches x turn = Unit {0}
 Fetches x (completion c bs) = c .kind ≡ read → bs ≡ x (c .partition) (c .level) (c .slot)
 Fetches x collect = Unit {0}
+Fetches x save = Unit {0}
+Fetches x (load form) = Unit {0}
 
 -- ---- It takes the bytes at once: its map is the bytes last sent
 
@@ -39,6 +42,8 @@ once-brings x (request k b bs) w = tt
 once-brings x turn w = tt
 once-brings x (completion c bs) w = ((λ e. refl), w)
 once-brings x collect w = tt
+once-brings x save w = tt
+once-brings x (load form) w = tt
 
 pub at-once : (cs : List Call) (os : List Outcome) (x has : Slots) → AtOnce x cs os → Honest (record { last = x; has = has }) cs os
 at-once [] os x has w = tt
@@ -53,6 +58,8 @@ lands last (request k b bs) x = x
 lands last turn x = x
 lands last (completion c bs) x = store c (last (c .partition) (c .level) (c .slot)) x
 lands last collect x = x
+lands last save x = x
+lands last (load form) x = x
 
 unfoldable pub landed : Slots → Ask → Outcome → Slots → Slots
 landed last a o x = if eqb (o .number) 0 then lands last a x else x
@@ -77,6 +84,8 @@ lands-moves last x (completion c bs) q ℓ i = go (eqb (c .kind) write) refl (de
     go true e (yes w) = inr (store-yes c bytes x (eqb-true (c .kind) write e) q ℓ i w ∙ rw (w .0, w .1, w .2))
     go true e (no w) = inl (store-not c bytes x q ℓ i w)
 lands-moves last x collect q ℓ i = inl refl
+lands-moves last x save q ℓ i = inl refl
+lands-moves last x (load form) q ℓ i = inl refl
 
 landed-moves : (last x : Slots) (a : Ask) (o : Outcome) (q ℓ i : ℕ) → (landed last a o x q ℓ i ≡ x q ℓ i) ⊎ (landed last a o x q ℓ i ≡ last q ℓ i)
 unfolding landed
@@ -96,6 +105,8 @@ landed-brings last x (completion c bs) o e w = rw (eq-eqb (o .number) 0 e) (
   (λ k. w k ∙ sym (store-no c (last (c .partition) (c .level) (c .slot)) x (ne-eqb (c .kind) write (λ z. let v : _≡_ {A = ℕ} 1 2 = sym k ∙ z in omega arith)) (c .partition) (c .level) (c .slot))),
 )
 landed-brings last x collect o e w = tt
+landed-brings last x save o e w = tt
+landed-brings last x (load form) o e w = tt
 
 pub at-completion : (cs : List Call) (os : List Outcome) (last x : Slots) → AtCompletion last x cs os → Honest (record { last = last; has = x }) cs os
 at-completion [] os last x w = tt
@@ -107,8 +118,8 @@ at-completion (c ∷ cs) (o ∷ os) last x w = (
 
 -- ---- The theorem for each of them
 
-pub plain-at-once : (s : State) (x : Slots) (m : Expected) (h : Shape) (c : Call) (cs : List Call) → c .ask ≡ opening h → AtOnce x (c ∷ cs) (run s (c ∷ cs)) → Plain m (c ∷ cs) (run s (c ∷ cs))
-plain-at-once s x m h c cs e w = plain-array s (record { last = x; has = x }) m h c cs e (at-once (c ∷ cs) (run s (c ∷ cs)) x x w)
+pub plain-at-once : (s : State) (x : Slots) (m : Expected) (h : Shape) (c : Call) (cs : List Call) → c .ask ≡ opening h → Resumes [] (c ∷ cs) (run s (c ∷ cs)) → AtOnce x (c ∷ cs) (run s (c ∷ cs)) → Plain m (c ∷ cs) (run s (c ∷ cs))
+plain-at-once s x m h c cs e r w = plain-array s (record { last = x; has = x }) m h c cs e r (at-once (c ∷ cs) (run s (c ∷ cs)) x x w)
 
-pub plain-at-completion : (s : State) (last x : Slots) (m : Expected) (h : Shape) (c : Call) (cs : List Call) → c .ask ≡ opening h → AtCompletion last x (c ∷ cs) (run s (c ∷ cs)) → Plain m (c ∷ cs) (run s (c ∷ cs))
-plain-at-completion s last x m h c cs e w = plain-array s (record { last = last; has = x }) m h c cs e (at-completion (c ∷ cs) (run s (c ∷ cs)) last x w)
+pub plain-at-completion : (s : State) (last x : Slots) (m : Expected) (h : Shape) (c : Call) (cs : List Call) → c .ask ≡ opening h → Resumes [] (c ∷ cs) (run s (c ∷ cs)) → AtCompletion last x (c ∷ cs) (run s (c ∷ cs)) → Plain m (c ∷ cs) (run s (c ∷ cs))
+plain-at-completion s last x m h c cs e r w = plain-array s (record { last = last; has = x }) m h c cs e r (at-completion (c ∷ cs) (run s (c ∷ cs)) last x w)

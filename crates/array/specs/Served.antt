@@ -3,45 +3,33 @@
 use mathlib.Core.Path.{_≡_, refl, ap, sym, _∙_}
 use mathlib.Core.Logic.{_⊎_, inl, inr, ⊎-elim}
 use mathlib.Core.Bool.{Bool, true, false, true≢false}
-use mathlib.Core.List.{List, [], _∷_, _++_}
-use mathlib.Core.Option.{Option, none, some}
+use mathlib.Core.List.{List, [], _∷_}
 use Prim.Native.Nat.{ℕ, zero, suc, _<_}
 use native.Mathlib.Omega.{arith}
-use lib.ListN.{length, length-replicate}
+use lib.ListN.{length}
 use lib.Dec.{eqb, ltb}
 use borrow.Author.Tests.{eqb-true, eqb-false, eq-eqb, ltb-true}
-use Rattle.lists.specs.All.{IfSome, any-snoc, any-without}
 use Rattle.lists.specs.Search.{any}
-use Rattle.lists.specs.Tables.{put-has}
 use Rattle.lists.specs.Tests.{if_then_else_}
-use Rattle.rules.specs.Blocks
-use Rattle.rules.specs.Collect
-use Rattle.rules.specs.Completion
-use Rattle.rules.specs.Completion.{isCommand, complete}
-use Rattle.rules.specs.Draws.{draws}
-use Rattle.rules.specs.Laws.Answers.{Passed, opens, accepted-passed, step-accepted, step-refused, step-number, refuse-keeps, open-first}
-use Rattle.rules.specs.Laws.Lengths.{Whole, slot-length, contents-length}
-use Rattle.rules.specs.Laws.Range.{RequestIn}
-use Rattle.rules.specs.Laws.Released.{handed-release}
-use Rattle.rules.specs.Laws.Shapes.{act-shape}
+use Rattle.rules.specs.Completion.{isCommand}
+use Rattle.rules.specs.Laws.Answers.{Passed, opens, accepted-passed, step-accepted, step-refused, step-number, open-first}
+use Rattle.rules.specs.Laws.Lengths.{Whole}
 use Rattle.rules.specs.Open.{fresh}
-use Rattle.rules.specs.Questions.{Ask, opening, request, turn, completion, collect, Call, bounds, number, questions}
-use Rattle.rules.specs.Ranges.{bytesOf}
-use Rattle.rules.specs.Rebuild.{doRebuild}
-use Rattle.rules.specs.Request
-use Rattle.rules.specs.Request.{accept}
+use Rattle.rules.specs.Questions.{Ask, opening, request, turn, completion, collect, save, load, Call, number, questions}
+use Rattle.rules.specs.Resumes.{savedBy, OfLast, Resumes}
 use Rattle.rules.specs.Run
-use Rattle.rules.specs.Run.{act, step, run}
+use Rattle.rules.specs.Run.{Outcome, act, step, run}
 use Rattle.rules.specs.Shape.{Shape}
-use Rattle.rules.specs.State.{State, Command, cmd, read, write, Request, closed}
-use Rattle.rules.specs.Turn
-use Rattle.rules.specs.Turn.{Step, idle, noDummy, readForRequest, readForJob, rebuild, writeNext, decide, command, doStep}
-use Rattle.reachable.specs.Outstanding.{decOne, command-is, same-command}
-use Rattle.reachable.specs.Reached.{Was, shut, was-reached, step-was}
-use Rattle.reachable.specs.Sends.{Last, step-last, open-last, kind-here, kind-else, kind-zero, read-is}
+use Rattle.rules.specs.State.{State, Command, cmd, read, write, closed}
+use Rattle.rules.specs.Turn.{command}
+use Rattle.reachable.specs.Outstanding.{decOne, same-command}
+use Rattle.reachable.specs.LastSaved.{OfState, Brought, back, gone, load-silent, load-leaves, resumes-was, step-last as saved-last}
+use Rattle.reachable.specs.Reached.{Was, live, shut, step-was}
+use Rattle.reachable.specs.Sends.{Last, step-last, load-last, open-last, kind-here, kind-else, kind-zero, read-is}
 use Rattle.reachable.specs.Terms.{One, lastKind}
 use Rattle.array.specs.Claim.{Slots, store, sends}
-use Rattle.array.specs.Contents.{Out}
+use Rattle.reachable.specs.Values.{Out}
+use Rattle.array.specs.Effects.{Effect, step-effect}
 use Rattle.array.specs.Hosts.{Fetches, AtOnce}
 use Rattle.array.specs.Slots.{store-yes, store-not, store-no}
 
@@ -51,21 +39,27 @@ fit zero bs = []
 fit (suc n) [] = 0 ∷ fit n []
 fit (suc n) (b ∷ bs) = b ∷ fit n bs
 
--- a completion of a read brings what the host has, as many bytes as before
-unfoldable pub brings : Slots → Ask → Ask
-brings x (opening h) = opening h
-brings x (request k b bs) = request k b bs
-brings x turn = turn
-brings x (completion c bs) = completion c (if eqb (c .kind) read then fit (length bs) (x (c .partition) (c .level) (c .slot)) else bs)
-brings x collect = collect
+-- a completion of a read brings what the host has, as many bytes as before; a load is of what was just saved
+unfoldable pub brings : Slots → List ℕ → Ask → Ask
+brings x y (opening h) = opening h
+brings x y (request k b bs) = request k b bs
+brings x y turn = turn
+brings x y (completion c bs) = completion c (if eqb (c .kind) read then fit (length bs) (x (c .partition) (c .level) (c .slot)) else bs)
+brings x y collect = collect
+brings x y save = save
+brings x y (load form) = load y
 
-abbrev pub serve : Slots → Call → Call
-serve x c = record { ask = brings x (c .ask); memory = c .memory; words = c .words; buffer = c .buffer }
+abbrev pub serve : Slots → List ℕ → Call → Call
+serve x y c = record { ask = brings x y (c .ask); memory = c .memory; words = c .words; buffer = c .buffer }
 
--- the run, with a host that has the bytes last sent to each slot: x has those before it
-unfoldable pub served : Slots → State → List Call → List Call
-served x s [] = []
-served x s (c ∷ cs) = serve x c ∷ served (sends x (step s (serve x c) .1)) (step s (serve x c) .0) cs
+-- the run, with a host that has the bytes last sent to each slot (x has those before it), and a caller who loads what was just saved (y by the call
+-- before it)
+unfoldable pub served : Slots → List ℕ → State → List Call → List Call
+served x y s [] = []
+served x y s (c ∷ cs) =
+    let d : Call = serve x y c in
+    let r : State × Outcome = step s d in
+    d ∷ served (sends x (r .1)) (savedBy (d .ask) (r .1)) (r .0) cs
 
 -- ---- Bytes
 
@@ -81,125 +75,6 @@ fit-same zero [] e = refl
 fit-same zero (b ∷ bs) e = absurd (omega arith)
 fit-same (suc n) [] e = absurd (omega arith)
 fit-same (suc n) (b ∷ bs) e = ap (λ xs. b ∷ xs) (fit-same n bs (omega arith))
-
--- ---- What a call changes
-
-one≢two : _≡_ {A = ℕ} 1 2 → ⊥
-one≢two e = omega arith
-
--- from s, with command c and bytes bs: what it leaves, as far as slot (q, ℓ, i) goes
-record Effect (s : State) (q ℓ i : ℕ) (s′ : State) (c : Command) (bs : List ℕ) : Type 0 where
-  whole : Whole s′
-  shape : s′ .shape .B ≡ s .shape .B
-  kind : (c .kind ≡ 0) ⊎ ((c .kind ≡ read) ⊎ (c .kind ≡ write))
-  sized : c .kind ≡ write → length bs ≡ s .shape .B
-  out : Out s′ q ℓ i → Out s q ℓ i ⊎ (c ≡ cmd read q ℓ i)
-
-module _ (s : State) (w : Whole s) (q ℓ i : ℕ) where
-  -- a call that sends nothing
-  quiet : (s′ : State) (bs : List ℕ) → Whole s′ → s′ .shape .B ≡ s .shape .B → (Out s′ q ℓ i → Out s q ℓ i) → Effect s q ℓ i s′ (cmd 0 0 0 0) bs
-  quiet s′ bs k e o = record { whole = k; shape = e; kind = inl refl; sized = λ z. absurd (omega arith); out = λ z. inl (o z) }
-
-  read-out : (p m j : ℕ) → any (isCommand (cmd read q ℓ i)) (s .outstanding ++ (cmd read p m j ∷ [])) ≡ true → Out s q ℓ i ⊎ (cmd read p m j ≡ cmd read q ℓ i)
-  read-out p m j e = ⊎-elim inl (λ z. let k = command-is (cmd read q ℓ i) (cmd read p m j) z in inr (sym (same-command (cmd read q ℓ i) (cmd read p m j) (k .0) (k .1)))) (any-snoc (isCommand (cmd read q ℓ i)) (s .outstanding) (cmd read p m j) e)
-
-  write-out : (p m j : ℕ) → any (isCommand (cmd read q ℓ i)) (s .outstanding ++ (cmd write p m j ∷ [])) ≡ true → Out s q ℓ i ⊎ (cmd write p m j ≡ cmd read q ℓ i)
-  write-out p m j e = ⊎-elim inl (λ z. absurd (one≢two (command-is (cmd read q ℓ i) (cmd write p m j) z .0))) (any-snoc (isCommand (cmd read q ℓ i)) (s .outstanding) (cmd write p m j) e)
-
-  turn-effect : (x : Step) (js : List ℕ) → Effect s q ℓ i (doStep x js s) (command x) (Run.written (doStep x js s) (command x))
-  unfolding command doStep Turn.send Turn.markRead doRebuild Run.written
-  turn-effect idle js = quiet s _ w refl (λ z. z)
-  turn-effect noDummy js = quiet s _ w refl (λ z. z)
-  turn-effect (readForRequest p m j) js = record { whole = w; shape = refl; kind = inr (inl refl); sized = λ z. absurd (one≢two z); out = read-out p m j }
-  turn-effect (readForJob p m j) js = record { whole = w; shape = refl; kind = inr (inl refl); sized = λ z. absurd (one≢two z); out = read-out p m j }
-  turn-effect (rebuild p t) js = record { whole = w; shape = refl; kind = inr (inr refl); sized = λ z. slot-length (doStep (rebuild p t) js s) w _; out = write-out p t 0 }
-  turn-effect (writeNext p t j) js = record { whole = w; shape = refl; kind = inr (inr refl); sized = λ z. slot-length (doStep (writeNext p t j) js s) w _; out = write-out p t j }
-
-  -- a completion
-  complete-whole : (c : Command) (bs : List ℕ) → (eqb (c .kind) read ≡ true → length bs ≡ s .shape .B) → Whole (complete c bs s)
-  unfolding complete Completion.completeRead Completion.completeWrite Completion.completed Completion.gatherBytes Completion.finishJob Completion.endJob
-  complete-whole c bs e = go (eqb (c .kind) read) e (Blocks.holder s (c .partition) (c .level) (c .slot)) (s .queue)
-    where
-      s′ : State
-      s′ = Completion.completed c s
-
-      ended : (p : ℕ) (qs : List ℕ) (t : Bool) → Whole (if t then Completion.endJob p qs s′ else s′)
-      ended p qs true = w
-      ended p qs false = w
-
-      go : (t : Bool) → (t ≡ true → length bs ≡ s .shape .B) → (o : Option ℕ) (qs : List ℕ) → Whole (if t then Completion.gatherBytes o bs s′ else Completion.finishJob qs s′)
-      go true k none qs = w
-      go true k (some b) qs = λ a. put-has (λ x. length x ≡ s .shape .B) b bs (s .bytes) a (k refl) (w a)
-      go false k o [] = w
-      go false k o (p ∷ qs) = ended p qs (Completion.jobDone s′ p)
-
-  complete-out : (c : Command) (bs : List ℕ) → Out (complete c bs s) q ℓ i → Out s q ℓ i
-  unfolding complete Completion.completeRead Completion.completeWrite Completion.completed Completion.gatherBytes Completion.finishJob Completion.endJob
-  complete-out c bs = go (eqb (c .kind) read) (Blocks.holder s (c .partition) (c .level) (c .slot)) (s .queue)
-    where
-      s′ : State
-      s′ = Completion.completed c s
-
-      left : Out s′ q ℓ i → Out s q ℓ i
-      left = any-without (isCommand (cmd read q ℓ i)) (isCommand c) (s .outstanding)
-
-      ended : (p : ℕ) (qs : List ℕ) (t : Bool) → Out (if t then Completion.endJob p qs s′ else s′) q ℓ i → Out s q ℓ i
-      ended p qs true = left
-      ended p qs false = left
-
-      go : (t : Bool) (o : Option ℕ) (qs : List ℕ) → Out (if t then Completion.gatherBytes o bs s′ else Completion.finishJob qs s′) q ℓ i → Out s q ℓ i
-      go true none qs = left
-      go true (some b) qs = left
-      go false o [] = left
-      go false o (p ∷ qs) = ended p qs (Completion.jobDone s′ p)
-
-  -- a collect
-  collect-whole : (o : Option Request) → IfSome (RequestIn (s .shape)) o → Whole (Collect.collected o s)
-  unfolding Collect.collected Collect.finish bytesOf
-  collect-whole none k = w
-  collect-whole (some r) k = λ a. put-has (λ x. length x ≡ s .shape .B) (r .block) (if eqb (r .kind) write then r .bytes else Blocks.contents s (r .block)) (s .bytes) a (go (eqb (r .kind) write) (k .bytes)) (w a)
-    where
-      go : (t : Bool) → length (r .bytes) ≡ (if t then s .shape .B else 0) → length (if t then r .bytes else Blocks.contents s (r .block)) ≡ s .shape .B
-      go true e = e
-      go false e = contents-length s w (r .block)
-
-  collect-out : (o : Option Request) → Out (Collect.collected o s) q ℓ i → Out s q ℓ i
-  unfolding Collect.collected Collect.finish
-  collect-out none z = z
-  collect-out (some r) z = z
-
-  -- an accepted call that is no open, before a request is released
-  perform-effect : (a : Ask) (m : ℕ) (ws : List ℕ) (n : ℕ) (js : List ℕ) → opens a ≡ false → Was s → Passed (questions s a m ws n) →
-      Effect s q ℓ i (Run.perform s a js) (Run.sentCommand s a) (Run.handed s a (Run.perform s a js))
-  unfolding act Run.perform Run.sentCommand Run.handed questions opens bytesOf
-  perform-effect (opening h) m ws n js o l p = absurd (true≢false o)
-  perform-effect (request k b bs) m ws n js o l p = quiet (accept k b bs js s) [] (unfold accept in w) (unfold accept in refl) (unfold accept in (λ z. z))
-  perform-effect turn m ws n js o l p = turn-effect (decide s) js
-  perform-effect (completion c bs) m ws n js o l p =
-      quiet (complete c bs s) [] (complete-whole c bs (λ e. eqb-true (length bs) (s .shape .B) (rw e at (p .1 .1 .0))))
-      (ap (λ (h : Shape). h .B) (act-shape s (completion c bs) js o)) (complete-out c bs)
-  perform-effect collect m ws n js o l p =
-      quiet (Collect.collected (s .request) s) (Collect.answer s (s .request)) (collect-whole (s .request) (was-reached s m l (p .0) .range .request))
-      (ap (λ (h : Shape). h .B) (act-shape s collect js o)) (collect-out (s .request))
-
-  -- a request released changes nothing of these
-  released : (s′ : State) (c : Command) (bs : List ℕ) → Effect s q ℓ i s′ c bs → Effect s q ℓ i (Request.release s′) c bs
-  released s′ c bs e = record { whole = e .whole; shape = e .shape; kind = e .kind; sized = e .sized; out = e .out }
-
-  act-effect : (a : Ask) (m : ℕ) (ws : List ℕ) (n : ℕ) (js : List ℕ) → opens a ≡ false → Was s → Passed (questions s a m ws n) →
-      Effect s q ℓ i (act s a js) (Run.sentCommand s a) (Run.handed s a (act s a js))
-  unfolding act
-  act-effect a m ws n js o l p = rw (handed-release s a (Run.perform s a js)) (released (Run.perform s a js) _ _ (perform-effect a m ws n js o l p))
-
-  -- every call that is no open
-  step-effect : (c : Call) → opens (c .ask) ≡ false → Was s → Effect s q ℓ i (step s c .0) (step s c .1 .command) (step s c .1 .bytes)
-  step-effect c o l = go (eqb (number s c) 0) refl
-    where
-      go : (t : Bool) → eqb (number s c) 0 ≡ t → Effect s q ℓ i (step s c .0) (step s c .1 .command) (step s c .1 .bytes)
-      go true e =
-          let z = eqb-true (number s c) 0 e in
-          rw (step-accepted s c z) (unfold Run.accepted in (act-effect (c .ask) (c .memory) (c .words) (c .buffer) (Run.numbersOf (draws (bounds s (c .ask)) (c .words))) o l (accepted-passed s c z)))
-      go false e = rw (step-refused s c (eqb-false (number s c) 0 e), refuse-keeps s (c .ask) o) (unfold Run.refused in (quiet s [] w refl (λ z. z)))
 
 -- ---- The bytes last sent to a slot
 
@@ -264,19 +139,6 @@ module _ (q ℓ i : ℕ) (s : State) (last : Slots) (w : Whole s) (l : Was s) (k
 -- ---- An open
 
 module _ (s : State) (c : Call) (h : Shape) (e : c .ask ≡ opening h) where
-  open-whole : Whole (step s c .0)
-  open-whole = rw (open-first s c h e) (go (eqb (number closed c) 0) refl)
-    where
-      zeros : (a : Ask) → a ≡ opening h → (js : List ℕ) → Whole (act closed a js)
-      zeros a e js = rw e (unfold act Run.perform fresh in (λ b. length-replicate (h .B) 0))
-
-      none-there : (a : Ask) → a ≡ opening h → Whole (Run.refuse closed a)
-      none-there a e = rw e (unfold Run.refuse closed in (λ b. refl))
-
-      go : (t : Bool) → eqb (number closed c) 0 ≡ t → Whole (step closed c .0)
-      go true z = rw (step-accepted closed c (eqb-true (number closed c) 0 z)) (unfold Run.accepted in (zeros (c .ask) e _))
-      go false z = rw (step-refused closed c (eqb-false (number closed c) 0 z)) (none-there (c .ask) e)
-
   open-out : (q ℓ i : ℕ) → ¬ Out (step s c .0) q ℓ i
   open-out q ℓ i = rw (open-first s c h e) (go (eqb (number closed c) 0) refl)
     where
@@ -299,36 +161,67 @@ module _ (s : State) (c : Call) (h : Shape) (e : c .ask ≡ opening h) where
   }
 
   open-was : Was (step s c .0)
-  open-was = rw (open-first s c h e) (step-was closed c (shut refl))
+  open-was = rw (open-first s c h e) (step-was closed c (rw e tt) (shut refl))
+
+-- ---- A load of what was just saved
+
+load-slot : (q ℓ i : ℕ) (s : State) (last : Slots) (c : Call) (form : List ℕ) → c .ask ≡ load form → Brought s (step s c .0) → Slot q ℓ i s last → Slot q ℓ i (step s c .0) (sends last (step s c .1))
+unfolding sends
+load-slot q ℓ i s last c form e w k = go w
+  where
+    sent : Command
+    sent = step s c .1 .command
+
+    same : store sent (step s c .1 .bytes) last q ℓ i ≡ last q ℓ i
+    same = store-no sent (step s c .1 .bytes) last (ap (λ (d : Command). eqb (d .kind) 2) (load-silent s c form e)) q ℓ i
+
+    fresh : Last q ℓ i (step s c .0) (k .kind)
+    fresh = rw (kind-zero q ℓ i (k .kind) sent (ap (λ (d : Command). ltb 0 (d .kind)) (load-silent s c form e))) at (load-last q ℓ i s (k .kind) c form e w (k .fresh) .1)
+
+    go : Brought s (step s c .0) → Slot q ℓ i (step s c .0) (store sent (step s c .1 .bytes) last)
+    go (back f r y o z) = record {
+      kind = k .kind;
+      fresh = fresh;
+      sized = λ p. ap length same ∙ k .sized p ∙ ap (λ (t : State). t .shape .B) (sym z);
+      out = λ u. k .out (rw z at u);
+    }
+    go (gone z) = record {
+      kind = 0;
+      fresh = rw z (unfold closed in (λ hℓ hi u v. absurd (omega arith)));
+      sized = λ p. absurd (omega arith);
+      out = λ u. absurd (true≢false (sym (unfold closed any in (rw z at u))));
+    }
 
 -- ---- Every run
 
--- a state, and the host's slots
-record Ready (s : State) (last : Slots) : Type 0 where
+-- a state that calls left, the host's slots, and what was just saved
+record Ready (s : State) (last : Slots) (saved : List ℕ) : Type 0 where
   was : Was s
-  whole : Whole s
   slot : (q ℓ i : ℕ) → Slot q ℓ i s last
+  form : OfState s saved
 
-step-ready : (s : State) (last : Slots) (c : Call) → Ready s last → Ready (step s c .0) (sends last (step s c .1))
-step-ready s last c k = go (c .ask) refl
+was-whole : (s : State) → Was s → Whole s
+was-whole s (live f) = f .tidy .whole
+was-whole s (shut z) = rw z (unfold closed in (λ b. refl))
+
+step-ready : (s : State) (last : Slots) (y : List ℕ) (c : Call) → OfLast y (c .ask) → Ready s last y → Ready (step s c .0) (sends last (step s c .1)) (savedBy (c .ask) (step s c .1))
+step-ready s last y c v k = record { was = resumes-was s y c v (k .form) (k .was); slot = slots-kept (c .ask) refl v; form = saved-last s c }
   where
-    other : opens (c .ask) ≡ false → Ready (step s c .0) (sends last (step s c .1))
-    other o = record {
-      was = step-was s c (k .was);
-      whole = step-effect s (k .whole) 0 0 0 c o (k .was) .whole;
-      slot = λ q ℓ i. slot-kept q ℓ i s last (k .whole) (k .was) (k .slot q ℓ i) c o;
-    }
+    other : opens (c .ask) ≡ false → (q ℓ i : ℕ) → Slot q ℓ i (step s c .0) (sends last (step s c .1))
+    other o q ℓ i = slot-kept q ℓ i s last (was-whole s (k .was)) (k .was) (k .slot q ℓ i) c o
 
-    go : (a : Ask) → c .ask ≡ a → Ready (step s c .0) (sends last (step s c .1))
-    go (opening h) e = record { was = open-was s c h e; whole = open-whole s c h e; slot = open-slot s c h e (sends last (step s c .1)) }
-    go (request j b bs) e = other (ap opens e ∙ unfold opens in refl)
-    go turn e = other (ap opens e ∙ unfold opens in refl)
-    go (completion d bs) e = other (ap opens e ∙ unfold opens in refl)
-    go collect e = other (ap opens e ∙ unfold opens in refl)
+    slots-kept : (a : Ask) → c .ask ≡ a → OfLast y a → (q ℓ i : ℕ) → Slot q ℓ i (step s c .0) (sends last (step s c .1))
+    slots-kept (opening h) e v = open-slot s c h e (sends last (step s c .1))
+    slots-kept (request j b bs) e v = other (ap opens e ∙ unfold opens in refl)
+    slots-kept turn e v = other (ap opens e ∙ unfold opens in refl)
+    slots-kept (completion d bs) e v = other (ap opens e ∙ unfold opens in refl)
+    slots-kept collect e v = other (ap opens e ∙ unfold opens in refl)
+    slots-kept save e v = other (ap opens e ∙ unfold opens in refl)
+    slots-kept (load form) e v = λ q ℓ i. load-slot q ℓ i s last c form e (load-leaves s c form e (rw v (k .form)) (k .was) .0) (k .slot q ℓ i)
 
 -- an accepted completion of a read brings what the host has
-module _ (s : State) (last : Slots) (k : Ready s last) (m : ℕ) (ws : List ℕ) (n : ℕ) where
-  fetches : (a : Ask) → Passed (questions s (brings last a) m ws n) → Fetches last (brings last a)
+module _ (s : State) (last : Slots) (y : List ℕ) (k : Ready s last y) (m : ℕ) (ws : List ℕ) (n : ℕ) where
+  fetches : (a : Ask) → Passed (questions s (brings last y a) m ws n) → Fetches last (brings last y a)
   unfolding brings questions
   fetches (opening h) p = tt
   fetches (request j b bs) p = tt
@@ -348,21 +241,41 @@ module _ (s : State) (last : Slots) (k : Ready s last) (m : ℕ) (ws : List ℕ)
           let v : length bs ≡ s .shape .B = sym (fit-length (length bs) here) ∙ eqb-true _ _ y in
           fit-same (length bs) here (x .sized (x .out (out z)) ∙ sym v)
   fetches collect p = tt
+  fetches save p = tt
+  fetches (load form) p = tt
 
-served-ready : (cs : List Call) (s : State) (last : Slots) → Ready s last → AtOnce last (served last s cs) (run s (served last s cs))
+brings-last : (x : Slots) (y : List ℕ) (a : Ask) → OfLast y (brings x y a)
+unfolding brings
+brings-last x y (opening h) = tt
+brings-last x y (request k b bs) = tt
+brings-last x y turn = tt
+brings-last x y (completion c bs) = tt
+brings-last x y collect = tt
+brings-last x y save = tt
+brings-last x y (load form) = refl
+
+served-ready : (cs : List Call) (s : State) (last : Slots) (y : List ℕ) → Ready s last y → AtOnce last (served last y s cs) (run s (served last y s cs))
 unfolding served run
-served-ready [] s last k = tt
-served-ready (c ∷ cs) s last k = (
-  (λ e. fetches s last k (c .memory) (c .words) (c .buffer) (c .ask) (accepted-passed s (serve last c) (sym (step-number s (serve last c)) ∙ e))),
-  served-ready cs (step s (serve last c) .0) (sends last (step s (serve last c) .1)) (step-ready s last (serve last c) k),
-)
+served-ready [] s last y k = tt
+served-ready (c ∷ cs) s last y k =
+    let d : Call = serve last y c in (
+      (λ e. fetches s last y k (c .memory) (c .words) (c .buffer) (c .ask) (accepted-passed s d (sym (step-number s d) ∙ e))),
+      served-ready cs (step s d .0) (sends last (step s d .1)) (savedBy (d .ask) (step s d .1)) (step-ready s last y d (brings-last last y (c .ask)) k),
+    )
 
 -- From an open on, whatever was before it: the run is that of an honest host
-pub served-at-once : (s : State) (x : Slots) (h : Shape) (c : Call) (cs : List Call) → c .ask ≡ opening h → AtOnce x (served x s (c ∷ cs)) (run s (served x s (c ∷ cs)))
+pub served-at-once : (s : State) (x : Slots) (y : List ℕ) (h : Shape) (c : Call) (cs : List Call) → c .ask ≡ opening h → AtOnce x (served x y s (c ∷ cs)) (run s (served x y s (c ∷ cs)))
 unfolding served run
-served-at-once s x h c cs e =
-    let b : brings x (c .ask) ≡ opening h = ap (brings x) e ∙ unfold brings in refl in (
+served-at-once s x y h c cs e =
+    let d : Call = serve x y c in
+    let b : brings x y (c .ask) ≡ opening h = ap (brings x y) e ∙ unfold brings in refl in (
       (λ z. rw b tt),
-      served-ready cs (step s (serve x c) .0) (sends x (step s (serve x c) .1))
-          (record { was = open-was s (serve x c) h b; whole = open-whole s (serve x c) h b; slot = open-slot s (serve x c) h b (sends x (step s (serve x c) .1)) }),
+      served-ready cs (step s d .0) (sends x (step s d .1)) (savedBy (d .ask) (step s d .1))
+          (record { was = open-was s d h b; slot = open-slot s d h b (sends x (step s d .1)); form = saved-last s d }),
     )
+
+-- ..and of a caller who loads only what was just saved
+pub served-resumes : (cs : List Call) (s : State) (x : Slots) (y : List ℕ) → Resumes y (served x y s cs) (run s (served x y s cs))
+unfolding served run
+served-resumes [] s x y = tt
+served-resumes (c ∷ cs) s x y = let d : Call = serve x y c in (brings-last x y (c .ask), served-resumes cs (step s d .0) (sends x (step s d .1)) (savedBy (d .ask) (step s d .1)))

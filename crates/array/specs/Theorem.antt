@@ -8,6 +8,14 @@ use native.Mathlib.Omega.{arith}
 use lib.Dec.{eqb, leb}
 use lib.ListN.{length}
 use borrow.Author.Tests.{eqb-true, eqb-false, eq-eqb, ne-eqb, leb-true}
+use Rattle.reachable.specs.LastSaved.{OfState, nothing, own, step-last}
+use Rattle.rules.specs.Resumes.{Resumes, savedBy, OfLast}
+use Rattle.reachable.specs.Saved.{Rests, saveable, loaded-kept}
+use Rattle.rules.specs.Laws.Range.{InRange}
+use Rattle.rules.specs.Laws.Form.Saveable.{Saveable, over as overState}
+use Rattle.rules.specs.Laws.Form.Back.{contentsOf, ordersIn, agrees, saved-back}
+use Rattle.rules.specs.Form.Loading.{loads}
+use Rattle.rules.specs.Form.Longest.{longest}
 use Rattle.lists.specs.Search
 use Rattle.lists.specs.Tests
 use Rattle.lists.specs.Tests.{if_then_else_, and-l, and-r}
@@ -22,7 +30,7 @@ use Rattle.rules.specs.Laws.Kept.{completed-in, given-in, drew-of}
 use Rattle.rules.specs.Laws.Released.{released-same, written-release}
 use Rattle.rules.specs.Open.{fresh}
 use Rattle.rules.specs.Questions
-use Rattle.rules.specs.Questions.{Ask, opening, request, turn, completion, collect, Call, bounds, number, questions}
+use Rattle.rules.specs.Questions.{Ask, opening, request, turn, completion, collect, save, load, Call, bounds, number, questions}
 use Rattle.rules.specs.Ranges.{isKind}
 use Rattle.rules.specs.Rebuild
 use Rattle.rules.specs.Request
@@ -37,8 +45,9 @@ use Rattle.reachable.specs.Consequences.{request-unread, job-unread}
 use Rattle.reachable.specs.Decided.{Decided, decided}
 use Rattle.reachable.specs.Invariant.{Reached}
 use Rattle.reachable.specs.Kept.Completion.{completed-kept}
+use Rattle.reachable.specs.Kept.Release.{release-kept}
 use Rattle.reachable.specs.Kept.Rebuild.Drawing.{drawing}
-use Rattle.reachable.specs.Reached.{Was, shut, live, closed-out, performed-kept, accepted-kept}
+use Rattle.reachable.specs.Reached.{Was, shut, live, closed-out, nothing-loads, performed-kept}
 use Rattle.array.specs.Claim.{Asked, store, Slots, Host, Expected, Brings, Has, change, Hands, sends, next, expects, Moves, Honest, Plain, Claim}
 use Rattle.array.specs.Collects.{collected-has, collect-contents, fresh-contents}
 use Rattle.array.specs.Completions.{completeRead-contents, completeWrite-contents}
@@ -89,11 +98,11 @@ module _ (s : State) (last has : Slots) (array : ℕ → List ℕ) (f : Reached 
   -- a request released
   release-contents : Contents (Request.release s) last has array
   unfolding Blocks.zeros
-  release-contents = record { absent = k .absent; waiting = k .waiting; drawn = k .drawn; known = k .known; written = k .written; settled = k .settled }
+  release-contents = record { absent = k .absent; values = record { waiting = k .values .waiting; drawn = k .values .drawn; known = k .values .known }; written = k .written; settled = k .settled }
 
   accept-contents : (j b : ℕ) (bs js : List ℕ) → Contents (accept j b bs js s) last has array
   unfolding accept Blocks.zeros
-  accept-contents j b bs js = record { absent = k .absent; waiting = k .waiting; drawn = k .drawn; known = k .known; written = k .written; settled = k .settled }
+  accept-contents j b bs js = record { absent = k .absent; values = record { waiting = k .values .waiting; drawn = k .values .drawn; known = k .values .known }; written = k .written; settled = k .settled }
 
 -- What was asked stays asked
 step-asked : (s : State) (x : Step) (js : List ℕ) → askedOf (doStep x js s .request) ≡ askedOf (s .request)
@@ -147,6 +156,38 @@ kept-tied : (s : State) (host : Host) (m : Expected) (memory : ℕ) → Kept s h
 kept-tied s host m memory (over w) e = absurd (closed-out (rw w at (given-in s memory e)))
 kept-tied s host m memory (tied t) e = t
 
+kept-range : (s : State) (host : Host) (m : Expected) → Kept s host m → InRange s → Tied s host m
+kept-range s host m (over w) e = absurd (closed-out (rw w at e))
+kept-range s host m (tied t) e = t
+
+-- A load is of what a save has put into its buffer
+abbrev Fits : State → Ask → Type 0
+Fits s (opening h) = Unit {0}
+Fits s (request k b bs) = Unit {0}
+Fits s turn = Unit {0}
+Fits s (completion c bs) = Unit {0}
+Fits s collect = Unit {0}
+Fits s save = Unit {0}
+Fits s (load form) = OfState s form
+
+-- What it brings has the contents of every block
+module _ (s : State) (f : Reached s) (r : Rests s) (last has : Slots) (array : ℕ → List ℕ) (k : Contents s last has array) where
+  abbrev v : Saveable s
+  v = saveable s f r
+
+  loaded-contents : Contents (overState (contentsOf s v) (ordersIn s v) s) last has array
+  unfolding Blocks.zeros
+  loaded-contents = record {
+    absent = k .absent;
+    values = record {
+      waiting = λ b hb m. agrees s v .contents b m ∙ k .values .waiting b hb m;
+      drawn = λ b ℓ i hb e z. absurd (z .1 (f .unbegun (r .unbegun) .1));
+      known = λ b ℓ i hb e n u. absurd (n (v .placed b ℓ i hb e .1));
+    };
+    written = k .written;
+    settled = k .settled;
+  }
+
 -- A collect hands out the array's contents
 collect-hands : (s : State) (host : Host) (m : Expected) → Tied s host m → (o : Option Request) → s .request ≡ o → Questions.inHand (Collect.finished s) o ≡ true
     → Has (m .asked) (m .array) (Collect.answer s o) × Contents (Collect.collected o s) (host .last) (host .has) (change (m .asked) (m .array))
@@ -172,28 +213,28 @@ module _ (s : State) (host : Host) (m : Expected) (memory : ℕ) (ws : List ℕ)
   abbrev drawn : Ask → List ℕ
   drawn a = Run.numbersOf (draws (bounds s a) ws)
 
-  done-tied : (a : Ask) → Passed (questions s a memory ws n) → Brings (host .last) (host .has) a → Hands m a (result a .1) × Tied (Run.perform s a (drawn a)) (record { last = sends (host .last) (result a .1); has = host .has }) (next m a)
+  done-tied : (a : Ask) → Passed (questions s a memory ws n) → Brings (host .last) (host .has) a → Fits s a → Hands m a (result a .1) × Tied (Run.perform s a (drawn a)) (record { last = sends (host .last) (result a .1); has = host .has }) (next m a)
   unfolding Run.accepted next act Run.perform questions Run.sentCommand Run.handed bounds sends store
-  done-tied (opening h) p w = (
+  done-tied (opening h) p w v = (
     tt,
     record {
-      reached = performed-kept s (opening h) memory ws n (kept-was s host m l) p;
+      reached = performed-kept s (opening h) memory ws n (kept-was s host m l) p tt;
       asked = unfold fresh askedOf in refl;
       contents = fresh-contents h (drawn (opening h)) (host .last) (host .has);
     },
   )
-  done-tied (request j b bs) p w =
+  done-tied (request j b bs) p w v =
       let t = kept-tied s host m memory l (and-l (Questions.ready s memory) (isKind j) (p .0)) in (
         tt,
         record {
-          reached = performed-kept s (request j b bs) memory ws n (kept-was s host m l) p;
+          reached = performed-kept s (request j b bs) memory ws n (kept-was s host m l) p tt;
           asked = unfold accept askedOf in refl;
           contents = accept-contents s (host .last) (host .has) (m .array) (t .reached) (t .contents) j b bs (drawn (request j b bs));
         },
       )
-  done-tied turn p w =
+  done-tied turn p w v =
       let t = kept-tied s host m memory l (p .0) in
-      let f = performed-kept s turn memory ws n (kept-was s host m l) p in (
+      let f = performed-kept s turn memory ws n (kept-was s host m l) p tt in (
         tt,
         record {
           reached = f;
@@ -201,34 +242,45 @@ module _ (s : State) (host : Host) (m : Expected) (memory : ℕ) (ws : List ℕ)
           contents = rw (written-release (doStep (decide s) (drawn turn) s) (command (decide s))) (turn-contents s (host .last) (host .has) (m .array) (t .reached) (t .contents) (decide s) (drawn turn) (decided s) (decide-in s (t .reached .range)) (drew-of (Turn.stepBounds (decide s)) ws (stepBounds-pos (decide s)) (p .1 .1 .1 .1 .0)) f);
         },
       )
-  done-tied (completion c bs) p w =
+  done-tied (completion c bs) p w v =
       let t = kept-tied s host m memory l (and-l (Questions.ready s memory) (isKind (c .kind)) (p .0)) in (
         tt,
         record {
-          reached = performed-kept s (completion c bs) memory ws n (kept-was s host m l) p;
+          reached = performed-kept s (completion c bs) memory ws n (kept-was s host m l) p tt;
           asked = complete-asked s c bs ∙ t .asked;
           contents = complete-contents s (host .last) (host .has) (m .array) (t .reached) (t .contents) c bs (and-r (Questions.ready s memory) (isKind (c .kind)) (p .0)) (p .1 .0) w;
         },
       )
-  done-tied collect p w =
+  done-tied collect p w v =
       let t = kept-tied s host m memory l (p .0) in
       let x = collect-hands s host m t (s .request) refl (p .1 .1 .0) in (
         x .0,
         record {
-          reached = performed-kept s collect memory ws n (kept-was s host m l) p;
+          reached = performed-kept s collect memory ws n (kept-was s host m l) p tt;
           asked = collect-asked s (s .request) refl;
           contents = x .1;
         },
       )
+  done-tied save p w v = (tt, kept-tied s host m memory l (and-l (Questions.ready s memory) (leb (longest (s .shape)) n) (p .0)))
+  done-tied (load form) p w (nothing e) = absurd (true≢false (sym (p .1 .0) ∙ ap loads e ∙ nothing-loads))
+  done-tied (load form) p w (own e i r) =
+      let t = kept-range s host m l i in (
+        tt,
+        rw (e, saved-back s (saveable s (t .reached) r)) (record {
+          reached = loaded-kept s (t .reached) r;
+          asked = t .asked;
+          contents = loaded-contents s (t .reached) r (host .last) (host .has) (m .array) (t .contents);
+        }),
+      )
 
   -- ..and then a request may be released
-  call-tied : (a : Ask) → Passed (questions s a memory ws n) → Brings (host .last) (host .has) a → Hands m a (result a .1) × Tied (result a .0) (record { last = sends (host .last) (result a .1); has = host .has }) (next m a)
+  call-tied : (a : Ask) → Passed (questions s a memory ws n) → Brings (host .last) (host .has) a → Fits s a → Hands m a (result a .1) × Tied (result a .0) (record { last = sends (host .last) (result a .1); has = host .has }) (next m a)
   unfolding Run.accepted act
-  call-tied a p w =
-      let t = done-tied a p w in (
+  call-tied a p w v =
+      let t = done-tied a p w v in (
         t .0,
         record {
-          reached = accepted-kept s a memory ws n (kept-was s host m l) p;
+          reached = release-kept (Run.perform s a (drawn a)) (t .1 .reached);
           asked = release-asked (Run.perform s a (drawn a)) ∙ t .1 .asked;
           contents = release-contents (Run.perform s a (drawn a)) (sends (host .last) (result a .1)) (host .has) (next m a .array) (t .1 .reached) (t .1 .contents);
         },
@@ -241,6 +293,8 @@ refuse-kept s host m (request k b bs) l = l
 refuse-kept s host m turn l = l
 refuse-kept s host m (completion c bs) l = l
 refuse-kept s host m collect l = l
+refuse-kept s host m save l = l
+refuse-kept s host m (load form) l = over refl
 
 expects-yes : (m : Expected) (a : Ask) (o : Outcome) → o .number ≡ 0 → expects m a o ≡ next m a
 unfolding expects
@@ -265,14 +319,14 @@ moved-kept s host m x f (over e) = over e
 moved-kept s host m x f (tied t) = tied (record { reached = t .reached; asked = t .asked; contents = moved (t .contents) x f })
 
 -- Every call
-step-kept : (s : State) (host : Host) (m : Expected) (c : Call) → Kept s host m → (step s c .1 .number ≡ 0 → Brings (host .last) (host .has) (c .ask))
+step-kept : (s : State) (host : Host) (m : Expected) (c : Call) → Kept s host m → (step s c .1 .number ≡ 0 → Brings (host .last) (host .has) (c .ask)) → Fits s (c .ask)
     → (step s c .1 .number ≡ 0 → Hands m (c .ask) (step s c .1)) × Kept (step s c .0) (record { last = sends (host .last) (step s c .1); has = host .has }) (expects m (c .ask) (step s c .1))
-step-kept s host m c l w = go (eqb (number s c) 0) refl
+step-kept s host m c l w v = go (eqb (number s c) 0) refl
   where
     go : (t : Bool) → eqb (number s c) 0 ≡ t → (step s c .1 .number ≡ 0 → Hands m (c .ask) (step s c .1)) × Kept (step s c .0) (record { last = sends (host .last) (step s c .1); has = host .has }) (expects m (c .ask) (step s c .1))
     go true e =
         let z = eqb-true (number s c) 0 e in
-        let x = call-tied s host m (c .memory) (c .words) (c .buffer) l (c .ask) (accepted-passed s c z) (w (step-number s c ∙ z)) in
+        let x = call-tied s host m (c .memory) (c .words) (c .buffer) l (c .ask) (accepted-passed s c z) (w (step-number s c ∙ z)) v in
         rw (step-accepted s c z) ((λ y. x .0), rw (expects-yes m (c .ask) (Run.accepted s (c .ask) (draws (bounds s (c .ask)) (c .words)) .1) (accepted-zero s (c .ask) _)) (tied (x .1)))
     go false e =
         let z = eqb-false (number s c) 0 e in (
@@ -284,17 +338,26 @@ step-kept s host m c l w = go (eqb (number s c) 0) refl
 abbrev hostAt : Host → Slots → Host
 hostAt host x = record { last = host .last; has = x }
 
-run-plain : (cs : List Call) (s : State) (host : Host) (m : Expected) → Kept s host m → Honest host cs (run s cs) → Plain m cs (run s cs)
+last-fits : (s : State) (x : List ℕ) → OfState s x → (a : Ask) → OfLast x a → Fits s a
+last-fits s x l (opening h) e = tt
+last-fits s x l (request k b bs) e = tt
+last-fits s x l turn e = tt
+last-fits s x l (completion c bs) e = tt
+last-fits s x l collect e = tt
+last-fits s x l save e = tt
+last-fits s x l (load form) e = rw e l
+
+run-plain : (cs : List Call) (s : State) (host : Host) (m : Expected) (x : List ℕ) → Kept s host m → OfState s x → Resumes x cs (run s cs) → Honest host cs (run s cs) → Plain m cs (run s cs)
 unfolding run
-run-plain [] s host m l w = tt
-run-plain (c ∷ cs) s host m l w =
-    let x = step-kept s (hostAt host (w .0)) m c (moved-kept s host m (w .0) (w .1 .0) l) (w .1 .1) in
-    (x .0, run-plain cs (step s c .0) (record { last = sends (host .last) (step s c .1); has = w .0 }) (expects m (c .ask) (step s c .1)) (x .1) (w .1 .2))
+run-plain [] s host m x l v r w = tt
+run-plain (c ∷ cs) s host m x l v r w =
+    let z = step-kept s (hostAt host (w .0)) m c (moved-kept s host m (w .0) (w .1 .0) l) (w .1 .1) (last-fits s x v (c .ask) (r .0)) in
+    (z .0, run-plain cs (step s c .0) (record { last = sends (host .last) (step s c .1); has = w .0 }) (expects m (c .ask) (step s c .1)) (savedBy (c .ask) (step s c .1)) (z .1) (step-last s c) (r .1) (w .1 .2))
 
 -- THE THEOREM
 pub plain-array : Claim
 unfolding run
-plain-array s host m h c cs e w = (first .0, run-plain cs (step s c .0) (record { last = sends (host .last) (step s c .1); has = w .0 }) (expects m (c .ask) (step s c .1)) (first .1) (w .1 .2))
+plain-array s host m h c cs e r w = (first .0, run-plain cs (step s c .0) (record { last = sends (host .last) (step s c .1); has = w .0 }) (expects m (c .ask) (step s c .1)) (savedBy (c .ask) (step s c .1)) (first .1) (step-last s c) (r .1) (w .1 .2))
   where
     first : (step s c .1 .number ≡ 0 → Hands m (c .ask) (step s c .1)) × Kept (step s c .0) (record { last = sends (host .last) (step s c .1); has = w .0 }) (expects m (c .ask) (step s c .1))
-    first = rw (open-first s c h e) (step-kept closed (hostAt host (w .0)) m c (over refl) (rw (open-first s c h e) at (w .1 .1)))
+    first = rw (open-first s c h e) (step-kept closed (hostAt host (w .0)) m c (over refl) (rw (open-first s c h e) at (w .1 .1)) (rw e tt))

@@ -7,37 +7,34 @@ use mathlib.Core.Option.{Option, none, some}
 use Prim.Native.Nat.{ℕ, suc, _<_}
 use native.Mathlib.Omega.{arith}
 use native.Mathlib.Decide.{ℕ-discrete}
-use lib.ListN.{getD}
-use borrow.Author.Tests.{eqb-false}
-use Rattle.lists.specs.All.{any-more, any-last, any-snoc, any-all}
-use Rattle.lists.specs.Distinct.{Mem, index}
+use Rattle.lists.specs.All.{any-more, any-last, any-snoc}
+use Rattle.lists.specs.Distinct.{Mem}
 use Rattle.lists.specs.Members.{mem-without, decMem}
 use Rattle.lists.specs.Search.{any}
 use Rattle.lists.specs.Tables.{put, put-other}
 use Rattle.rules.specs.Blocks
 use Rattle.rules.specs.Completion.{isCommand}
-use Rattle.rules.specs.Laws.Layout.{cell-inj}
-use Rattle.rules.specs.Levels.{sources, target}
+use Rattle.rules.specs.Levels.{target}
 use Rattle.rules.specs.Rebuild
 use Rattle.rules.specs.Rebuild.{doRebuild, gathered, chosen}
 use Rattle.rules.specs.Run
 use Rattle.rules.specs.Shape.{Shape, cell, slots}
-use Rattle.rules.specs.State.{State, Command, cmd, read, write, stored}
+use Rattle.rules.specs.State.{State, Command, cmd, read, write}
 use Rattle.rules.specs.Turn
 use Rattle.rules.specs.Turn.{readForRequest, readForJob, writeNext, doStep}
-use Rattle.reachable.specs.Blocks.{place-lt, chosen-waits, is-below, gathered-lt, stored-inj, not-nowhere}
-use Rattle.reachable.specs.Consequences.{sources-read}
+use Rattle.reachable.specs.Blocks.{place-lt, not-nowhere}
 use Rattle.reachable.specs.Decided.{Writes}
 use Rattle.reachable.specs.Invariant.{Reached}
-use Rattle.reachable.specs.Kept.Rebuild.Drawing.{Drawing, partition-in, place-in, place-out, above-target, leave-mem}
-use Rattle.reachable.specs.Kept.Rebuild.Marks.{mark-here, mark-else}
+use Rattle.reachable.specs.Kept.Rebuild.Drawing.{Drawing, place-in, place-out}
+use Rattle.reachable.specs.Kept.Rebuild.Marks.{mark-else}
 use Rattle.rules.specs.Request.{isFront}
 use Rattle.reachable.specs.Live.{Target, front-eq, front-is}
 use Rattle.reachable.specs.Outstanding.{command-is, is-command, decOne}
-use Rattle.reachable.specs.Slots.{gathered-why, front-in, why-gathered}
+use Rattle.reachable.specs.Slots.{front-in, why-gathered}
 use Rattle.reachable.specs.Terms.{One}
+use Rattle.reachable.specs.Values.{Values, read-known, write-values, gathered-bytes, Case, moves, rests, case, rebuild-values}
 use Rattle.array.specs.Claim.{Slots, store}
-use Rattle.array.specs.Contents.{Contents, Known, Sent, Written, Settled, Nowhere, Drawn}
+use Rattle.array.specs.Contents.{Contents, Sent, Written, Settled, Nowhere}
 use Rattle.array.specs.Slots.{store-yes, slot-bytes, store-not}
 
 -- a write sent is no read outstanding
@@ -57,15 +54,9 @@ module _ (s : State) (f : Reached s) (last has : Slots) (array : ℕ → List �
   abbrev r′ : State
   r′ = Turn.send (cmd read q ℓ i) (Turn.markRead q ℓ i s)
 
-  read-known : Known r′ array
+  read-values : Values r′ array
   unfolding Turn.send Turn.markRead
-  read-known b m j hb e n o = k .known b m j hb e (λ z. n (put-other (cell h q ℓ i) 0 (s .mark) _ other ∙ z)) (λ z. o (any-more _ (s .outstanding) _ z))
-    where
-      y : (m < h .L) × (j < slots m)
-      y = place-lt (h .L) m j (s .place b) (f .range .places b hb) e
-
-      other : cell h (s .partition b) m j ≡ cell h q ℓ i → ⊥
-      other z = o (any-last _ (s .outstanding) (cmd read q ℓ i) (is-command (cmd read (s .partition b) m j) (cmd read q ℓ i) refl (cell-inj h (s .partition b) q m ℓ j i (y .0) hℓ (y .1) hi z)))
+  read-values = record { waiting = k .values .waiting; drawn = k .values .drawn; known = read-known s f array (k .values) q ℓ i hℓ hi }
 
   read-sent : (p m j : ℕ) → Sent r′ p m j → Sent s p m j
   unfolding Turn.send Turn.markRead
@@ -91,11 +82,11 @@ module _ (s : State) (f : Reached s) (last has : Slots) (array : ℕ → List �
 
   pub request-contents : (js : List ℕ) → Contents (doStep (readForRequest q ℓ i) js s) last has array
   unfolding doStep Turn.send Turn.markRead Blocks.zeros
-  request-contents js = record { absent = k .absent; waiting = k .waiting; drawn = k .drawn; known = read-known; written = read-written; settled = read-settled }
+  request-contents js = record { absent = k .absent; values = record { waiting = read-values .waiting; drawn = read-values .drawn; known = read-values .known }; written = read-written; settled = read-settled }
 
   pub job-contents : (js : List ℕ) → Contents (doStep (readForJob q ℓ i) js s) last has array
   unfolding doStep Turn.send Turn.markRead Blocks.zeros
-  job-contents js = record { absent = k .absent; waiting = k .waiting; drawn = k .drawn; known = read-known; written = read-written; settled = read-settled }
+  job-contents js = record { absent = k .absent; values = record { waiting = read-values .waiting; drawn = read-values .drawn; known = read-values .known }; written = read-written; settled = read-settled }
 
 -- A further write
 module _ (s : State) (last has : Slots) (array : ℕ → List ℕ) (k : Contents s last has array) (q t i : ℕ) (d : Writes s q t i) (js : List ℕ) (f′ : Reached (doStep (writeNext q t i) js s)) where
@@ -125,7 +116,7 @@ module _ (s : State) (last has : Slots) (array : ℕ → List ℕ) (k : Contents
       go (yes w) =
           store-yes (cmd write q t i) bs last refl (s .partition b) m j w
           ∙ slot-bytes w′ f′ q t i b hb (w .0) (e ∙ rw (w .1, w .2))
-          ∙ k .drawn b m j hb e (ap (isFront (s .queue)) (w .0) ∙ rw (d .front) (front-is q (d .rest)), d .busy, w .1 ∙ d .goal ∙ ap (λ x. target (s .shape) (s .counter x)) (sym (w .0)))
+          ∙ k .values .drawn b m j hb e (ap (isFront (s .queue)) (w .0) ∙ rw (d .front) (front-is q (d .rest)), d .busy, w .1 ∙ d .goal ∙ ap (λ x. target (s .shape) (s .counter x)) (sym (w .0)))
       go (no w) = store-not (cmd write q t i) bs last (s .partition b) m j w ∙ k .written b m j hb e (write-sent (s .partition b) m j w u)
 
   write-settled : Settled w′ has array
@@ -136,9 +127,7 @@ module _ (s : State) (last has : Slots) (array : ℕ → List ℕ) (k : Contents
   unfolding doStep Turn.send Blocks.zeros
   write-contents = record {
     absent = k .absent;
-    waiting = k .waiting;
-    drawn = λ b m j hb e z. k .drawn b m j hb e (z .0, d .busy, z .2);
-    known = λ b m j hb e n o. k .known b m j hb e n (λ z. o (any-more _ (s .outstanding) _ z));
+    values = write-values s array (k .values) q t i d js;
     written = write-written;
     settled = write-settled;
   }
@@ -158,51 +147,6 @@ module _ (s : State) (f : Reached s) (last has : Slots) (array : ℕ → List �
   abbrev last′ : Slots
   last′ = store (cmd write q t 0) (Run.written b′ (cmd write q t 0)) last
 
-  -- the bytes of a gathered block are here
-  gathered-bytes : (b : ℕ) → Mem b (gathered s q) → s .bytes b ≡ array b
-  unfolding Blocks.isUnread
-  gathered-bytes b m = ⊎-elim
-      (λ e. k .waiting b hb (chosen-waits s q b e .1))
-      (λ e. let x = is-below (sources (s .shape) (s .counter q)) (s .place b) (e .1) in source (e .0) (x .0) (x .1) (x .2 .0) (x .2 .1))
-      (gathered-why s f q (front-in s f q (d .step .rest) (d .step .front)) b m)
-    where
-      hb : b < s .shape .N
-      hb = gathered-lt s q b m
-
-      source : s .partition b ≡ q → (ℓ i : ℕ) → s .place b ≡ stored ℓ i → ℓ < sources (s .shape) (s .counter q) → s .bytes b ≡ array b
-      source e ℓ i p l =
-          let y = place-lt (s .shape .L) ℓ i (s .place b) (f .range .places b hb) p in
-          let u = sources-read s f q t (d .step) ℓ i l (y .1) in
-          k .known b ℓ i hb p
-          (λ z. omega (arith, sym u ∙ ap (λ x. s .mark (cell (s .shape) x ℓ i)) (sym e) ∙ z))
-          (λ z. let x = any-all (isCommand (cmd read (s .partition b) ℓ i)) (d .step .quiet) z in
-          eqb-false (x .0 .partition) q (x .1 .1) (sym (command-is (cmd read (s .partition b) ℓ i) (x .0) (x .1 .0) .1 .0) ∙ e))
-
-  is-place : (b : ℕ) → b′ .place b ≡ doRebuild q t o s .place b
-  unfolding Turn.send
-  is-place b = refl
-
-  -- a block in its place after the rebuild: gathered, and in the target; or where it was
-  data Case (b ℓ i : ℕ) : Type 0 where
-    moves : Mem b (gathered s q) → s .partition b ≡ q → t ≡ ℓ → Case b ℓ i
-    rests : s .place b ≡ stored ℓ i → ((q ≡ s .partition b) × (t ≡ ℓ) → ⊥) → Case b ℓ i
-
-  case : (b ℓ i : ℕ) → b < s .shape .N → b′ .place b ≡ stored ℓ i → Case b ℓ i
-  case b ℓ i hb e = go (decMem b (gathered s q))
-    where
-      go : Dec (Mem b (gathered s q)) → Case b ℓ i
-      go (yes m) = moves m (partition-in s f q t o d b m) (stored-inj t ℓ (getD o (index b (gathered s q)) 0) i (sym (place-in s f q t o d b m) ∙ sym (is-place b) ∙ e) .0)
-      go (no m) =
-          let p = sym (place-out s f q t o d b m) ∙ sym (is-place b) ∙ e in
-          rests p (λ w. let l = above-target s f q t o d b ℓ i hb m p (sym (w .0)) in omega (arith, w .1))
-
-  -- the target
-  not-target : (p ℓ : ℕ) → Target b′ p ℓ → (q ≡ p) × (t ≡ ℓ)
-  unfolding Turn.send doRebuild
-  not-target p ℓ z =
-      let v = front-eq p q (s .queue) (d .step .rest) (d .step .front) (z .0) in
-      (sym v, d .step .goal ∙ ap (λ x. target (s .shape) (s .counter x)) (sym v) ∙ sym (z .2))
-
   rebuild-absent : Nowhere b′ array
   unfolding Blocks.zeros Turn.send doRebuild
   rebuild-absent b hb e n = go (decMem b (gathered s q))
@@ -210,27 +154,6 @@ module _ (s : State) (f : Reached s) (last has : Slots) (array : ℕ → List �
       go : Dec (Mem b (gathered s q)) → Blocks.zeros b′ ≡ array b
       go (yes m) = absurd (not-nowhere t _ (sym e ∙ place-in s f q t o d b m))
       go (no m) = k .absent b hb (sym (place-out s f q t o d b m) ∙ e) (λ w. n (leave-stays (chosen s q) (s .waiting) b (λ c. m (why-gathered s f q (front-in s f q (d .step .rest) (d .step .front)) b hb (inl c))) w))
-
-  rebuild-drawn : Drawn b′ array
-  unfolding Turn.send doRebuild
-  rebuild-drawn b ℓ i hb e z = go (case b ℓ i hb e)
-    where
-      go : Case b ℓ i → s .bytes b ≡ array b
-      go (moves m u w) = gathered-bytes b m
-      go (rests p n) = absurd (n (not-target (s .partition b) ℓ z))
-
-  rebuild-known : Known b′ array
-  unfolding Turn.send doRebuild
-  rebuild-known b ℓ i hb e n a = go (case b ℓ i hb e)
-    where
-      y : (ℓ < s .shape .L) × (i < slots ℓ)
-      y = place-lt (s .shape .L) ℓ i (b′ .place b) (f′ .range .places b hb) e
-
-      go : Case b ℓ i → b′ .bytes b ≡ array b
-      go (moves m u w) = absurd (n (mark-here s f q t o d (s .partition b) ℓ i (sym u, w) (y .1)))
-      go (rests p x) = (
-          k .known b ℓ i hb p (λ z. n (mark-else s f q t o d (s .partition b) ℓ i (y .0) (y .1) x ∙ z)) (λ z. a (any-more _ (s .outstanding) _ z))
-          )
 
   -- a slot that is not the target's was sent before; of the target's slots only the first is sent
   rest-sent : (p ℓ i : ℕ) → ℓ < s .shape .L → i < slots ℓ → ((q ≡ p) × (t ≡ ℓ) → ⊥) → Sent b′ p ℓ i → Sent s p ℓ i
@@ -245,38 +168,36 @@ module _ (s : State) (f : Reached s) (last has : Slots) (array : ℕ → List �
 
   rebuild-written : Written b′ last′ array
   unfolding Turn.send doRebuild
-  rebuild-written b ℓ i hb e u = go (case b ℓ i hb e)
+  rebuild-written b ℓ i hb e u = go (case s f array (k .values) q t o d b ℓ i hb e)
     where
       y : (ℓ < s .shape .L) × (i < slots ℓ)
       y = place-lt (s .shape .L) ℓ i (b′ .place b) (f′ .range .places b hb) e
 
-      go : Case b ℓ i → last′ (s .partition b) ℓ i ≡ array b
+      go : Case s f array (k .values) q t o d b ℓ i → last′ (s .partition b) ℓ i ≡ array b
       go (moves m v w) =
           let z = first-sent (s .partition b) ℓ i v w u in
           store-yes (cmd write q t 0) (Run.written b′ (cmd write q t 0)) last refl (s .partition b) ℓ i (v, sym w, z)
           ∙ slot-bytes b′ f′ q t 0 b hb (v) (e ∙ rw (w, z))
-          ∙ gathered-bytes b m
+          ∙ gathered-bytes s f array (k .values) q t o d b m
       go (rests p x) =
           store-not (cmd write q t 0) (Run.written b′ (cmd write q t 0)) last (s .partition b) ℓ i (λ w. x (sym (w .0), sym (w .1)))
           ∙ k .written b ℓ i hb p (rest-sent (s .partition b) ℓ i (y .0) (y .1) x u)
 
   rebuild-settled : Settled b′ has array
   unfolding Turn.send doRebuild
-  rebuild-settled b ℓ i hb e u n = go (case b ℓ i hb e)
+  rebuild-settled b ℓ i hb e u n = go (case s f array (k .values) q t o d b ℓ i hb e)
     where
       y : (ℓ < s .shape .L) × (i < slots ℓ)
       y = place-lt (s .shape .L) ℓ i (b′ .place b) (f′ .range .places b hb) e
 
-      go : Case b ℓ i → has (s .partition b) ℓ i ≡ array b
+      go : Case s f array (k .values) q t o d b ℓ i → has (s .partition b) ℓ i ≡ array b
       go (moves m v w) = absurd (n (due-last q t 0 (s .partition b) ℓ i (s .outstanding) (v, sym w, first-sent (s .partition b) ℓ i v w u)))
       go (rests p x) = k .settled b ℓ i hb p (rest-sent (s .partition b) ℓ i (y .0) (y .1) x u) (λ z. n (any-more _ (s .outstanding) _ z))
 
   pub rebuild-contents : Contents b′ last′ has array
   rebuild-contents = record {
     absent = rebuild-absent;
-    waiting = unfold Turn.send doRebuild in (λ b hb m. k .waiting b hb (leave-mem s f q t o d (chosen s q) b m .0));
-    drawn = rebuild-drawn;
-    known = rebuild-known;
+    values = rebuild-values s f array (k .values) q t o d f′;
     written = rebuild-written;
     settled = rebuild-settled;
   }

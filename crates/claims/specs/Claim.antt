@@ -1,34 +1,35 @@
 -- Demands 2 and 3 for exported calls, as a host program makes them: an open, then any calls. Each is handed the 76 bytes of state and the memory
 -- that the last one left, or a part of that memory from its start. All that is known of a call is its contract.
--- To believe the claims, read this file, `Exported` and `Opened` of crate `exports`, `foundAs` of crate `client`, the claims of crates `array` and
--- `hiding`, and of crate `rules` the runs of Run.antt and Silent.antt and `firstFound` of Laws/Found.antt. They are proved in Theorem.antt, one
+-- To believe the claims, read this file, `Exported`, `Opened` and `Loaded` of crate `exports`, `foundAs` of crate `client`, the claims of crates `array` and
+-- `hiding`, and of crate `rules` the runs of Run.antt and Silent.antt, `Resumes` and `firstFound` of Laws/Found.antt. They are proved in Theorem.antt, one
 -- each in Found.antt and Tapes.antt, the last in Words.antt.
 use mathlib.Core.Path.{_≡_}
 use mathlib.Core.Logic.{_⊎_}
 use mathlib.Core.Bool.{false, _&&_}
 use mathlib.Core.List.{List, [], _∷_, _++_, map}
 use Prim.Native.Nat.{ℕ, suc, _≤_, _<_}
-use lib.ListN.{length}
+use lib.ListN.{length, take}
 use lib.Dec.{eqb}
 use Rattle.lists.specs.All.{All}
 use Rattle.lists.specs.Tests.{if_then_else_}
 use Rattle.rules.specs.Silent.{untold, runUnseen}
 use Rattle.rules.specs.Shape.{Shape}
 use Rattle.rules.specs.State.{closed, write}
-use Rattle.rules.specs.Questions.{Ask, opening, request, turn, completion, collect, Call}
+use Rattle.rules.specs.Questions.{Ask, opening, request, turn, completion, collect, save, load, Call}
 use Rattle.rules.specs.Laws.Answers.{opens}
 use Rattle.rules.specs.Laws.Found.{firstFound}
+use Rattle.rules.specs.Resumes.{Resumes}
 use Rattle.rules.specs.Run.{Outcome, run, after}
 use Rattle.memory.specs.Fits.{shapeOf}
 use Rattle.client.specs.View.{foundAs}
 use Rattle.tape.specs.Tape.{wordsOf}
 use Rattle.contract.specs.Meets.{callOf, commandOf}
 use Rattle.codec.specs.Codec.{answerOf, stateLength}
-use Rattle.exports.specs.Exported.{clientIn, mostWords, lookedAt, Exported, Opened}
+use Rattle.exports.specs.Exported.{clientIn, mostWords, lookedAt, Exported, Opened, Loaded}
 use Rattle.array.specs.Claim.{Slots, Host, Expected, Honest, Plain}
 use Rattle.array.specs.Served.{served}
 use Rattle.hiding.specs.Chosen.{Told, Choice, opened, Chosen, Uses}
-use Rattle.hiding.specs.Claim.{outline, Lent, first, WellFormed, Same, Compared, Lends, tapeOf, Tape, serve, most, Matching, told, NoOpen, openOver, Twins, AgreeUntil8}
+use Rattle.hiding.specs.Claim.{outline, Lent, first, WellFormed, Same, Compared, Lends, tapeOf, Tape, serve, most, Matching, told, loading, NoOpens, openOver, Twins, withoutForms, AgreeUntil8}
 
 -- ---- A run of exported calls
 
@@ -51,6 +52,8 @@ Contract (request k b bs) x = Exported (request k b bs) (x .state) (x .memory) (
 Contract turn x = Exported turn (x .state) (x .memory) (x .tape) (x .buffer) (x .answer) (x .state′) (x .memory′) (x .buffer′)
 Contract (completion c bs) x = Exported (completion c bs) (x .state) (x .memory) (x .tape) (x .buffer) (x .answer) (x .state′) (x .memory′) (x .buffer′)
 Contract collect x = Exported collect (x .state) (x .memory) (x .tape) (x .buffer) (x .answer) (x .state′) (x .memory′) (x .buffer′)
+Contract save x = Exported save (x .state) (x .memory) (x .tape) (x .buffer) (x .answer) (x .state′) (x .memory′) (x .buffer′)
+Contract (load form) x = Loaded form (x .state) (x .memory) (x .answer) (x .state′) (x .memory′)
 
 -- What an exported function ensures: its contract, and that the memory it is lent has the same length after it. Each function of crate
 -- `callers` calls one of the five and ensures this of it: were the exported one's contract weaker, it would not be proved
@@ -92,20 +95,36 @@ pub record FromOpen (xs : List Made) : Type 0 where
 abbrev pub callMade : Made → Call
 callMade x = callOf (x .ask) (x .memory) (lookedAt (x .tape)) (x .buffer)
 
--- the bytes handed out are in the buffer after an accepted collect, and after an accepted turn that sends a write; n is the number, k the
--- command's kind
-unfoldable pub handsOut : Ask → ℕ → ℕ → List ℕ → List ℕ
-handsOut (opening h) n k buffer = []
-handsOut (request j b bs) n k buffer = []
-handsOut turn n k buffer = if eqb n 0 && eqb k write then buffer else []
-handsOut (completion c bs) n k buffer = []
-handsOut collect n k buffer = if eqb n 0 then buffer else []
+-- the bytes handed out are in the buffer after an accepted collect, and after an accepted turn that sends a write; after a save they are as many
+-- as it reports, from its start on. n is the number, k the command's kind, and t what is reported
+unfoldable pub handsOut : Ask → ℕ → ℕ → ℕ → List ℕ → List ℕ
+handsOut (opening h) n t k buffer = []
+handsOut (request j b bs) n t k buffer = []
+handsOut turn n t k buffer = if eqb n 0 && eqb k write then buffer else []
+handsOut (completion c bs) n t k buffer = []
+handsOut collect n t k buffer = if eqb n 0 then buffer else []
+handsOut save n t k buffer = take t buffer
+handsOut (load form) n t k buffer = []
+
+-- the words taken are what is reported; a save takes none
+abbrev pub takes : Ask → ℕ → ℕ
+takes (opening h) t = t
+takes (request j b bs) t = t
+takes turn t = t
+takes (completion c bs) t = t
+takes collect t = t
+takes save t = 0
+takes (load form) t = t
 
 -- number, count of words, command, and where a block was found (`foundAs` of crate `client`) are read off the number answered
 abbrev pub outcomeOf : Made → Outcome
 outcomeOf x =
     let r = answerOf (x .answer) (clientIn (x .state′)) in
-    record { number = r .number; taken = r .taken; command = commandOf r; bytes = handsOut (x .ask) (r .number) (r .kind) (x .buffer′); found = foundAs (r .found) }
+    record { number = r .number; taken = takes (x .ask) (r .taken); command = commandOf r; bytes = handsOut (x .ask) (r .number) (r .taken) (r .kind) (x .buffer′); found = foundAs (r .found) }
+
+-- Document 02, P5: "if no call came between it and the save of its form": each load of the run is of what the call just before it has saved
+abbrev pub OwnForms : List Made → Type 0
+OwnForms xs = Resumes [] (map callMade xs) (map outcomeOf xs)
 
 -- ---- The claims
 
@@ -128,55 +147,57 @@ FoundClaim = (xs ys : List Made) (x y : Made) (k b : ℕ) (bs : List ℕ) → Fr
     → y .ask ≡ collect → outcomeOf y .number ≡ 0
     → outcomeOf y .found ≡ firstFound (after closed (map callMade (xs ++ (x ∷ [])))) b (map callMade ys)
 
--- Demand 2: with an honest host, what is collected is a plain array's
+-- Demand 2: with an honest host, what is collected is a plain array's, also through loads of what was just saved
 abbrev pub ArrayClaim : Type 0
-ArrayClaim = (xs : List Made) → FromOpen xs → (host : Host) (m : Expected)
+ArrayClaim = (xs : List Made) → FromOpen xs → OwnForms xs → (host : Host) (m : Expected)
     → Honest host (map callMade xs) (map outcomeOf xs) → Plain m (map callMade xs) (map outcomeOf xs)
 
 -- Document 02, P3: "A tape then has the words taken and all words lent to a turn answered 3, and no more": the tape of a run, by its own outcomes
 abbrev pub usedUp : List Made → List ℕ
 usedUp xs = tapeOf (map callMade xs) (map outcomeOf xs)
 
--- a run of an open and k calls more, each chosen by what was told before it, as by a host that completes the commands it was sent
+-- a run of an open and k calls more, each chosen by what was told before it, as by a host that completes the commands it was sent; a load is of what was
+-- just saved
 abbrev pub Chooses : Shape → ℕ → ℕ → ℕ → Choice → ℕ → List Made → Type 0
-Chooses h m w n σ k xs = (length xs ≡ suc k) × Chosen (opened (first h m w n) σ) [] (map callMade xs) (map outcomeOf xs)
+Chooses h m w n σ k xs = (length xs ≡ suc k) × Chosen (opened (first h m w n) σ) [] (map callMade xs) (map outcomeOf xs) × OwnForms xs
 
 -- Demand 3: the tapes of words of two compared lists are matched, partners are of one length, and two runs that used up partners are told the same at
--- each place, number, count of words and command, whatever bytes completions bring and requests have for contents (a list has but their lengths)
+-- each place, number, count of words and command, whatever bytes completions bring and requests have for contents (a list has but their lengths), each run loading the
+-- forms that it saved itself
 abbrev pub HidingClaim : Type 0
 HidingClaim = (h : Shape) → h .E ≡ h .N → (m w n : ℕ) (as′ bs′ : List Lent) → Compared h as′ bs′ →
     (p : Matching (Tape closed (first h m w n ∷ as′)) (Tape closed (first h m w n ∷ bs′)))
     × ((t : List ℕ) → Tape closed (first h m w n ∷ as′) t → length (p .f t) ≡ length t)
-    × ((xs ys : List Made) → FromOpen xs → FromOpen ys → Lends (first h m w n ∷ as′) (map callMade xs) → Lends (first h m w n ∷ bs′) (map callMade ys) →
+    × ((xs ys : List Made) → FromOpen xs → FromOpen ys → OwnForms xs → OwnForms ys → Lends (first h m w n ∷ as′) (map callMade xs) → Lends (first h m w n ∷ bs′) (map callMade ys) →
     p .f (usedUp xs) ≡ usedUp ys → map told (map outcomeOf xs) ≡ map told (map outcomeOf ys))
 
 -- What those tapes are to exported calls
 pub record TapesClaim : Type 0 where
   -- every run's words are a tape of its list, or of the choice that it follows
-  pub ofRun : (as′ : List Lent) (xs : List Made) → FromOpen xs → Lends as′ (map callMade xs) → Tape closed as′ (usedUp xs)
+  pub ofRun : (as′ : List Lent) (xs : List Made) → FromOpen xs → OwnForms xs → Lends as′ (map callMade xs) → Tape closed as′ (usedUp xs)
   pub ofChoice : (h : Shape) (m w n : ℕ) (σ : Choice) (k : ℕ) (xs : List Made) → FromOpen xs → Chooses h m w n σ k xs → Uses h m w n σ k closed (usedUp xs)
   -- and every tape is some run's: there are bytes to lend at each place, as many words as the list says, and each run of the list that is lent them
   -- uses up this tape
-  pub given : (as′ : List Lent) (t : List ℕ) → Tape closed as′ t → All (λ (a : Lent). a .words ≤ mostWords) as′ →
+  pub given : (h : Shape) (m w n : ℕ) (bs′ : List Lent) (t : List ℕ) → let as′ = first h m w n ∷ bs′ in Tape closed as′ t → All (λ (a : Lent). a .words ≤ mostWords) as′ →
       (tapes : List (List ℕ)) × (All (λ tape. All (λ x. x < 256) tape) tapes
       × (map (λ tape. length (wordsOf (lookedAt tape))) tapes ≡ map (λ (a : Lent). a .words) as′)
-      × ((xs : List Made) → FromOpen xs → Lends as′ (map callMade xs) → map (λ (x : Made). x .tape) xs ≡ tapes → usedUp xs ≡ t))
+      × ((xs : List Made) → FromOpen xs → OwnForms xs → Lends as′ (map callMade xs) → map (λ (x : Made). x .tape) xs ≡ tapes → usedUp xs ≡ t))
   -- "callers who lend no word again that was taken or that was lent to a turn answered 3": one that lends each call what comes next of one flat
   -- tape of words uses up a beginning of it, and this is a tape of the list
   pub served : (as′ : List Lent) (ks : List Ask) (ws : List ℕ) (xs : List Made) → FromOpen xs → map outline ks ≡ map (λ (a : Lent). a .ask) as′ →
-      All (λ w. w < 65536) ws → most as′ ≤ length ws → map callMade xs ≡ serve closed as′ ks ws → Tape closed as′ (usedUp xs) × ((rest : List ℕ) × (ws ≡ usedUp xs ++ rest))
+      All (λ w. w < 65536) ws → most as′ ≤ length ws → map callMade xs ≡ serve closed [] as′ ks ws → Tape closed as′ (usedUp xs) × ((rest : List ℕ) × (ws ≡ usedUp xs ++ rest))
 
 -- Every run can be served: `served` puts into its completions of reads what the host has, which takes a write's bytes from the turn that sends it
--- (x has what it had in each slot before). Exported calls that are lent these bytes have an honest host
+-- (x has what it had in each slot before), and into its loads what was just saved. Exported calls that are lent these bytes have an honest host
 abbrev pub ServedClaim : Type 0
-ServedClaim = (x : Slots) (h : Shape) (c : Call) (cs : List Call) → c .ask ≡ opening h → (xs : List Made) → FromOpen xs → map callMade xs ≡ served x closed (c ∷ cs)
-    → Honest (record { last = x; has = x }) (map callMade xs) (map outcomeOf xs)
+ServedClaim = (x : Slots) (h : Shape) (c : Call) (cs : List Call) → c .ask ≡ opening h → (xs : List Made) → FromOpen xs → map callMade xs ≡ served x [] closed (c ∷ cs)
+    → OwnForms xs × Honest (record { last = x; has = x }) (map callMade xs) (map outcomeOf xs)
 
 -- Both at once, with an honest host in either run: the host is told the same at each place, and each collect hands out a plain array's contents
 abbrev pub HonestClaim : Type 0
 HonestClaim = (h : Shape) → h .E ≡ h .N → (m w n : ℕ) (as′ bs′ : List Lent) → Compared h as′ bs′ →
     (p : Matching (Tape closed (first h m w n ∷ as′)) (Tape closed (first h m w n ∷ bs′)))
-    × ((xs ys : List Made) → FromOpen xs → FromOpen ys → Lends (first h m w n ∷ as′) (map callMade xs) → Lends (first h m w n ∷ bs′) (map callMade ys) →
+    × ((xs ys : List Made) → FromOpen xs → FromOpen ys → OwnForms xs → OwnForms ys → Lends (first h m w n ∷ as′) (map callMade xs) → Lends (first h m w n ∷ bs′) (map callMade ys) →
     p .f (usedUp xs) ≡ usedUp ys →
     (host host′ : Host) → Honest host (map callMade xs) (map outcomeOf xs) → Honest host′ (map callMade ys) (map outcomeOf ys) → (e e′ : Expected) →
     (map told (map outcomeOf xs) ≡ map told (map outcomeOf ys))
@@ -194,15 +215,15 @@ ChosenExported = (h : Shape) → h .E ≡ h .N → (m w n : ℕ) (σ τ : Choice
 -- The smaller cache: the same calls with the same words, with E equal to N and with a smaller E. Whatever bytes are brought in either run,
 -- what is told is equal before the first 8
 abbrev pub CacheClaim : Type 0
-CacheClaim = (h : Shape) (e : ℕ) → 1 ≤ e → e < h .N → (m n : ℕ) (ws : List ℕ) (cs ds : List Call) → NoOpen cs → Twins cs ds → (xs ys : List Made) → FromOpen xs → FromOpen ys
-    → map callMade xs ≡ openOver (h .N) h m ws n ∷ cs → map callMade ys ≡ openOver e h m ws n ∷ ds
+CacheClaim = (h : Shape) (e : ℕ) → 1 ≤ e → e < h .N → (m n : ℕ) (ws : List ℕ) (cs ds : List Call) → NoOpens cs → Twins outline cs ds → (xs ys : List Made) → FromOpen xs → FromOpen ys
+    → OwnForms xs → OwnForms ys → map callMade xs ≡ openOver (h .N) h m ws n ∷ cs → map callMade ys ≡ openOver e h m ws n ∷ ds
     → AgreeUntil8 told (map outcomeOf xs) (map outcomeOf ys)
 
--- .. and with the same bytes brought in both, the bytes handed out too, and where each block was found
+-- .. and with the same bytes brought in both, the bytes handed out too, and where each block was found; but for a form, which has E in it
 abbrev pub CacheBytesClaim : Type 0
-CacheBytesClaim = (h : Shape) (e : ℕ) → 1 ≤ e → e < h .N → (m n : ℕ) (ws : List ℕ) (cs : List Call) → NoOpen cs → (xs ys : List Made) → FromOpen xs → FromOpen ys
-    → map callMade xs ≡ openOver (h .N) h m ws n ∷ cs → map callMade ys ≡ openOver e h m ws n ∷ cs
-    → AgreeUntil8 (λ o. o) (map outcomeOf xs) (map outcomeOf ys)
+CacheBytesClaim = (h : Shape) (e : ℕ) → 1 ≤ e → e < h .N → (m n : ℕ) (ws : List ℕ) (cs ds : List Call) → NoOpens cs → Twins (loading []) cs ds → (xs ys : List Made) → FromOpen xs → FromOpen ys
+    → OwnForms xs → OwnForms ys → map callMade xs ≡ openOver (h .N) h m ws n ∷ cs → map callMade ys ≡ openOver e h m ws n ∷ ds
+    → AgreeUntil8 (λ o. o) (withoutForms (map callMade xs) (map outcomeOf xs)) (withoutForms (map callMade ys) (map outcomeOf ys))
 
 -- "Among such requests only 8 may depend on names": two well-formed requests that are handed the same state and memory, and as many words
 abbrev pub NamesClaim : Type 0

@@ -1,32 +1,32 @@
 -- One exported call is the rules' step, from the state that the whole memory stands for to the one that it stands for after the call.
 use mathlib.Core.Path.{_≡_, refl, ap, sym, _∙_}
-use mathlib.Core.Bool.{false, true≢false}
+use mathlib.Core.Bool.{true, false, true≢false}
 use mathlib.Core.List.{List, [], _++_}
-use Prim.Native.Nat.{ℕ, _+_, _%_, _≤_, _<_}
+use Prim.Native.Nat.{ℕ, _%_, _≤_, _<_}
 use native.Mathlib.Omega.{arith}
 use native.Mathlib.Decide.{ℕ-discrete, decLt}
-use lib.ListN.{length}
+use lib.ListN.{length, replicate}
 use borrow.Author.Tests.{lt-leb, leb-true}
 use Rattle.rules.specs.Draws.{draws}
-use Rattle.rules.specs.Laws.Answers.{accepted-passed, step-accepted, step-number, opens, refused-keeps, refused-outcome, refused-open}
+use Rattle.rules.specs.Form.Loading.{loadedForm}
+use Rattle.rules.specs.Laws.Answers.{accepted-passed, step-accepted, step-number, step-refused, opens, refused-keeps, refused-outcome}
 use Rattle.rules.specs.Laws.Shapes.{act-shape}
 use Rattle.rules.specs.Memory.{needed}
 use Rattle.rules.specs.Open.{fresh}
-use Rattle.rules.specs.Questions.{Ask, opening, request, turn, completion, collect, Call, ready, questions, firstNo, bounds, number}
-use Rattle.rules.specs.Run.{Outcome, perform, act, step, accepted, refused, refuse, numbersOf, sentCommand, handed, handedFound}
-use Rattle.rules.specs.Shape.{Shape}
+use Rattle.rules.specs.Questions.{Ask, opening, request, turn, completion, collect, save, load, Call, ready, questions, firstNo, bounds, number}
+use Rattle.rules.specs.Run.{Outcome, perform, act, step, accepted, refused, refuse, takenOf, numbersOf, sentCommand, handed, handedFound}
 use Rattle.rules.specs.State.{State, closed}
 use Rattle.client.specs.declared.Client.{Client}
 use Rattle.client.specs.View.{stateOf, view, foundAs}
 use Rattle.client.specs.Readings.{as-number}
 use Rattle.contract.specs.declared.Answer.{Answer}
 use Rattle.contract.specs.Answers.{clearedClient}
-use Rattle.contract.specs.Meets.{Meets, callOf, commandOf, closed-is}
+use Rattle.contract.specs.Meets.{Meets, callOf, commandOf, reported, closed-is}
 use Rattle.rules.specs.Laws.Lengths.{Whole}
 use Rattle.contract.specs.Buffers.{state-whole, ready-of, ready-long}
 use Rattle.codec.specs.Codec.{answerOf, stateLength}
-use Rattle.exports.specs.Exported.{lookedAt, clientIn, Exported, Opened, zeros-say}
-use Rattle.claims.specs.Claim.{Made, Contract, Handed, callMade, handsOut, outcomeOf}
+use Rattle.exports.specs.Exported.{lookedAt, clientIn, Exported, zeros-say}
+use Rattle.claims.specs.Claim.{Made, Contract, Handed, callMade, handsOut, takes, outcomeOf}
 use Rattle.claims.specs.Memory.{state-lent}
 use Rattle.claims.specs.Buffers.{hands-out}
 
@@ -42,6 +42,8 @@ unready-two s c o e = go (c .ask) o
     go turn o = unfold questions firstNo in (rw e)
     go (completion d bs) o = unfold questions firstNo in (rw e)
     go collect o = unfold questions firstNo in (rw e)
+    go save o = unfold questions firstNo in (rw e)
+    go (load form) o = absurd (true≢false (unfold opens in o))
 
 short-unready : (s : State) (m : ℕ) → m < needed (s .shape) → ready s m ≡ false
 unfolding ready
@@ -50,11 +52,28 @@ short-unready s m l = rw (lt-leb (needed (s .shape)) m l)
 -- ---- What is read off an answer
 
 abbrev readOff : Ask → Answer → List ℕ → Outcome
-readOff a r b′ = record { number = r .number; taken = r .taken; command = commandOf r; bytes = handsOut a (r .number) (r .kind) b′; found = foundAs (r .found) }
+readOff a r b′ = record { number = r .number; taken = takes a (r .taken); command = commandOf r; bytes = handsOut a (r .number) (r .taken) (r .kind) b′; found = foundAs (r .found) }
+
+-- a save takes no word
+takes-reported : (s : State) (c : Call) → takes (c .ask) (reported (c .ask) (step s c .1 .taken) (step s c .1 .bytes)) ≡ step s c .1 .taken
+takes-reported s c = go (c .ask) refl
+  where
+    none : Dec (number s c ≡ 0) → c .ask ≡ save → step s c .1 .taken ≡ 0
+    none (yes z) e = ap (λ (x : State × Outcome). x .1 .taken) (step-accepted s c z) ∙ (unfold accepted in (ap (λ a. takenOf (draws (bounds s a) (c .words))) e ∙ unfold bounds draws takenOf in refl))
+    none (no n) e = ap (λ (x : Outcome). x .taken) (refused-outcome s c n) ∙ unfold refused in refl
+
+    go : (a : Ask) → c .ask ≡ a → takes a (reported a (step s c .1 .taken) (step s c .1 .bytes)) ≡ step s c .1 .taken
+    go (opening h) e = refl
+    go (request k b bs) e = refl
+    go turn e = refl
+    go (completion d bs) e = refl
+    go collect e = refl
+    go save e = sym (none (ℕ-discrete (number s c) 0) e)
+    go (load form) e = refl
 
 meets-outcome : (c : Client) (s : State) (a : Ask) (m tape b : List ℕ) (r : Answer) (m′ b′ : List ℕ) → (number s (callOf a m tape b) ≡ 0 → Whole s) → Meets c s a m tape b r m′ b′
     → readOff a r b′ ≡ step s (callOf a m tape b) .1
-meets-outcome c s a m tape b r m′ b′ w k = λ i. record { number = k .number i; taken = k .taken i; command = k .command i; bytes = bytes i; found = found i }
+meets-outcome c s a m tape b r m′ b′ w k = λ i. record { number = k .number i; taken = taken i; command = k .command i; bytes = bytes i; found = found i }
   where
     o : Outcome
     o = step s (callOf a m tape b) .1
@@ -62,10 +81,13 @@ meets-outcome c s a m tape b r m′ b′ w k = λ i. record { number = k .number
     found : foundAs (r .found) ≡ o .found
     found = ap foundAs (k .found) ∙ as-number (o .found)
 
-    bytes : handsOut a (r .number) (r .kind) b′ ≡ o .bytes
-    bytes = (λ i. handsOut a (k .number i) (k .command i .kind) (k .buffer i)) ∙ hands-out s (callOf a m tape b) w b
+    taken : takes a (r .taken) ≡ o .taken
+    taken = ap (takes a) (k .taken) ∙ takes-reported s (callOf a m tape b)
 
--- ---- A request, turn, completion or collect
+    bytes : handsOut a (r .number) (r .taken) (r .kind) b′ ≡ o .bytes
+    bytes = (λ i. handsOut a (k .number i) (k .taken i) (k .command i .kind) (k .buffer i)) ∙ hands-out s (callOf a m tape b) w b refl
+
+-- ---- A request, turn, completion, collect or save
 
 module _ (a : Ask) (four : opens a ≡ false) (st m tape b : List ℕ) (u : ℕ) (st′ m′ b′ rest : List ℕ) (l : length st ≡ stateLength) (same : length m′ ≡ length m) (k : Exported a st m tape b u st′ m′ b′) where
   abbrev asked : Call
@@ -139,37 +161,57 @@ module _ (a : Ask) (four : opens a ≡ false) (st m tape b : List ℕ) (u : ℕ)
       go (yes n) = short-step n
       go (no n) = long-step (omega arith)
 
--- ---- An open
+-- ---- An open, or a load
 
 -- it looks neither at the state nor at a buffer
-open-alone : (s : State) (h : Shape) (m tape b : List ℕ) → step s (callOf (opening h) m tape b) ≡ step closed (callOf (opening h) m tape [])
-unfolding step number questions bounds accepted perform act refuse sentCommand handed handedFound
-open-alone s h m tape b = refl
+first-alone : (s : State) (a : Ask) → opens a ≡ true → (m tape b : List ℕ) → step s (callOf a m tape b) ≡ step closed (callOf a m tape [])
+unfolding step number questions bounds accepted perform act refuse sentCommand handed handedFound opens
+first-alone s (opening h) o m tape b = refl
+first-alone s (request k c bs) o m tape b = absurd (true≢false (sym o))
+first-alone s turn o m tape b = absurd (true≢false (sym o))
+first-alone s (completion d bs) o m tape b = absurd (true≢false (sym o))
+first-alone s collect o m tape b = absurd (true≢false (sym o))
+first-alone s save o m tape b = absurd (true≢false (sym o))
+first-alone s (load form) o m tape b = refl
 
-module _ (h : Shape) (st m tape : List ℕ) (u : ℕ) (st′ m′ rest : List ℕ) (l : length st ≡ stateLength) (same : length m′ ≡ length m) (k : Opened h st m tape u st′ m′) where
-  abbrev opened : Call
-  opened = callOf (opening h) m (lookedAt tape) []
+-- accepted, it was lent what the shape that it leaves needs
+first-long : (a : Ask) → opens a ≡ true → (m tape : List ℕ) → number closed (callOf a m tape []) ≡ 0 → needed (step closed (callOf a m tape []) .0 .shape) ≤ length m
+unfolding opens questions
+first-long (opening h) o m tape z = rw (step-accepted closed (callOf (opening h) m tape []) z) (unfold accepted act perform fresh in (leb-true (needed h) (length m) (accepted-passed closed (callOf (opening h) m tape []) z .1 .0)))
+first-long (request k c bs) o m tape z = absurd (true≢false (sym o))
+first-long turn o m tape z = absurd (true≢false (sym o))
+first-long (completion d bs) o m tape z = absurd (true≢false (sym o))
+first-long collect o m tape z = absurd (true≢false (sym o))
+first-long save o m tape z = absurd (true≢false (sym o))
+first-long (load form) o m tape z = rw (step-accepted closed (callOf (load form) m tape []) z)
+    (unfold accepted act perform in (leb-true (needed (loadedForm form .shape)) (length m) (accepted-passed closed (callOf (load form) m tape []) z .1 .1 .0)))
 
-  says : u % 32 ≡ number closed opened
-  says = k .meets l .number ∙ step-number closed opened
+first-refused : (a : Ask) → opens a ≡ true → refuse closed a ≡ closed
+unfolding opens refuse
+first-refused (opening h) o = refl
+first-refused (request k c bs) o = absurd (true≢false (sym o))
+first-refused turn o = absurd (true≢false (sym o))
+first-refused (completion d bs) o = absurd (true≢false (sym o))
+first-refused collect o = absurd (true≢false (sym o))
+first-refused save o = absurd (true≢false (sym o))
+first-refused (load form) o = refl
 
-  open-outcome : (b′ : List ℕ) → readOff (opening h) (answerOf u (clientIn st′)) b′ ≡ step closed opened .1
-  unfolding handsOut
-  open-outcome b′ = meets-outcome clearedClient closed (opening h) m (lookedAt tape) [] (answerOf u (clientIn st′)) m′ [] (λ z b. unfold closed in refl) (k .meets l)
+module _ (a : Ask) (o : opens a ≡ true) (st m tape : List ℕ) (u : ℕ) (st′ m′ rest : List ℕ) (l : length st ≡ stateLength) (same : length m′ ≡ length m)
+    (k : Meets clearedClient closed a m tape [] (answerOf u (clientIn st′)) m′ []) (zeros : (u % 32 ≡ 0 → ⊥) → st′ ≡ replicate (length st) 0) where
+  abbrev firstly : Call
+  firstly = callOf a m tape []
 
-  open-long : u % 32 ≡ 0 → needed h ≤ length m
-  unfolding questions
-  open-long z = leb-true (needed h) (length m) (accepted-passed closed opened (sym says ∙ z) .1 .0)
+  says : u % 32 ≡ number closed firstly
+  says = k .number ∙ step-number closed firstly
 
-  open-shape : u % 32 ≡ 0 → stateOf (clientIn st′) m′ .shape ≡ h
-  unfolding accepted perform act fresh
-  open-shape z = ap (λ (s : State). s .shape) (k .meets l .state) ∙ ap (λ (x : State × Outcome). x .0 .shape) (step-accepted closed opened (sym says ∙ z))
+  first-outcome : readOff a (answerOf u (clientIn st′)) [] ≡ step closed firstly .1
+  first-outcome = meets-outcome clearedClient closed a m tape [] (answerOf u (clientIn st′)) m′ [] (λ z b. unfold closed in refl) k
 
-  open-state : Dec (u % 32 ≡ 0) → stateOf (clientIn st′) (m′ ++ rest) ≡ step closed opened .0
-  open-state (yes z) =
-      let e : needed (stateOf (clientIn st′) m′ .shape) ≤ length m′ = omega (arith, ap needed (open-shape z), open-long z) in
-      state-lent (clientIn st′) m′ rest e ∙ k .meets l .state
-  open-state (no z) = rw (k .refused z, l, zeros-say) (closed-is (m′ ++ rest) ∙ sym (refused-open closed opened h refl (λ n. z (says ∙ n))))
+  first-state : Dec (u % 32 ≡ 0) → stateOf (clientIn st′) (m′ ++ rest) ≡ step closed firstly .0
+  first-state (yes z) =
+      let e : needed (stateOf (clientIn st′) m′ .shape) ≤ length m′ = omega (arith, ap (λ (s : State). needed (s .shape)) (k .state), first-long a o m tape (sym says ∙ z)) in
+      state-lent (clientIn st′) m′ rest e ∙ k .state
+  first-state (no z) = rw (zeros z, l, zeros-say) (closed-is (m′ ++ rest) ∙ sym (ap (λ (x : State × Outcome). x .0) (step-refused closed firstly (λ n. z (says ∙ n))) ∙ first-refused a o))
 
 -- ---- Every call
 
@@ -182,19 +224,29 @@ module _ (x : Made) (rest : List ℕ) (l : length (x .state) ≡ stateLength) (s
   abbrev before : State
   before = stateOf (clientIn (x .state)) (x .memory ++ rest)
 
-  open-steps : (h : Shape) → Opened h (x .state) (x .memory) (x .tape) (x .answer) (x .state′) (x .memory′) → Steps before rest (opening h) x
-  open-steps h c =
-      let e = open-alone before h (x .memory) (lookedAt (x .tape)) (x .buffer) in (
-        open-outcome h (x .state) (x .memory) (x .tape) (x .answer) (x .state′) (x .memory′) rest l same c (x .buffer′) ∙ sym (ap (λ (y : State × Outcome). y .1) e),
-        open-state h (x .state) (x .memory) (x .tape) (x .answer) (x .state′) (x .memory′) rest l same c (ℕ-discrete (x .answer % 32) 0) ∙ sym (ap (λ (y : State × Outcome). y .0) e),
+  first-steps : (a : Ask) → opens a ≡ true → (tape : List ℕ) → step closed (callOf a (x .memory) (lookedAt (x .tape)) []) ≡ step closed (callOf a (x .memory) tape [])
+      → ((b : List ℕ) → readOff a (answerOf (x .answer) (clientIn (x .state′))) b ≡ readOff a (answerOf (x .answer) (clientIn (x .state′))) [])
+      → Meets clearedClient closed a (x .memory) tape [] (answerOf (x .answer) (clientIn (x .state′))) (x .memory′) [] → ((x .answer % 32 ≡ 0 → ⊥) → x .state′ ≡ replicate (length (x .state)) 0)
+      → Steps before rest a x
+  first-steps a o tape d f k z =
+      let e = first-alone before a o (x .memory) (lookedAt (x .tape)) (x .buffer) ∙ d in (
+        f (x .buffer′) ∙ first-outcome a o (x .state) (x .memory) tape (x .answer) (x .state′) (x .memory′) rest l same k z ∙ sym (ap (λ (y : State × Outcome). y .1) e),
+        first-state a o (x .state) (x .memory) tape (x .answer) (x .state′) (x .memory′) rest l same k z (ℕ-discrete (x .answer % 32) 0) ∙ sym (ap (λ (y : State × Outcome). y .0) e),
       )
 
   four-steps : (a : Ask) → opens a ≡ false → Exported a (x .state) (x .memory) (x .tape) (x .buffer) (x .answer) (x .state′) (x .memory′) (x .buffer′) → Steps before rest a x
   four-steps a o c = exported-step a o (x .state) (x .memory) (x .tape) (x .buffer) (x .answer) (x .state′) (x .memory′) (x .buffer′) rest l same c
 
+  -- a load takes no word
+  load-wordless : (form tape : List ℕ) → step closed (callOf (load form) (x .memory) tape []) ≡ step closed (callOf (load form) (x .memory) [] [])
+  unfolding step number questions bounds draws accepted refuse handed sentCommand handedFound
+  load-wordless form tape = refl
+
   every-steps : (a : Ask) → Contract a x → Steps before rest a x
-  unfolding opens
-  every-steps (opening h) c = open-steps h c
+  unfolding opens handsOut
+  every-steps (opening h) c = first-steps (opening h) refl (lookedAt (x .tape)) refl (λ b. refl) (c .meets l) (c .refused)
+  every-steps save c = four-steps save refl c
+  every-steps (load form) c = first-steps (load form) refl [] (load-wordless form (lookedAt (x .tape))) (λ b. refl) (c .meets l) (c .refused)
   every-steps (request j b bs) c = four-steps (request j b bs) refl c
   every-steps turn c = four-steps turn refl c
   every-steps (completion d bs) c = four-steps (completion d bs) refl c

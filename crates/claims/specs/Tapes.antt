@@ -7,13 +7,14 @@ use lib.ListN.{length}
 use Rattle.lists.specs.All.{All, nil, cons}
 use Rattle.rules.specs.Questions.{Ask, Call}
 use Rattle.rules.specs.Run.{run}
+use Rattle.rules.specs.Shape.{Shape}
 use Rattle.rules.specs.State.{closed}
 use Rattle.tape.specs.Tape.{wordsOf}
 use Rattle.exports.specs.Exported.{mostWords, lookedAt}
 use Rattle.hiding.specs.Claim
-use Rattle.hiding.specs.Claim.{Lent, outline, Lends, Short, tapeOf, Tape, wordsIn, serve, most}
+use Rattle.hiding.specs.Claim.{Lent, first, outline, Lends, Short, tapeOf, Tape, wordsIn, serve, most}
 use Rattle.hiding.specs.Theorem.{hidden}
-use Rattle.claims.specs.Claim.{Made, FromOpen, callMade, usedUp, TapesClaim}
+use Rattle.claims.specs.Claim.{Made, FromOpen, callMade, OwnForms, usedUp, TapesClaim}
 use Rattle.claims.specs.Theorem.{exported-run, gives-run, plays-run}
 use Rattle.claims.specs.Words.{any-words}
 
@@ -39,32 +40,34 @@ words-made (x ∷ xs) = ap (λ wss. wordsOf (lookedAt (x .tape)) ∷ wss) (words
 used-run : (xs : List Made) → FromOpen xs → usedUp xs ≡ tapeOf (map callMade xs) (run closed (map callMade xs))
 used-run xs r = ap (tapeOf (map callMade xs)) (exported-run xs r)
 
-tapes-given : (as′ : List Lent) (t : List ℕ) → Tape closed as′ t → All (λ (a : Lent). a .words ≤ mostWords) as′ →
+tapes-given : (h : Shape) (m w n : ℕ) (bs′ : List Lent) (t : List ℕ) → let as′ = first h m w n ∷ bs′ in Tape closed as′ t → All (λ (a : Lent). a .words ≤ mostWords) as′ →
     (tapes : List (List ℕ)) × (All (λ tape. All (λ x. x < 256) tape) tapes
     × (map (λ tape. length (wordsOf (lookedAt tape))) tapes ≡ map (λ (a : Lent). a .words) as′)
-    × ((xs : List Made) → FromOpen xs → Lends as′ (map callMade xs) → map (λ (x : Made). x .tape) xs ≡ tapes → usedUp xs ≡ t))
-tapes-given as′ t k l =
+    × ((xs : List Made) → FromOpen xs → OwnForms xs → Lends as′ (map callMade xs) → map (λ (x : Made). x .tape) xs ≡ tapes → usedUp xs ≡ t))
+tapes-given h m w n bs′ t k l =
+    let as′ = first h m w n ∷ bs′ in
     let b = bytes-for as′ (k .0) (k .1 .calls) (k .1 .short) l in (
       b .0,
       (
         b .1 .bytes,
         b .1 .counts,
-        (λ xs r c e.
-            used-run xs r ∙ hidden .tapes .given closed as′ t (k .0) (k .1) (map callMade xs) c (words-made xs ∙ ap (map (λ tape. wordsOf (lookedAt tape))) e ∙ b .1 .words) .tape),
+        (λ xs r v c e.
+            used-run xs r
+            ∙ hidden .tapes .given h m w n bs′ closed t (k .0) (k .1) (map callMade xs) c (words-made xs ∙ ap (map (λ tape. wordsOf (lookedAt tape))) e ∙ b .1 .words) (gives-run as′ xs r v c .loads) .tape),
       ),
     )
 
 tapes-served : (as′ : List Lent) (ks : List Ask) (ws : List ℕ) (xs : List Made) → FromOpen xs → map outline ks ≡ map (λ (a : Lent). a .ask) as′ →
-    All (λ w. w < 65536) ws → most as′ ≤ length ws → map callMade xs ≡ serve closed as′ ks ws → Tape closed as′ (usedUp xs) × ((rest : List ℕ) × (ws ≡ usedUp xs ++ rest))
+    All (λ w. w < 65536) ws → most as′ ≤ length ws → map callMade xs ≡ serve closed [] as′ ks ws → Tape closed as′ (usedUp xs) × ((rest : List ℕ) × (ws ≡ usedUp xs ++ rest))
 tapes-served as′ ks ws xs r o h n e =
     let s = hidden .tapes .served closed as′ ks ws o h n in
     let g = s .1 .1 .1 in
     let u : usedUp xs ≡ s .0 = used-run xs r ∙ ap (λ cs. tapeOf cs (run closed cs)) e ∙ g .tape in
-    rw u ((serve closed as′ ks ws, g), (s .1 .0, s .1 .1 .0))
+    rw u ((serve closed [] as′ ks ws, g), (s .1 .0, s .1 .1 .0))
 
 pub exported-tapes : TapesClaim
 exported-tapes = record {
-  ofRun = λ as′ xs r l. (map callMade xs, gives-run as′ xs r l);
+  ofRun = λ as′ xs r v l. (map callMade xs, gives-run as′ xs r v l);
   ofChoice = λ h m w n σ k xs r c. (map callMade xs, (plays-run h m w n σ k xs r c, sym (used-run xs r)));
   given = tapes-given;
   served = tapes-served;

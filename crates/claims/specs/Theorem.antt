@@ -6,7 +6,8 @@ use lib.ListN.{length, length-map}
 use Rattle.lists.specs.All.{nil, cons}
 use Rattle.rules.specs.Silent.{untold}
 use Rattle.rules.specs.Laws.Silent.{opened-unseen}
-use Rattle.rules.specs.Questions.{request, number}
+use Rattle.rules.specs.Questions.{request, Call, number}
+use Rattle.rules.specs.Resumes.{Resumes}
 use Rattle.rules.specs.Run.{Outcome, run}
 use Rattle.rules.specs.Shape.{Shape}
 use Rattle.rules.specs.State.{State, closed}
@@ -18,13 +19,13 @@ use Rattle.exports.specs.Exported.{clientIn, lookedAt}
 use Rattle.rules.specs.Laws.Answers.{open-first, step-number}
 use Rattle.array.specs.Claim.{Honest, Plain}
 use Rattle.array.specs.Hosts.{at-once}
-use Rattle.array.specs.Served.{served, served-at-once}
+use Rattle.array.specs.Served.{served, served-at-once, served-resumes}
 use Rattle.array.specs.Theorem.{plain-array}
 use Rattle.hiding.specs.Claim.{Lent, first, Lends, Short, tapeOf, Gives, told}
 use Rattle.hiding.specs.Chosen.{Choice, opened, Chosen, Plays, chosen-hidden}
 use Rattle.hiding.specs.Names.{only-eight}
 use Rattle.hiding.specs.Theorem.{hidden}
-use Rattle.claims.specs.Claim.{Made, Contract, Called, Runs, Opens, FromOpen, callMade, outcomeOf, usedUp, Chooses, RulesClaim, UnseenClaim, ArrayClaim, ServedClaim, HidingClaim, HonestClaim, ChosenExported, CacheClaim, CacheBytesClaim, NamesClaim}
+use Rattle.claims.specs.Claim.{Made, Contract, Called, Runs, Opens, FromOpen, callMade, outcomeOf, OwnForms, usedUp, Chooses, RulesClaim, UnseenClaim, ArrayClaim, ServedClaim, HidingClaim, HonestClaim, ChosenExported, CacheClaim, CacheBytesClaim, NamesClaim}
 use Rattle.claims.specs.Steps.{made-step}
 
 -- from any bytes of state and memory: each call finds the state that the last one left
@@ -51,11 +52,11 @@ exported-unseen (x ∷ xs) r = ap (map untold) (exported-run (x ∷ xs) r) ∙ o
 
 -- Demand 2
 pub exported-array : ArrayClaim
-exported-array [] r host m w = absurd (r .opens)
-exported-array (x ∷ xs) r host m w =
+exported-array [] r v host m w = absurd (r .opens)
+exported-array (x ∷ xs) r v host m w =
     let cs = map callMade (x ∷ xs) in
     let e = exported-run (x ∷ xs) r in
-    subst (Plain m cs) (sym e) (plain-array closed host m (r .opens .0) (callMade x) (map callMade xs) (r .opens .1) (subst (Honest host cs) e w))
+    subst (Plain m cs) (sym e) (plain-array closed host m (r .opens .0) (callMade x) (map callMade xs) (r .opens .1) (subst (Resumes [] cs) e v) (subst (Honest host cs) e w))
 
 -- ---- Demand 3
 
@@ -65,8 +66,8 @@ short-made [] = nil
 short-made (x ∷ xs) = cons (words-short (lookedAt (x .tape))) (short-made xs)
 
 -- the run of the rules that an exported run is, with what it used up
-pub gives-run : (as′ : List Lent) (xs : List Made) → FromOpen xs → Lends as′ (map callMade xs) → Gives closed as′ (usedUp xs) (map callMade xs)
-gives-run as′ xs r l = record { calls = l; short = short-made xs; tape = ap (tapeOf (map callMade xs)) (sym (exported-run xs r)) }
+pub gives-run : (as′ : List Lent) (xs : List Made) → FromOpen xs → OwnForms xs → Lends as′ (map callMade xs) → Gives closed as′ (usedUp xs) (map callMade xs)
+gives-run as′ xs r v l = record { calls = l; short = short-made xs; loads = subst (Resumes [] (map callMade xs)) (exported-run xs r) v; tape = ap (tapeOf (map callMade xs)) (sym (exported-run xs r)) }
 
 pub exported-hiding : HidingClaim
 exported-hiding h e m w n as′ bs′ k =
@@ -75,24 +76,24 @@ exported-hiding h e m w n as′ bs′ k =
       (λ t a.
           let b = y .0 .f-ok t a in
           sym (hidden .tapes .long h m w n as′ bs′ k closed closed t (y .0 .f t) (a .0) (b .0) (a .1) (b .1) (y .1 t (a .0) (b .0) (a .1) (b .1)))),
-      (λ xs ys q r u v p.
+      (λ xs ys q r f g u v p.
           ap (map told) (exported-run xs q)
-          ∙ y .1 (usedUp xs) (map callMade xs) (map callMade ys) (gives-run _ xs q u) (rw p (gives-run _ ys r v))
+          ∙ y .1 (usedUp xs) (map callMade xs) (map callMade ys) (gives-run _ xs q f u) (rw p (gives-run _ ys r g v))
           ∙ sym (ap (map told) (exported-run ys r))),
     )
 
 -- Served by an honest host
 pub exported-served : ServedClaim
 exported-served x h c cs k xs q e =
-    let ds = served x closed (c ∷ cs) in
-    rw (exported-run xs q, e) (at-once ds (run closed ds) x x (served-at-once closed x h c cs k))
+    let ds = served x [] closed (c ∷ cs) in
+    rw (exported-run xs q, e) (served-resumes (c ∷ cs) closed x [], at-once ds (run closed ds) x x (served-at-once closed x [] h c cs k))
 
 -- Both, with an honest host
 pub exported-honest : HonestClaim
 exported-honest h e m w n as′ bs′ k =
     let y = exported-hiding h e m w n as′ bs′ k in (
       y .0,
-      (λ xs ys q r u v p host host′ c d x x′. (y .2 xs ys q r u v p, exported-array xs q host x c, exported-array ys r host′ x′ d)),
+      (λ xs ys q r f g u v p host host′ c d x x′. (y .2 xs ys q r f g u v p, exported-array xs q f host x c, exported-array ys r g host′ x′ d)),
     )
 
 -- Calls that are chosen by what was told
@@ -100,6 +101,7 @@ pub plays-run : (h : Shape) (m w n : ℕ) (σ : Choice) (k : ℕ) (xs : List Mad
 plays-run h m w n σ k xs r c = record {
   calls = length-map xs callMade ∙ c .0;
   short = short-made xs;
+  loads = subst (Resumes [] (map callMade xs)) (exported-run xs r) (c .2);
   chosen = subst (Chosen (opened (first h m w n) σ) [] (map callMade xs)) (exported-run xs r) (c .1);
 }
 
@@ -110,18 +112,21 @@ exported-chosen h e m w n σ τ alike k =
       (λ xs ys q r a b u.
           let p = ap (λ os. y .0 .f (tapeOf (map callMade xs) os)) (sym (exported-run xs q)) ∙ u ∙ ap (tapeOf (map callMade ys)) (exported-run ys r) in (
             ap (map told) (exported-run xs q) ∙ y .1 (map callMade xs) (map callMade ys) (plays-run h m w n σ k xs q a) (plays-run h m w n τ k ys r b) p ∙ sym (ap (map told) (exported-run ys r)),
-            (λ host host′ c d x x′. (exported-array xs q host x c, exported-array ys r host′ x′ d)),
+            (λ host host′ c d x x′. (exported-array xs q (a .2) host x c, exported-array ys r (b .2) host′ x′ d)),
           )),
     )
 
 -- The smaller cache
+own : (xs : List Made) → FromOpen xs → (cs : List Call) → map callMade xs ≡ cs → OwnForms xs → Resumes [] cs (run closed cs)
+own xs r cs e f = subst (λ ds. Resumes [] ds (run closed ds)) e (subst (Resumes [] (map callMade xs)) (exported-run xs r) f)
+
 pub exported-cache : CacheClaim
-exported-cache h e lo hi m n ws cs ds k l xs ys q r u v =
-    rw (exported-run xs q ∙ ap (run closed) u, exported-run ys r ∙ ap (run closed) v) (hidden .cache .tells h e lo hi m n ws cs ds k l closed closed)
+exported-cache h e lo hi m n ws cs ds k l xs ys q r f g u v =
+    rw (exported-run xs q ∙ ap (run closed) u, exported-run ys r ∙ ap (run closed) v) (hidden .cache .tells h e lo hi m n ws cs ds k l closed closed (own xs q _ u f) (own ys r _ v g))
 
 pub exported-cache-bytes : CacheBytesClaim
-exported-cache-bytes h e lo hi m n ws cs k xs ys q r u v =
-    rw (exported-run xs q ∙ ap (run closed) u, exported-run ys r ∙ ap (run closed) v) (hidden .cache .whole h e lo hi m n ws cs k closed closed)
+exported-cache-bytes h e lo hi m n ws cs ds k l xs ys q r f g u v =
+    rw (exported-run xs q ∙ ap (run closed) u, exported-run ys r ∙ ap (run closed) v, u, v) (hidden .cache .whole h e lo hi m n ws cs ds k l closed closed (own xs q _ u f) (own ys r _ v g))
 
 -- Requests and names
 asked-number : (x : Made) (k b : ℕ) (bs : List ℕ) → x .ask ≡ request k b bs → Called x → length (x .state) ≡ stateLength

@@ -32,6 +32,7 @@ use Rattle.client.specs.Changes.{view-bytes, view-holds, view-place, view-parti
 use Rattle.client.specs.Ready.{Asked}
 use Rattle.client.specs.Moves.{noRequest, withRequest, withWaiting, withJobs, Room, Stands, stands, then as next}
 use Rattle.tape.specs.Tape.{wordsOf}
+use Rattle.contract.specs.Buffers.{filled}
 use Rattle.contract.specs.Meets.{handedTo}
 use Rattle.ready.specs.Usable.{Usable, usable}
 
@@ -52,11 +53,6 @@ pub record Hand (c : Client) (m : List ℕ) : Type 0 where
   pub out : c .out ≤ 32
   pub waiting : c .waiting ≤ c .shape .n
   pub fewer : length (others (stateOf c m .waiting) (c .request .block)) < c .shape .n
-
--- bytes that are handed out fill the buffer
-handed-all : (xs ys : List ℕ) → 1 ≤ length ys → ys ≡ handedTo xs ys
-handed-all xs [] l = absurd (omega arith)
-handed-all xs (y ∷ ys) l = refl
 
 few : (e : ℕ) (xs : List ℕ) (r : R.Request) (o : Option R.Request) → o ≡ some r → Waits e xs o → length (others xs (r .block)) < e
 few e xs r o q w = let y : Waits e xs (some r) = subst (Waits e xs) q w in y .1
@@ -131,9 +127,9 @@ module _ (c : Client) (m : List ℕ) where
       go zero f = absurd (f refl)
       go (suc x) f = let e : suc x - 1 ≡ x = omega arith in e ∙ sym (number-as x)
 
-  pub answer-is : (xs ys : List ℕ) → (c .request .kind ≡ 0 → ⊥) → ys ≡ contents (stateOf c m) (c .request .block) → 1 ≤ length ys → ys ≡ handedTo xs (answer (stateOf c m) (stateOf c m .request))
+  pub answer-is : (xs ys : List ℕ) → (c .request .kind ≡ 0 → ⊥) → ys ≡ contents (stateOf c m) (c .request .block) → length xs ≡ length ys → ys ≡ handedTo xs (answer (stateOf c m) (stateOf c m .request))
   unfolding answer
-  answer-is xs ys n e l = handed-all xs ys l ∙ ap (handedTo xs) (e ∙ sym (ap (answer (stateOf c m)) (hand-some c m n)))
+  answer-is xs ys n e l = sym (filled xs ys l) ∙ ap (handedTo xs) (e ∙ sym (ap (answer (stateOf c m)) (hand-some c m n)))
 
 -- ---- Whether it is finished
 

@@ -1,7 +1,7 @@
--- What a call puts into the buffer has B bytes, of which there is one at least: so the buffer has it whole.
+-- What a turn or a collect puts into the buffer has B bytes: so the buffer has it whole.
 use mathlib.Core.Path.{_≡_, refl, ap, sym, _∙_}
 use mathlib.Core.Bool.{Bool, true, false, true≢false}
-use mathlib.Core.List.{List, [], _∷_}
+use mathlib.Core.List.{List, _++_, append-nil}
 use mathlib.Core.Option.{Option, none, some}
 use Prim.Native.Nat.{ℕ, suc, _+_, _≤_, _<_}
 use native.Mathlib.Nat.{suc-mul, mul-le-mul-right}
@@ -9,17 +9,16 @@ use native.Mathlib.Omega.{arith}
 use native.Mathlib.Decide.{decLt}
 use lib.Dec.{leb, ltb}
 use lib.ListN.{length, drop, replicate, length-drop, length-replicate}
-use lib.Seq.{length-take-le}
+use lib.Seq.{length-take-le, drop-length}
 use borrow.Author.Tests.{leb-true}
 use Rattle.lists.specs.Tests.{if_then_else_, and-l}
 use Rattle.rules.specs.Shape.{Shape}
 use Rattle.rules.specs.Blocks.{slotBytes}
 use Rattle.rules.specs.Collect.{answer}
 use Rattle.rules.specs.Laws.Answers.{Passed, opens}
-use Rattle.rules.specs.Laws.Kept.{given-in}
 use Rattle.rules.specs.Laws.Lengths.{Whole, slot-length, contents-length}
 use Rattle.rules.specs.Memory.{needed}
-use Rattle.rules.specs.Questions.{Ask, opening, request, turn, completion, collect, ready, questions, inHand}
+use Rattle.rules.specs.Questions.{Ask, opening, request, turn, completion, collect, save, load, ready, questions, inHand}
 use Rattle.rules.specs.Ranges.{isKind}
 use Rattle.rules.specs.Rebuild.{doRebuild}
 use Rattle.rules.specs.Request.{release}
@@ -28,7 +27,7 @@ use Rattle.rules.specs.State.{State, Request}
 use Rattle.rules.specs.Turn.{Step, idle, noDummy, readForRequest, readForJob, rebuild, writeNext, decide, doStep, markRead, send}
 use Rattle.memory.specs.Blocks.{blockStart, blockTable, block-is, block-past}
 use Rattle.memory.specs.Tables.{tablesOf}
-use Rattle.memory.specs.Fits.{shapeOf, fits}
+use Rattle.memory.specs.Fits.{shapeOf}
 use Rattle.client.specs.declared.Client.{Client}
 use Rattle.client.specs.View.{stateOf, view, bytesIn}
 use Rattle.contract.specs.Meets.{handedTo}
@@ -75,9 +74,9 @@ turn-whole s w (writeNext q t i) js = (w, refl)
 
 -- ---- What is handed out
 
-pub filled : (b bs : List ℕ) → 1 ≤ length bs → handedTo b bs ≡ bs
-filled b [] l = absurd (omega arith)
-filled b (x ∷ xs) l = refl
+-- as many bytes as the buffer has fill it
+pub filled : (b bs : List ℕ) → length b ≡ length bs → handedTo b bs ≡ bs
+filled b bs l = ap (λ n. bs ++ drop n b) (sym l) ∙ ap (λ xs. bs ++ xs) (drop-length b) ∙ append-nil bs
 
 -- where a call that is no open finds the state ready
 pub ready-of : (s : State) (a : Ask) (m : ℕ) (ws : List ℕ) (n : ℕ) → opens a ≡ false → Passed (questions s a m ws n) → ready s m ≡ true
@@ -87,21 +86,19 @@ ready-of s (request k b bs) m ws n o p = and-l (ready s m) (isKind k) (p .0)
 ready-of s turn m ws n o p = p .0
 ready-of s (completion c bs) m ws n o p = and-l (ready s m) (isKind (c .kind)) (p .0)
 ready-of s collect m ws n o p = p .0
+ready-of s save m ws n o p = and-l (ready s m) _ (p .0)
+ready-of s (load form) m ws n o p = absurd (true≢false o)
 
 pub ready-long : (s : State) (m : ℕ) → ready s m ≡ true → needed (s .shape) ≤ m
 unfolding ready
 ready-long s m e = leb-true (needed (s .shape)) m (and-l (leb (needed (s .shape)) m) _ e)
 
--- a block has a byte at least
-pub some-byte : (s : State) (m : ℕ) → ready s m ≡ true → 1 ≤ s .shape .B
-some-byte s m e = fits (s .shape) m (given-in s m e .shape) (ready-long s m e) .someBytes
-
 -- what a turn writes, and what a collect answers
-pub written-some : (s : State) (m : ℕ) → Whole s → ready s m ≡ true → (js : List ℕ) (o : Option ℕ) → 1 ≤ length (slotBytes (act s turn js) o)
+pub written-length : (s : State) → Whole s → (js : List ℕ) (o : Option ℕ) → length (slotBytes (act s turn js) o) ≡ s .shape .B
 unfolding act perform
-written-some s m w e js o = let x = turn-whole s w (decide s) js in omega (arith, slot-length (release (doStep (decide s) js s)) (x .0) o, x .1, some-byte s m e)
+written-length s w js o = let x = turn-whole s w (decide s) js in slot-length (release (doStep (decide s) js s)) (x .0) o ∙ x .1
 
-pub answer-some : (s : State) (m : ℕ) → Whole s → ready s m ≡ true → (o : Option Request) → inHand (λ r. true) o ≡ true → 1 ≤ length (answer s o)
+pub answer-length : (s : State) → Whole s → (o : Option Request) → inHand (λ r. true) o ≡ true → length (answer s o) ≡ s .shape .B
 unfolding inHand answer
-answer-some s m w e none h = absurd (true≢false (sym h))
-answer-some s m w e (some r) h = omega (arith, contents-length s w (r .block), some-byte s m e)
+answer-length s w none h = absurd (true≢false (sym h))
+answer-length s w (some r) h = contents-length s w (r .block)

@@ -1,7 +1,7 @@
--- What each of the five calls' contracts says: its number, words and command, where a block was found, the next state, and every lent byte after it are
+-- What each call's contract says: its number, words and command, where a block was found, the next state, and every lent byte after it are
 -- those of the rules.
 use mathlib.Core.Path.{_≡_, refl, ap, sym, _∙_, fun-ext}
-use mathlib.Core.List.{List, [], _∷_}
+use mathlib.Core.List.{List, [], _++_}
 use mathlib.Core.Option.{none}
 use Prim.Native.Nat.{ℕ, _+_}
 use native.Mathlib.Omega.{arith}
@@ -11,7 +11,7 @@ use Rattle.rules.specs.Shape.{slots}
 use Rattle.rules.specs.State.{State, Command, cmd, closed, Place, nowhere, foundNumber}
 use Rattle.rules.specs.Draws.{draws}
 use Rattle.rules.specs.Memory.{needed}
-use Rattle.rules.specs.Questions.{Ask, opening, request, turn, completion, collect, Call, bounds, number}
+use Rattle.rules.specs.Questions.{Ask, opening, request, turn, completion, collect, save, load, Call, bounds, number}
 use Rattle.rules.specs.Run.{Outcome, step, act, refuse, refused, accepted, sentCommand, handed, handedFound, takenOf, numbersOf}
 use Rattle.rules.specs.Laws.Answers.{step-refused, step-accepted}
 use borrow.Author.Tests.{le-ltb}
@@ -32,27 +32,48 @@ use Rattle.contract.specs.Answers.{refusedWith, clearedClient}
 abbrev pub callOf : Ask → List ℕ → List ℕ → List ℕ → Call
 callOf a m tape buffer = record { ask = a; memory = length m; words = wordsOf tape; buffer = length buffer }
 
--- bytes that are handed out fill the buffer; where there are none it stays as it was
+-- bytes that are handed out stand at the start of the buffer; what is behind them stays as it was
 abbrev pub handedTo : List ℕ → List ℕ → List ℕ
-handedTo buffer [] = buffer
-handedTo buffer (x ∷ xs) = x ∷ xs
+handedTo buffer bs = bs ++ drop (length bs) buffer
+
+-- what an answer reports where words are counted: of a save "the form's length (0 if refused)", of any other call the words taken
+abbrev pub reported : Ask → ℕ → List ℕ → ℕ
+reported (opening h) n bs = n
+reported (request k b cs) n bs = n
+reported turn n bs = n
+reported (completion c cs) n bs = n
+reported collect n bs = n
+reported save n bs = length bs
+reported (load form) n bs = n
+
+-- a refusal reports nothing
+pub reported-none : (a : Ask) → reported a 0 [] ≡ 0
+reported-none (opening h) = refl
+reported-none (request k b bs) = refl
+reported-none turn = refl
+reported-none (completion c bs) = refl
+reported-none collect = refl
+reported-none save = refl
+reported-none (load form) = refl
 
 abbrev pub commandOf : Answer → Command
 commandOf r = cmd (r .kind) (r .partition) (r .level) (r .slot)
 
--- The numbers of a request while none is in hand, which the state does not read: an accepted open or collect leaves zeros, a turn or completion
--- what was there. (After an accepted request one is in hand)
+-- The numbers of a request while none is in hand, which the state does not read: an accepted open, collect or load leaves zeros, a turn, completion
+-- or save what was there. (After an accepted request one is in hand)
 abbrev pub unasked : Ask → Request → Request
 unasked (opening h) r = noRequest
 unasked (request k b bs) r = r
 unasked turn r = r
 unasked (completion c bs) r = r
 unasked collect r = noRequest
+unasked save r = r
+unasked (load form) r = noRequest
 
 -- The call's answer r, and the memory m′ and the buffer b′ after it, against the rules' step from the state s; c is the client that a refusal hands back
 pub record Meets (c : Client) (s : State) (a : Ask) (m tape b : List ℕ) (r : Answer) (m′ b′ : List ℕ) : Type 0 where
   pub number : r .number ≡ step s (callOf a m tape b) .1 .number
-  pub taken : r .taken ≡ step s (callOf a m tape b) .1 .taken
+  pub taken : r .taken ≡ reported a (step s (callOf a m tape b) .1 .taken) (step s (callOf a m tape b) .1 .bytes)
   pub command : commandOf r ≡ step s (callOf a m tape b) .1 .command
   pub found : r .found ≡ foundNumber (step s (callOf a m tape b) .1 .found)
   pub state : stateOf (r .client) m′ ≡ step s (callOf a m tape b) .0
@@ -72,7 +93,7 @@ meets-no c s a m tape b n e z k =
     let r = step-refused s (callOf a m tape b) (λ x. z (e ∙ x)) in
     record {
       number = e ∙ sym (ap (λ (x : State × Outcome). x .1 .number) r);
-      taken = sym (ap (λ (x : State × Outcome). x .1 .taken) r);
+      taken = sym (ap (λ (x : State × Outcome). reported a (x .1 .taken) (x .1 .bytes)) r ∙ reported-none a);
       command = sym (ap (λ (x : State × Outcome). x .1 .command) r);
       found = sym (ap (λ (x : State × Outcome). foundNumber (x .1 .found)) r);
       state = k ∙ sym (ap (λ (x : State × Outcome). x .0) r);
@@ -86,7 +107,7 @@ meets-no c s a m tape b n e z k =
 pub record Accepts (c : Client) (s : State) (a : Ask) (m tape b : List ℕ) (r : Answer) (m′ b′ : List ℕ) : Type 0 where
   pub yes : number s (callOf a m tape b) ≡ 0
   pub number : r .number ≡ 0
-  pub taken : r .taken ≡ takenOf (draws (bounds s a) (wordsOf tape))
+  pub taken : r .taken ≡ reported a (takenOf (draws (bounds s a) (wordsOf tape))) (handed s a (act s a (numbersOf (draws (bounds s a) (wordsOf tape)))))
   pub command : commandOf r ≡ sentCommand s a
   pub found : r .found ≡ foundNumber (handedFound s a)
   pub idle : r .client .request .kind ≡ 0 → r .client .request ≡ unasked a (c .request)
@@ -100,7 +121,7 @@ meets-yes c s a m tape b r m′ b′ k =
     let q = step-accepted s (callOf a m tape b) (k .yes) in
     record {
       number = k .number ∙ sym (ap (λ (x : State × Outcome). x .1 .number) q);
-      taken = k .taken ∙ sym (ap (λ (x : State × Outcome). x .1 .taken) q);
+      taken = k .taken ∙ sym (ap (λ (x : State × Outcome). reported a (x .1 .taken) (x .1 .bytes)) q);
       command = k .command ∙ sym (ap (λ (x : State × Outcome). x .1 .command) q);
       found = k .found ∙ sym (ap (λ (x : State × Outcome). foundNumber (x .1 .found)) q);
       state = k .state ∙ sym (ap (λ (x : State × Outcome). x .0) q);

@@ -11,8 +11,11 @@ use Rattle.lists.specs.Tests.{if_then_else_}
 use Rattle.rules.specs.Shape.{Shape, within}
 use Rattle.rules.specs.State.{State, Command, foundNumber, closed}
 use Rattle.rules.specs.Draws.{draws}
-use Rattle.rules.specs.Questions.{Ask, opening, Call, bounds, number}
-use Rattle.rules.specs.Run.{Outcome, act, accepted, refused, sentCommand, handedFound, takenOf, numbersOf}
+use Rattle.rules.specs.Form.Loading.{loads}
+use Rattle.rules.specs.Form.Payload.{savedForm}
+use Rattle.rules.specs.Form.Sums.{summed}
+use Rattle.rules.specs.Questions.{Ask, opening, request, turn, completion, collect, save, load, Call, bounds, number}
+use Rattle.rules.specs.Run.{Outcome, act, accepted, refused, sentCommand, handed as handedBytes, handedFound, takenOf, numbersOf}
 use Rattle.rules.specs.Laws.Shapes.{act-shape}
 use Rattle.rules.specs.Laws.Answers.{opens, number-le, step-number, step-accepted, refused-outcome, accepted-passed}
 use Rattle.rules.specs.Laws.Drawn.{taken-lent}
@@ -26,7 +29,7 @@ use Rattle.client.specs.View.{stateOf, view}
 use Rattle.tape.specs.Tape.{wordsOf, length-words}
 use Rattle.contract.specs.declared.Answer.{Answer}
 use Rattle.contract.specs.Answers.{clearedClient}
-use Rattle.contract.specs.Meets.{Meets, callOf, commandOf}
+use Rattle.contract.specs.Meets.{Meets, callOf, commandOf, reported, reported-none}
 use Rattle.codec.specs.Codec.{stateLength, clientOf, reshaped, lowShape, lowClient, withShape, withRest, rest-is, stored-is, Between, between-rest, between-shape, Small, packed, unpacked, answerOf}
 use Rattle.exports.specs.Idle.{Idle, rest-idle}
 use Rattle.exports.specs.Small.{SmallCommand, accepted-small, accepted-found, low-shape, low-client}
@@ -42,7 +45,7 @@ mostWords = 4294967295
 abbrev pub lookedAt : List ℕ → List ℕ
 lookedAt tape = take (mostWords * 2) tape
 
--- A request, turn, completion or collect: st is the state handed in, st′ the state handed back
+-- A request, turn, completion, collect or save: st is the state handed in, st′ the state handed back
 pub record Exported (a : Ask) (st m tape b : List ℕ) (u : ℕ) (st′ m′ b′ : List ℕ) : Type 0 where
   pub meets : length st ≡ stateLength → Meets (clientIn st) (stateOf (clientIn st) m) a m (lookedAt tape) b (answerOf u (clientIn st′)) m′ b′
   pub refused : (u % 32 ≡ 0 → ⊥) → st′ ≡ st
@@ -61,6 +64,16 @@ pub record Opened (h : Shape) (st m tape : List ℕ) (u : ℕ) (st′ m′ : Lis
   -- a state of another length is no memory for a client: shape within bounds? 1. Long enough? 2
   pub other : (length st ≡ stateLength → ⊥) → (u ≡ (if within h then 2 else 1)) × (m′ ≡ m)
 
+-- A load of these bytes: it looks at no state, as an open does
+pub record Loaded (form st m : List ℕ) (u : ℕ) (st′ m′ : List ℕ) : Type 0 where
+  pub meets : length st ≡ stateLength → Meets clearedClient closed (load form) m [] [] (answerOf u (clientIn st′)) m′ []
+  -- a refused one hands back a closed state: zeros in all that was lent for it
+  pub refused : (u % 32 ≡ 0 → ⊥) → st′ ≡ replicate (length st) 0
+  -- an accepted one leaves the bytes between the numbers
+  pub between : u % 32 ≡ 0 → Between (wordAt st) (wordAt st′)
+  -- a state of another length is no memory for a client: sums right? 17. A form? 18. Long enough? 2
+  pub other : (length st ≡ stateLength → ⊥) → (u ≡ (if summed form then (if loads form then 2 else 18) else 17)) × (m′ ≡ m)
+
 -- a tape that is not longer is looked at whole
 pub looked-whole : (tape : List ℕ) → length tape ≤ mostWords * 2 → take (length tape) tape ≡ lookedAt tape
 looked-whole tape l = take-length tape ∙ sym (take-all (mostWords * 2) tape l)
@@ -70,18 +83,38 @@ looked-short tape = omega (arith, length-words (lookedAt tape), length-take (mos
 
 -- ---- An accepted call's answer is small
 
-module _ (s : State) (a : Ask) (m tape b : List ℕ) (r : Answer) where
-  pub small-accepted : number s (callOf a m (lookedAt tape) b) ≡ 0 → r .number ≡ 0 → r .taken ≡ takenOf (draws (bounds s a) (wordsOf (lookedAt tape))) → commandOf r ≡ sentCommand s a → r .found ≡ foundNumber (handedFound s a) → Small r
-  small-accepted e z t o y =
+-- of a save, if its form's length has 32 bits
+abbrev pub Reports : Ask → State → Type 0
+Reports (opening h) s = Unit {0}
+Reports (request k b bs) s = Unit {0}
+Reports turn s = Unit {0}
+Reports (completion c bs) s = Unit {0}
+Reports collect s = Unit {0}
+Reports save s = length (savedForm s) ≤ mostWords
+Reports (load form) s = Unit {0}
+
+reports-few : (s s′ : State) (a : Ask) (n : ℕ) → Reports a s → n ≤ mostWords → reported a n (handedBytes s a s′) ≤ mostWords
+unfolding handedBytes
+reports-few s s′ (opening h) n q l = l
+reports-few s s′ (request k b bs) n q l = l
+reports-few s s′ turn n q l = l
+reports-few s s′ (completion c bs) n q l = l
+reports-few s s′ collect n q l = l
+reports-few s s′ save n q l = q
+reports-few s s′ (load form) n q l = l
+
+module _ (s : State) (a : Ask) (m tape b : List ℕ) (r : Answer) (q : Reports a s) where
+  pub small-accepted : (s′ : State) → number s (callOf a m (lookedAt tape) b) ≡ 0 → r .number ≡ 0 → r .taken ≡ reported a (takenOf (draws (bounds s a) (wordsOf (lookedAt tape)))) (handedBytes s a s′) → commandOf r ≡ sentCommand s a → r .found ≡ foundNumber (handedFound s a) → Small r
+  small-accepted s′ e z t o y =
       let ws = wordsOf (lookedAt tape) in
       let p = accepted-passed s (callOf a m (lookedAt tape) b) e in
       let d : SmallCommand (commandOf r) = rw o (accepted-small s a (length m) ws (length b) p) in
       let g = accepted-found s a (length m) ws (length b) p in
-      record { number = omega arith; taken = omega (arith, taken-lent (bounds s a) ws, looked-short tape); kind = d .kind; partition = d .partition; level = d .level; slot = d .slot; found = omega arith }
+      record { number = omega arith; taken = omega (arith, reports-few s s′ a (takenOf (draws (bounds s a) ws)) q (omega (arith, taken-lent (bounds s a) ws, looked-short tape))); kind = d .kind; partition = d .partition; level = d .level; slot = d .slot; found = omega arith }
 
 -- ---- From a call's contract to the exported one's
 
-module _ (c : Client) (s : State) (a : Ask) (m tape b : List ℕ) (r : Answer) (m′ b′ : List ℕ) (k : Meets c s a m (lookedAt tape) b r m′ b′) where
+module _ (c : Client) (s : State) (a : Ask) (m tape b : List ℕ) (r : Answer) (m′ b′ : List ℕ) (k : Meets c s a m (lookedAt tape) b r m′ b′) (q : Reports a s) where
   abbrev made : Call
   made = callOf a m (lookedAt tape) b
 
@@ -95,7 +128,7 @@ module _ (c : Client) (s : State) (a : Ask) (m tape b : List ℕ) (r : Answer) (
       let e = refused-outcome s made (λ z. n (is-number ∙ z)) in
       let o = k .command ∙ ap (λ (x : Outcome). x .command) e in
       let z : (r .kind ≡ 0) × (r .partition ≡ 0) × (r .level ≡ 0) × (r .slot ≡ 0) = (ap (λ (x : Command). x .kind) o, ap (λ (x : Command). x .partition) o, ap (λ (x : Command). x .level) o, ap (λ (x : Command). x .slot) o) in
-      let w : r .taken ≡ 0 = k .taken ∙ ap (λ (x : Outcome). x .taken) e in
+      let w : r .taken ≡ 0 = k .taken ∙ ap (λ (x : Outcome). reported a (x .taken) (x .bytes)) e ∙ reported-none a in
       let y : r .found ≡ 0 = k .found ∙ ap (λ (x : Outcome). foundNumber (x .found)) e in
       record { number = omega (arith, is-number, number-le s made); taken = omega arith; kind = omega arith; partition = omega arith; level = omega arith; slot = omega arith; found = omega arith }
 
@@ -104,8 +137,8 @@ module _ (c : Client) (s : State) (a : Ask) (m tape b : List ℕ) (r : Answer) (
   unfolding accepted
   accepted-fits z =
       let e : number s made ≡ 0 = sym is-number ∙ z in
-      let q = step-accepted s made e in
-      small-accepted s a m tape b r e z (k .taken ∙ ap (λ (x : State × Outcome). x .1 .taken) q) (k .command ∙ ap (λ (x : State × Outcome). x .1 .command) q) (k .found ∙ ap (λ (x : State × Outcome). foundNumber (x .1 .found)) q)
+      let d = step-accepted s made e in
+      small-accepted s a m tape b r q _ e z (k .taken ∙ ap (λ (x : State × Outcome). reported a (x .1 .taken) (x .1 .bytes)) d) (k .command ∙ ap (λ (x : State × Outcome). x .1 .command) d) (k .found ∙ ap (λ (x : State × Outcome). foundNumber (x .1 .found)) d)
 
   pub meets-small : Small r
   meets-small = elim (ℕ-discrete (r .number) 0) [ yes z ↦ accepted-fits z | no n ↦ refused-small n ]
@@ -176,7 +209,7 @@ pub shape-same : (g h : M.Shape) → shapeOf g ≡ shapeOf h → g ≡ h
 shape-same g h e = λ k. record { n = e k .N; p = e k .P; l = e k .L; b = e k .B; e = e k .E; w = e k .W }
 
 -- a call that meets the rules, handed back
-module _ (a : Ask) (four : opens a ≡ false) (st m tape b : List ℕ) (r : Answer) (u : ℕ) (st′ m′ b′ : List ℕ) (l : length st ≡ stateLength) (k : Meets (clientIn st) (stateOf (clientIn st) m) a m (lookedAt tape) b r m′ b′) where
+module _ (a : Ask) (four : opens a ≡ false) (st m tape b : List ℕ) (r : Answer) (u : ℕ) (st′ m′ b′ : List ℕ) (l : length st ≡ stateLength) (k : Meets (clientIn st) (stateOf (clientIn st) m) a m (lookedAt tape) b r m′ b′) (q : Reports a (stateOf (clientIn st) m)) where
   abbrev s : State
   s = stateOf (clientIn st) m
 
@@ -184,7 +217,7 @@ module _ (a : Ask) (four : opens a ≡ false) (st m tape b : List ℕ) (r : Answ
       → (r .number ≡ 0 → Idle a (clientIn st .request) (clientOf (stored (wordAt st)))) → Exported a st m tape b u st′ m′ b′
   handed stored h between same idle = record {
     meets = λ _. rw (h .answer) (go (ℕ-discrete (r .number) 0));
-    refused = λ n. h .refused (λ z. n (rw (h .answer) (number-packed (clientIn st) s a m tape b r m′ b′ k ∙ z)));
+    refused = λ n. h .refused (λ z. n (rw (h .answer) (number-packed (clientIn st) s a m tape b r m′ b′ k q ∙ z)));
     between = kept (ℕ-discrete (r .number) 0);
     other = λ n. absurd (n l);
   }
@@ -194,21 +227,33 @@ module _ (a : Ask) (four : opens a ≡ false) (st m tape b : List ℕ) (r : Answ
       kept (no n) = rw (h .refused n) (λ k. refl)
 
       go : Dec (r .number ≡ 0) → Meets (clientIn st) s a m (lookedAt tape) b (answerOf (packed r) (clientIn st′)) m′ b′
-      go (yes z) = meets-accepted (clientIn st) s a m tape b r m′ b′ k z (clientIn st′) (ap (λ x. stateOf (clientOf x) m′) (h .accepted z) ∙ same z) (subst (λ x. Idle a (clientIn st .request) (clientOf x)) (sym (h .accepted z)) (idle z))
-      go (no n) = rw (h .refused n) (meets-refused (clientIn st) s a m tape b r m′ b′ k n)
+      go (yes z) = meets-accepted (clientIn st) s a m tape b r m′ b′ k q z (clientIn st′) (ap (λ x. stateOf (clientOf x) m′) (h .accepted z) ∙ same z) (subst (λ x. Idle a (clientIn st .request) (clientOf x)) (sym (h .accepted z)) (idle z))
+      go (no n) = rw (h .refused n) (meets-refused (clientIn st) s a m tape b r m′ b′ k q n)
 
   -- the shape is still that of the bytes
   shape-low : r .number ≡ 0 → clientIn st .shape ≡ lowShape (r .client .shape)
   shape-low z =
-      sym (shape-same (r .client .shape) (clientIn st .shape) (unfold stateOf view in shape-kept (clientIn st) s a m tape b r m′ b′ k z four))
-      ∙ sym (low-shape (r .client .shape) (left-within (clientIn st) s a m tape b r m′ b′ k z))
+      sym (shape-same (r .client .shape) (clientIn st .shape) (unfold stateOf view in shape-kept (clientIn st) s a m tape b r m′ b′ k q z four))
+      ∙ sym (low-shape (r .client .shape) (left-within (clientIn st) s a m tape b r m′ b′ k q z))
 
   pub exported : HandedBack (withRest (r .client)) r u st st′ → Exported a st m tape b u st′ m′ b′
   exported h = handed (withRest (r .client)) h (between-rest (r .client) (wordAt st) (wordAt st) (λ k. refl)) (λ z.
-      ap (λ x. stateOf x m′) (rest-is (r .client) (wordAt st) ∙ ap (λ x. reshaped x (lowClient (r .client))) (shape-low z)) ∙ left-low (clientIn st) s a m tape b r m′ b′ k z)
-      (λ z. subst (Idle a (clientIn st .request)) (sym (rest-is (r .client) (wordAt st))) (rest-idle st a (r .client) m′ (left-low (clientIn st) s a m tape b r m′ b′ k z) (k .idle z)))
+      ap (λ x. stateOf x m′) (rest-is (r .client) (wordAt st) ∙ ap (λ x. reshaped x (lowClient (r .client))) (shape-low z)) ∙ left-low (clientIn st) s a m tape b r m′ b′ k q z)
+      (λ z. subst (Idle a (clientIn st .request)) (sym (rest-is (r .client) (wordAt st))) (rest-idle st a (r .client) m′ (left-low (clientIn st) s a m tape b r m′ b′ k q z) (k .idle z)))
 
--- with a state of another length each of the four calls answers 2 at once
+-- a call that only reads state and memory: it hands back the client that it was given
+pub exported-same : (a : Ask) (st m tape b : List ℕ) (r : Answer) (b′ : List ℕ) → length st ≡ stateLength → Meets (clientIn st) (stateOf (clientIn st) m) a m (lookedAt tape) b r m b′
+    → Reports a (stateOf (clientIn st) m) → r .client ≡ clientIn st → Exported a st m tape b (packed r) st m b′
+exported-same a st m tape b r b′ l k q e = record { meets = λ _. go (ℕ-discrete (r .number) 0); refused = λ _. refl; between = λ i. refl; other = λ n. absurd (n l) }
+  where
+    s : State
+    s = stateOf (clientIn st) m
+
+    go : Dec (r .number ≡ 0) → Meets (clientIn st) s a m (lookedAt tape) b (answerOf (packed r) (clientIn st)) m b′
+    go (yes z) = meets-accepted (clientIn st) s a m tape b r m b′ k q z (clientIn st) (ap (λ x. stateOf x m) (sym e)) (subst (Idle a (clientIn st .request)) e (k .idle z))
+    go (no n) = meets-refused (clientIn st) s a m tape b r m b′ k q n
+
+-- with a state of another length each of these calls answers 2 at once
 pub exported-length : {a : Ask} {st m tape b : List ℕ} → (length st ≡ stateLength → ⊥) → Exported a st m tape b 2 st m b
 exported-length n = record { meets = λ l. absurd (n l); refused = λ _. refl; between = λ k. refl; other = λ _. (refl, refl, refl, refl) }
 
@@ -227,12 +272,12 @@ pub exported-open : (h : Shape) (st m tape : List ℕ) (r : Answer) (u : ℕ) (s
     → Meets clearedClient closed (opening h) m (lookedAt tape) [] r m′ [] → HandedBackOpened r u st st′ → Opened h st m tape u st′ m′
 exported-open h st m tape r u st′ m′ l k b = record {
   meets = λ _. rw (b .answer) (go (ℕ-discrete (r .number) 0));
-  refused = λ n. b .refused (λ z. n (rw (b .answer) (number-packed clearedClient closed (opening h) m tape [] r m′ [] k ∙ z)));
-  between = λ z. rw (b .accepted (sym (number-packed clearedClient closed (opening h) m tape [] r m′ [] k) ∙ sym (ap (λ x. x % 32) (b .answer)) ∙ z)) (between-rest (r .client) (wordAt st) _ (between-shape (r .client .shape) (wordAt st)));
+  refused = λ n. b .refused (λ z. n (rw (b .answer) (number-packed clearedClient closed (opening h) m tape [] r m′ [] k tt ∙ z)));
+  between = λ z. rw (b .accepted (sym (number-packed clearedClient closed (opening h) m tape [] r m′ [] k tt) ∙ sym (ap (λ x. x % 32) (b .answer)) ∙ z)) (between-rest (r .client) (wordAt st) _ (between-shape (r .client .shape) (wordAt st)));
   other = λ n. absurd (n l);
 }
   where
     go : Dec (r .number ≡ 0) → Meets clearedClient closed (opening h) m (lookedAt tape) [] (answerOf (packed r) (clientIn st′)) m′ []
-    go (yes z) = meets-accepted clearedClient closed (opening h) m tape [] r m′ [] k z (clientIn st′) (ap (λ x. stateOf x m′) (ap clientOf (b .accepted z) ∙ stored-is (r .client) (wordAt st)) ∙ left-low clearedClient closed (opening h) m tape [] r m′ [] k z)
-        (subst (Idle (opening h) (clearedClient .request)) (sym (ap clientOf (b .accepted z) ∙ stored-is (r .client) (wordAt st))) (rest-idle st (opening h) (r .client) m′ (left-low clearedClient closed (opening h) m tape [] r m′ [] k z) (k .idle z)))
-    go (no n) = rw (b .refused n, l, zeros-say) (meets-refused clearedClient closed (opening h) m tape [] r m′ [] k n)
+    go (yes z) = meets-accepted clearedClient closed (opening h) m tape [] r m′ [] k tt z (clientIn st′) (ap (λ x. stateOf x m′) (ap clientOf (b .accepted z) ∙ stored-is (r .client) (wordAt st)) ∙ left-low clearedClient closed (opening h) m tape [] r m′ [] k tt z)
+        (subst (Idle (opening h) (clearedClient .request)) (sym (ap clientOf (b .accepted z) ∙ stored-is (r .client) (wordAt st))) (rest-idle st (opening h) (r .client) m′ (left-low clearedClient closed (opening h) m tape [] r m′ [] k tt z) (k .idle z)))
+    go (no n) = rw (b .refused n, l, zeros-say) (meets-refused clearedClient closed (opening h) m tape [] r m′ [] k tt n)

@@ -9,7 +9,7 @@ use native.Mathlib.Decide.{ℕ-discrete}
 use Rattle.lists.specs.Search.{isNone}
 use Rattle.rules.specs.State as R
 use Rattle.rules.specs.State.{State}
-use Rattle.rules.specs.Questions.{Ask, opening, request, turn, completion, collect}
+use Rattle.rules.specs.Questions.{Ask, opening, request, turn, completion, collect, save, load}
 use Rattle.rules.specs.Laws.Asked.{asked}
 use Rattle.memory.specs.Words.{wordAt, wordAt-lt}
 use Rattle.client.specs.declared.Client.{Client}
@@ -55,6 +55,8 @@ module _ (st : List ℕ) where
   low-unasked turn = low-given
   low-unasked (completion c bs) = low-given
   low-unasked collect = refl
+  low-unasked save = low-given
+  low-unasked (load form) = refl
 
   -- all numbers of the client d are stored
   pub rest-idle : (a : Ask) (d : Client) (m′ : List ℕ) → stateOf (lowClient d) m′ ≡ stateOf d m′ → (d .request .kind ≡ 0 → d .request ≡ unasked a given)

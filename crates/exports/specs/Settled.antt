@@ -21,7 +21,7 @@ use Rattle.contract.specs.Meets.{Meets}
 use Rattle.releasing.specs.Released.{Released, not-held}
 use Rattle.releasing.specs.Performs.{Performs, released-meets}
 use Rattle.codec.specs.Codec.{stateLength, clientOf, withFound, Between, between-found, Small, packed, answerOf, unpacked}
-use Rattle.exports.specs.Exported.{clientIn, lookedAt, Exported, small-accepted, meets-small, meets-refused}
+use Rattle.exports.specs.Exported.{clientIn, lookedAt, Exported, Reports, small-accepted, meets-small, meets-refused}
 use Rattle.exports.specs.Idle.{Idle}
 
 -- the words w of a state, and w′ after a request is released
@@ -53,19 +53,19 @@ pub record HandedBackReleased (stored : (ℕ → ℕ) → ℕ → ℕ) (r : Answ
   pub refused : (r .number ≡ 0 → ⊥) → st′ ≡ st
 
 -- What was performed, handed back so
-module _ (a : Ask) (st m tape b : List ℕ) (r : Answer) (m′ b′ : List ℕ) (k : Performs (clientIn st) (stateOf (clientIn st) m) a m (lookedAt tape) b r m′ b′) where
+module _ (a : Ask) (st m tape b : List ℕ) (r : Answer) (m′ b′ : List ℕ) (k : Performs (clientIn st) (stateOf (clientIn st) m) a m (lookedAt tape) b r m′ b′) (q : Reports a (stateOf (clientIn st) m)) where
   abbrev s : State
   s = stateOf (clientIn st) m
 
   pub performs-small : Small r
-  performs-small = elim (ℕ-discrete (r .number) 0) [ yes z ↦ (let p = k .accepted z in small-accepted s a m tape b r (p .yes) z (p .taken) (p .command) (p .found)) | no n ↦ meets-small (clientIn st) s a m tape b r m′ b′ (k .refused n) ]
+  performs-small = elim (ℕ-discrete (r .number) 0) [ yes z ↦ (let p = k .accepted z in small-accepted s a m tape b r q _ (p .yes) z (p .taken) (p .command) (p .found)) | no n ↦ meets-small (clientIn st) s a m tape b r m′ b′ (k .refused n) q ]
 
   module _ (stored : (ℕ → ℕ) → ℕ → ℕ) (same : r .number ≡ 0 → stateOf (clientOf (stored (wordAt st))) m′ ≡ stateOf (r .client) m′) (idle : r .number ≡ 0 → Idle a (clientIn st .request) (clientOf (stored (wordAt st)))) (u : ℕ) (st′ : List ℕ) (h : HandedBackReleased stored r m′ u st st′) where
     met : Dec (r .number ≡ 0) → Meets (clientIn st) s a m (lookedAt tape) b (answerOf (packed r) (clientIn st′)) m′ b′
     met (yes z) =
         let f = h .accepted z .released in
         rw (unpacked r performs-small (clientIn st′)) (released-meets (clientIn st) s a m (lookedAt tape) b r m′ b′ (k .accepted z) z (clientIn st′) (f .state ∙ ap release (same z)) (λ y. f .idle y ∙ idle z (ap (λ (x : Client). x .request .kind) (sym (f .found)) ∙ y)))
-    met (no n) = rw (h .refused n) (meets-refused (clientIn st) s a m tape b r m′ b′ (k .refused n) n)
+    met (no n) = rw (h .refused n) (meets-refused (clientIn st) s a m tape b r m′ b′ (k .refused n) q n)
 
     kept : Between (wordAt st) (stored (wordAt st)) → Dec (r .number ≡ 0) → Between (wordAt st) (wordAt st′)
     kept between (yes z) = λ i. h .accepted z .between i ∙ between i

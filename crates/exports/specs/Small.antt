@@ -18,7 +18,7 @@ use Rattle.rules.specs.State.{State, Command, cmd, Found, foundNowhere, foundCa
 use Rattle.rules.specs.State as R
 use Rattle.rules.specs.Ranges.{isKind}
 use Rattle.rules.specs.Turn.{Step, idle, noDummy, readForRequest, readForJob, rebuild, writeNext, decide, command}
-use Rattle.rules.specs.Questions.{Ask, opening, request, turn, completion, collect, questions}
+use Rattle.rules.specs.Questions.{Ask, opening, request, turn, completion, collect, save, load, questions}
 use Rattle.rules.specs.Run.{sentCommand, handedFound}
 use Rattle.rules.specs.Laws.Answers.{Passed}
 use Rattle.rules.specs.Laws.Range.{InRange, FoundIn, RequestIn, JobsIn}
@@ -86,6 +86,8 @@ accepted-small s (request k b bs) m ws n p = no-command
 accepted-small s turn m ws n p = let f = given-in s m (p .0) in step-small s f (decide s) (decide-in s f)
 accepted-small s (completion c bs) m ws n p = no-command
 accepted-small s collect m ws n p = no-command
+accepted-small s save m ws n p = no-command
+accepted-small s (load form) m ws n p = no-command
 
 -- ---- Where a block was found: nowhere, in the cache, or in one of at most eight levels
 
@@ -108,6 +110,8 @@ found-below s (request k b bs) m ws n p = omega arith
 found-below s turn m ws n p = omega arith
 found-below s (completion c bs) m ws n p = omega arith
 found-below s collect m ws n p = carried-below (s .shape) (s .request) (given-in s m (p .0) .request)
+found-below s save m ws n p = omega arith
+found-below s (load form) m ws n p = omega arith
 
 pub accepted-found : (s : State) (a : Ask) (m : ℕ) (ws : List ℕ) (n : ℕ) → Passed (questions s a m ws n) → foundNumber (handedFound s a) < 16
 unfolding questions handedFound foundNumber
@@ -119,6 +123,8 @@ accepted-found s collect m ws n p =
     let f = given-in s m (p .0) in
     let l = levels-le (s .shape) (f .shape) in
     omega (arith, carried-below (s .shape) (s .request) (f .request))
+accepted-found s save m ws n p = omega arith
+accepted-found s (load form) m ws n p = omega arith
 
 -- ---- The client's numbers
 

@@ -285,13 +285,13 @@ module _ (st m tape b : List ℕ) (c : Client) (r : Answer) (m′ b′ : List �
   turned = subst (λ x. Performs x (stateOf x m) turn m (lookedAt tape) b r m′ b′) e k
 
   pub turn-small : Small r
-  turn-small = performs-small turn st m tape b r m′ b′ turned
+  turn-small = performs-small turn st m tape b r m′ b′ turned tt
 
   pub turn-ready : r .number ≡ 0 → ready (stateOf (clientOf (withTurn (r .kind) (r .client) (wordAt st))) m′) (length m′) ≡ true
   turn-ready z = let p = turned .accepted z in ready-left st m (lookedAt tape) b turn (unfold opens in refl) r m′ b′ p (turn-asked _) (withTurn (r .kind) (r .client)) (turn-same st m (lookedAt tape) b r m′ b′ p)
 
   pub exported-turn : (u : ℕ) (st′ : List ℕ) → length st ≡ stateLength → HandedBackReleased (withTurn (r .kind) (r .client)) r m′ u st st′ → Exported turn st m tape b u st′ m′ b′
-  exported-turn u st′ l h = exported-released turn st m tape b r m′ b′ turned (withTurn (r .kind) (r .client))
+  exported-turn u st′ l h = exported-released turn st m tape b r m′ b′ turned tt (withTurn (r .kind) (r .client))
       (λ z. let p = turned .accepted z in same-left st m (lookedAt tape) b turn (unfold opens in refl) r m′ b′ p (turn-asked _) (withTurn (r .kind) (r .client)) (turn-same st m (lookedAt tape) b r m′ b′ p))
       (λ z. let p = turned .accepted z in idle-left st m (lookedAt tape) b turn (unfold opens in refl) r m′ b′ p (turn-asked _) (withTurn (r .kind) (r .client)) (turn-same st m (lookedAt tape) b r m′ b′ p) refl)
       u st′ h l (between-turn (r .kind) (r .client) (wordAt st))
@@ -301,13 +301,13 @@ module _ (st m : List ℕ) (x : Command) (bs : List ℕ) (c : Client) (r : Answe
   done = subst (λ y. Performs y (stateOf y m) (completion x bs) m [] [] r m′ []) e k
 
   pub completion-small : Small r
-  completion-small = performs-small (completion x bs) st m [] [] r m′ [] done
+  completion-small = performs-small (completion x bs) st m [] [] r m′ [] done tt
 
   pub completion-ready : r .number ≡ 0 → ready (stateOf (clientOf (withCompletion (x .kind) (r .client) (wordAt st))) m′) (length m′) ≡ true
   completion-ready z = let p = done .accepted z in ready-left st m [] [] (completion x bs) (unfold opens in refl) r m′ [] p (completion-asked _ x bs) (withCompletion (x .kind) (r .client)) (completion-same st m [] x bs r m′ [] p)
 
   pub exported-completion : (u : ℕ) (st′ : List ℕ) → length st ≡ stateLength → HandedBackReleased (withCompletion (x .kind) (r .client)) r m′ u st st′ → Exported (completion x bs) st m [] [] u st′ m′ []
-  exported-completion u st′ l h = exported-released (completion x bs) st m [] [] r m′ [] done (withCompletion (x .kind) (r .client))
+  exported-completion u st′ l h = exported-released (completion x bs) st m [] [] r m′ [] done tt (withCompletion (x .kind) (r .client))
       (λ z. let p = done .accepted z in same-left st m [] [] (completion x bs) (unfold opens in refl) r m′ [] p (completion-asked _ x bs) (withCompletion (x .kind) (r .client)) (completion-same st m [] x bs r m′ [] p))
       (λ z. let p = done .accepted z in idle-left st m [] [] (completion x bs) (unfold opens in refl) r m′ [] p (completion-asked _ x bs) (withCompletion (x .kind) (r .client)) (completion-same st m [] x bs r m′ [] p) refl)
       u st′ h l (between-completion (x .kind) (r .client) (wordAt st))

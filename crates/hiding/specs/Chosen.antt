@@ -1,6 +1,6 @@
 -- Calls that are chosen by what was told: a host that completes the commands it was sent names slots that depend on the tape, so its calls are no
--- list that is known beforehand. The tapes of two who choose alike are matched as those of compared lists are: `chosen-from` has it from
--- `Claim`, and from `Able`, by which what is told can be computed from a tape. With an honest host in both, demand 2 holds besides: `chosen-together`.
+-- list that is known beforehand. They may choose to save and to load: a load is of the run's own form. The tapes of two who choose alike are matched
+-- as those of compared lists are: `chosen-from` has it from `Claim`, and from that what is told can be computed from a tape. With an honest host in both, demand 2 holds besides: `chosen-together`.
 use mathlib.Core.Path.{_≡_, refl, ap, ap₂, sym, _∙_, subst}
 use mathlib.Core.Bool.{Bool, true, false}
 use mathlib.Core.List.{List, [], _∷_, map}
@@ -10,6 +10,7 @@ use lib.ListN.{length, take, drop}
 use lib.Dec.{eqb, ltb}
 use Rattle.lists.specs.Tests.{if_then_else_}
 use Rattle.rules.specs.Questions.{Call}
+use Rattle.rules.specs.Resumes.{Resumes}
 use Rattle.rules.specs.Run.{Outcome, step, run}
 use Rattle.rules.specs.Shape.{Shape}
 use Rattle.rules.specs.State.{State, Command, read, closed}
@@ -21,11 +22,11 @@ use Rattle.array.specs.Claim.{Slots, Host, Expected, Honest, Plain}
 use Rattle.array.specs.Theorem.{plain-array}
 use Rattle.hiding.specs.Honest.{list-plain, honest-run}
 use Rattle.hiding.specs.Claim.{aCompletion, Lent, first, Same, Compared, Tape, Lends, Short, tapeOf, Gives, Matching, told, Claim}
-use Rattle.hiding.specs.Machines.Needs.{Able}
 use Rattle.hiding.specs.Lists.Tapes.{words, wants, lentOn}
-use Rattle.hiding.specs.Lists.Matched.{zeros}
-use Rattle.hiding.specs.Lists.Runs.{headOr, tailOf, shown}
-use Rattle.hiding.specs.Reached.{able}
+use Rattle.hiding.specs.Lists.Fixed.{at}
+use Rattle.hiding.specs.Lists.Matched.{zeroOf, zeros, lastIn}
+use Rattle.hiding.specs.Lists.Runs.{shown}
+use Rattle.hiding.specs.Lists.Twins.{headOr, tailOf}
 use Rattle.hiding.specs.Theorem.{hidden}
 
 -- the tape of a run
@@ -51,10 +52,11 @@ Chosen σ before [] os = Unit {0}
 Chosen σ before (c ∷ cs) [] = Unit {0}
 Chosen σ before (c ∷ cs) (o ∷ os) = Lends (σ before ∷ []) (c ∷ []) × Chosen σ (told o ∷ before) cs os
 
--- a run of an open and k calls more, with words of 16 bits
+-- a run of an open and k calls more, with words of 16 bits; each load is of what the call just before it has saved
 pub record Plays (h : Shape) (m w n : ℕ) (σ : Choice) (k : ℕ) (s : State) (cs : List Call) : Type 0 where
   pub calls : length cs ≡ suc k
   pub short : Short cs
+  pub loads : Resumes [] cs (run s cs)
   pub chosen : Chosen (opened (first h m w n) σ) [] cs (run s cs)
 
 -- the tapes: the words that such a run uses up
@@ -100,13 +102,13 @@ abbrev along : Choice → List Told → List Told → List Lent
 along σ before [] = []
 along σ before (o ∷ os) = σ before ∷ along σ (o ∷ before) os
 
--- what is told, by the tape: each call uses up the next of its words, and zeros stand for its bytes
-unfoldable heard : Choice → List Told → ℕ → State → List ℕ → List Told
-heard σ before zero s t = []
-heard σ before (suc k) s t =
-    let a = zeros (σ before) in
-    let r = step s (lentOn a (take (wants s a t) t)) in
-    told (r .1) ∷ heard σ (told (r .1) ∷ before) k (r .0) (drop (wants s a t) t)
+-- what is told, by the tape: each call uses up the next of its words, and zeros stand for its bytes; p has memory and buffer of the save just before
+unfoldable heard : Choice → List Told → ℕ × ℕ → ℕ → State → List ℕ → List Told
+heard σ before p zero s t = []
+heard σ before p (suc k) s t =
+    let a = zeroOf p (σ before) in
+    let r = step s (lentOn (at s a) (take (wants s a t) t)) in
+    told (r .1) ∷ heard σ (told (r .1) ∷ before) (lastIn (σ before)) k (r .0) (drop (wants s a t) t)
 
 -- a run's calls are those of the list
 chosen-lends : (σ : Choice) (cs : List Call) (before : List Told) (s : State) → Chosen σ before cs (run s cs) → Lends (along σ before (map told (run s cs))) cs
@@ -126,16 +128,16 @@ lends-chosen σ (c ∷ cs) before s (o ∷ os) (Claim.more x y l) e =
     (Claim.more x y Claim.none, subst (λ v. Chosen σ (v ∷ before) cs (run (step s c .0) cs)) (sym z) (lends-chosen σ cs (o ∷ before) (step s c .0) os l (ap tailOf e)))
 
 -- what the machine that takes words shows of the list of what is told
-watch-heard : (σ : Choice) (os before : List Told) (s : State) (t : List ℕ) → os ≡ FlatWatch words wants s (map zeros (along σ before os)) t → os ≡ heard σ before (length os) s t
+watch-heard : (σ : Choice) (os before : List Told) (p : ℕ × ℕ) (s : State) (t : List ℕ) → os ≡ FlatWatch words wants s (zeros p (along σ before os)) t → os ≡ heard σ before p (length os) s t
 unfolding heard headOr tailOf
-watch-heard σ [] before s t e = refl
-watch-heard σ (o ∷ os) before s t e =
-    let a = zeros (σ before) in
-    let r = step s (lentOn a (take (wants s a t) t)) in
+watch-heard σ [] before p s t e = refl
+watch-heard σ (o ∷ os) before p s t e =
+    let a = zeroOf p (σ before) in
+    let r = step s (lentOn (at s a) (take (wants s a t) t)) in
     let u = drop (wants s a t) t in
     let z : o ≡ told (r .1) = ap (headOr o) e in
-    let y = watch-heard σ os (o ∷ before) (r .0) u (ap tailOf e) in
-    ap₂ (λ x xs. x ∷ xs) z (y ∙ ap (λ x. heard σ (x ∷ before) (length os) (r .0) u) z)
+    let y = watch-heard σ os (o ∷ before) (lastIn (σ before)) (r .0) u (ap tailOf e) in
+    ap₂ (λ x xs. x ∷ xs) z (y ∙ ap (λ x. heard σ (x ∷ before) (lastIn (σ before)) (length os) (r .0) u) z)
 
 -- ---- Two choices
 
@@ -157,18 +159,18 @@ along-length : (σ : Choice) (os before : List Told) → length (along σ before
 along-length σ [] before = refl
 along-length σ (o ∷ os) before = ap suc (along-length σ os (o ∷ before))
 
-module _ (lists : Claim) (able : Able closed) where
+module _ (lists : Claim) where
   module _ (h : Shape) (q : h .E ≡ h .N) (m w n : ℕ) where
     -- the list by what is told
     abbrev listOf : Choice → List Told → List Lent
     listOf σ os = along (opened (first h m w n) σ) [] os
 
     abbrev heardOf : Choice → ℕ → List ℕ → List Told
-    heardOf σ k t = heard (opened (first h m w n) σ) [] (suc k) closed t
+    heardOf σ k t = heard (opened (first h m w n) σ) [] (0, 0) (suc k) closed t
 
     -- a run gives its tape to the list of what it is told
     plays-gives : (σ : Choice) (k : ℕ) (s : State) (cs : List Call) → Plays h m w n σ k s cs → Gives s (listOf σ (map told (run s cs))) (tapeIn s cs) cs
-    plays-gives σ k s cs p = record { calls = chosen-lends (opened (first h m w n) σ) cs [] s (p .chosen); short = p .short; tape = refl }
+    plays-gives σ k s cs p = record { calls = chosen-lends (opened (first h m w n) σ) cs [] s (p .chosen); short = p .short; loads = p .loads; tape = refl }
 
     heard-is : (σ : Choice) (k : ℕ) (s : State) (cs : List Call) → Plays h m w n σ k s cs → map told (run s cs) ≡ heardOf σ k (tapeIn s cs)
     heard-is σ k s cs p = go (map told (run s cs)) refl
@@ -178,9 +180,9 @@ module _ (lists : Claim) (able : Able closed) where
         go (o ∷ os) e =
             let as′ = along (opened (first h m w n) σ) (o ∷ []) os in
             let g : Gives s (listOf σ (o ∷ os)) (tapeIn s cs) cs = subst (λ xs. Gives s (listOf σ xs) (tapeIn s cs) cs) e (plays-gives σ k s cs p) in
-            let x = shown able h m w n as′ s (tapeIn s cs) cs g in
-            let y = watch-heard (opened (first h m w n) σ) (o ∷ os) [] closed (tapeIn s cs) (sym e ∙ x) in
-            e ∙ y ∙ ap (λ j. heard (opened (first h m w n) σ) [] j closed (tapeIn s cs)) (sym (ap length e) ∙ length-run cs s ∙ p .calls)
+            let x = shown h m w n as′ s (tapeIn s cs) cs g in
+            let y = watch-heard (opened (first h m w n) σ) (o ∷ os) [] (0, 0) closed (tapeIn s cs) (sym e ∙ x) in
+            e ∙ y ∙ ap (λ j. heard (opened (first h m w n) σ) [] (0, 0) j closed (tapeIn s cs)) (sym (ap length e) ∙ length-run cs s ∙ p .calls)
 
     -- and a run of that list that is told so is chosen so
     gives-plays : (σ : Choice) (k : ℕ) (s : State) (os : List Told) → length os ≡ suc k → (t : List ℕ) (cs : List Call) → Gives s (listOf σ os) t cs → map told (run s cs) ≡ os
@@ -188,6 +190,7 @@ module _ (lists : Claim) (able : Able closed) where
     gives-plays σ k s os e t cs g r = record {
       calls = lends-length (listOf σ os) cs (g .calls) ∙ along-length (opened (first h m w n) σ) os [] ∙ e;
       short = g .short;
+      loads = g .loads;
       chosen = lends-chosen (opened (first h m w n) σ) cs [] s os (g .calls) r;
     }
 
@@ -225,7 +228,7 @@ module _ (lists : Claim) (able : Able closed) where
           let b : Tape s′ (listOf τ (o ∷ os)) t = (ds, g) in
           let a = matched o os .g-ok t b in
           let z = matched o os .f-g t b in
-          let e : map told (run s (a .0)) ≡ o ∷ os = matched-told o os (matched o os .g t) (a .0) ds (a .1) (record { calls = g .calls; short = g .short; tape = g .tape ∙ sym z }) ∙ r in
+          let e : map told (run s (a .0)) ≡ o ∷ os = matched-told o os (matched o os .g t) (a .0) ds (a .1) (record { calls = g .calls; short = g .short; loads = g .loads; tape = g .tape ∙ sym z }) ∙ r in
           (a .0, ((gives-plays σ k s (o ∷ os) l (matched o os .g t) (a .0) (a .1) e, a .1 .tape, e), z))
 
       told-length : (σ : Choice) (s : State) (cs : List Call) → Plays h m w n σ k s cs → length (map told (run s cs)) ≡ suc k
@@ -290,7 +293,7 @@ module _ (lists : Claim) (able : Able closed) where
   chosen-from h q m w n σ τ alike k s s′ = (partners h q m w n σ τ alike k s s′, same-told h q m w n σ τ alike k s s′)
 
 pub chosen-hidden : ChosenClaim
-chosen-hidden = chosen-from (hidden .lists) able
+chosen-hidden = chosen-from (hidden .lists)
 
 -- ---- With demand 2
 
@@ -298,7 +301,7 @@ plays-plain : Array.Claim → (h : Shape) (m w n : ℕ) (σ : Choice) (k : ℕ) 
     (host : Host) → Honest host cs (run s cs) → (x : Expected) → Plain x cs (run s cs)
 unfolding run
 plays-plain array h m w n σ k s [] p host y x = tt
-plays-plain array h m w n σ k s (c ∷ cs) p host y x = list-plain array h m w n _ s (c ∷ cs) (chosen-lends (opened (first h m w n) σ) (c ∷ cs) [] s (p .chosen)) host y x
+plays-plain array h m w n σ k s (c ∷ cs) p host y x = list-plain array h m w n _ s (c ∷ cs) (chosen-lends (opened (first h m w n) σ) (c ∷ cs) [] s (p .chosen)) (p .loads) host y x
 
 pub chosen-together-from : Array.Claim → ChosenClaim → ChosenTogether
 chosen-together-from array chosen h q m w n σ τ alike k s s′ =
@@ -312,17 +315,18 @@ chosen-together = chosen-together-from plain-array chosen-hidden
 
 -- There are such runs: put the host's bytes into a run, and it is chosen as before, with the same tape, and the host is honest
 pub chosen-served : (h : Shape) (m w n : ℕ) (σ : Choice) (k : ℕ) (s : State) (cs : List Call) → Plays h m w n σ k s cs → (x : Slots) →
-    Plays h m w n σ k s (served x s cs) × (tapeIn s (served x s cs) ≡ tapeIn s cs) × Honest (record { last = x; has = x }) (served x s cs) (run s (served x s cs))
+    Plays h m w n σ k s (served x [] s cs) × (tapeIn s (served x [] s cs) ≡ tapeIn s cs) × Honest (record { last = x; has = x }) (served x [] s cs) (run s (served x [] s cs))
 unfolding run
 chosen-served h m w n σ k s [] p x = absurd (omega (arith, p .calls))
 chosen-served h m w n σ k s (c ∷ cs) p x =
     let a = opened (first h m w n) σ in
     let os = map told (run s (c ∷ cs)) in
-    let r = honest-run h m w n _ s (tapeIn s (c ∷ cs)) (c ∷ cs) (record { calls = chosen-lends a (c ∷ cs) [] s (p .chosen); short = p .short; tape = refl }) x in (
+    let r = honest-run h m w n _ s (tapeIn s (c ∷ cs)) (c ∷ cs) (record { calls = chosen-lends a (c ∷ cs) [] s (p .chosen); short = p .short; loads = p .loads; tape = refl }) x in (
       record {
-        calls = lends-length (along a [] os) (served x s (c ∷ cs)) (r .0 .calls) ∙ along-length a os [] ∙ length-run (c ∷ cs) s ∙ p .calls;
+        calls = lends-length (along a [] os) (served x [] s (c ∷ cs)) (r .0 .calls) ∙ along-length a os [] ∙ length-run (c ∷ cs) s ∙ p .calls;
         short = r .0 .short;
-        chosen = lends-chosen a (served x s (c ∷ cs)) [] s os (r .0 .calls) (r .1);
+        loads = r .0 .loads;
+        chosen = lends-chosen a (served x [] s (c ∷ cs)) [] s os (r .0 .calls) (r .1);
       },
       r .0 .tape,
       r .2,

@@ -2,8 +2,12 @@
 -- `hidden : Hiding` (Theorem.antt) is its proof.
 --
 -- The section, sentence by sentence:
---   "A list is an open .. and then requests, turns, completions and collects in any order and number": `first` with a list of `Lent`, each of
---     which `Alike` takes to be one of the four. "Refused ones included, also after a refused open": nothing asks for a call to be accepted.
+--   "A list is an open .. and then requests, turns, completions and collects in any order and number": `first` with a list of `Lent`, none of
+--     which `Alike` takes to be an open. "Refused ones included, also after a refused open": nothing asks for a call to be accepted.
+--   Document 02, P5: a list has saves and loads too (`saves`, `loads` of `Alike`). "The hiding goes on through a load if no call came between it and
+--     the save of its form; .. each of the two runs loads the form that it saved itself, whatever its length": a list says of a load only that it
+--     is one, and which form it is of is the run's own (`loads` of `Gives`, by rules' `Resumes`). Where the call just before it was no save, or
+--     was refused, there is no form: such a load, of no bytes, is refused and closes both runs.
 --   "On memory with any bytes": `Claim` and `Smaller` hold for any states s and s′ before the open.
 --   "Each later call gets the state and the memory as the last one left them": `run` of the rules. "Lent too little of that memory, it replies
 --     2": `Lent` has the length of the memory that is lent to each call.
@@ -27,8 +31,9 @@
 --   "There is a matching: each tape of either list has exactly one partner among the other's": `Matching`. "With partners, the two runs have at
 --     each place the same number answered, the same count of words taken and, for a turn, the same command": `told`, the last lines of `Claim`.
 --     So partners are of one length (`long`), and with evenly drawn words as likely as each other.
---   "For the smaller cache ..": `Smaller`. The bytes brought may be any in either run (`tells`); with the same bytes in both, the bytes handed
---     out are equal too (`whole`).
+--   "For the smaller cache ..": `Smaller`, "with the smaller cache too, each of the two runs loads the form that it saved itself". The bytes
+--     brought may be any in either run (`tells`); with the same bytes in both, the bytes handed out are equal too (`whole`), but for those of a
+--     form, which has E in it.
 use mathlib.Core.Path.{_≡_}
 use mathlib.Core.Bool.{Bool, true, false, _&&_}
 use mathlib.Core.List.{List, [], _∷_, _++_, map}
@@ -38,19 +43,21 @@ use lib.Dec.{eqb}
 use Rattle.lists.specs.All.{All}
 use Rattle.lists.specs.Tests.{if_then_else_}
 use Rattle.rules.specs.Ranges.{isKind, bytesOf}
-use Rattle.rules.specs.Questions.{Ask, opening, request, turn, completion, collect, Call}
+use Rattle.rules.specs.Questions.{Ask, opening, request, turn, completion, collect, save, load, Call}
 use Rattle.rules.specs.Run.{Outcome, step, run}
 use Rattle.rules.specs.State.{State, Command}
-use Rattle.rules.specs.Laws.Answers.{opens}
+use Rattle.rules.specs.Resumes.{savedBy, Resumes, NoOpen}
 use Rattle.rules.specs.Shape.{Shape}
 
--- What a list says of what is asked: all but the bytes of a request's contents and of a completion, of which it has the length
+-- What a list says of what is asked: all but the bytes of a request's contents and of a completion, of which it has the length, and the form of a load
 pub data Outline : Type 0 where
   anOpen : Shape → Outline
   aRequest : ℕ → ℕ → ℕ → Outline  -- kind, block, length of the contents
   aTurn : Outline
   aCompletion : Command → ℕ → Outline  -- length of the bytes
   aCollect : Outline
+  aSave : Outline
+  aLoad : Outline
 
 abbrev pub outline : Ask → Outline
 outline (opening h) = anOpen h
@@ -58,6 +65,8 @@ outline (request k b bs) = aRequest k b (length bs)
 outline turn = aTurn
 outline (completion c bs) = aCompletion c (length bs)
 outline collect = aCollect
+outline save = aSave
+outline (load form) = aLoad
 
 -- A call of a list: what is asked, and the lengths lent. Neither bytes nor words are part of it
 pub record Lent : Type 0 where
@@ -89,6 +98,8 @@ pub data Alike (h : Shape) : Outline → Outline → Type 0 where
   turns : Alike h aTurn aTurn
   completions : {c : Command} {n : ℕ} → Alike h (aCompletion c n) (aCompletion c n)
   collects : Alike h aCollect aCollect
+  saves : Alike h aSave aSave
+  loads : Alike h aLoad aLoad
 
 -- .. lent as many words, with all other lengths equal
 pub record Same (h : Shape) (a b : Lent) : Type 0 where
@@ -123,6 +134,8 @@ isTurn (request k b bs) = false
 isTurn turn = true
 isTurn (completion c bs) = false
 isTurn collect = false
+isTurn save = false
+isTurn (load form) = false
 
 -- of a call "the words taken", of "a turn answered 3" "all words lent to" it, "and no more"
 unfoldable pub usedBy : Bool → List ℕ → ℕ → ℕ → List ℕ
@@ -139,10 +152,12 @@ tapeOf [] os = []
 tapeOf (c ∷ cs) [] = []
 tapeOf (c ∷ cs) (o ∷ os) = used c o ++ tapeOf cs os
 
--- these calls are the list's, lent words of 16 bits, and their run has this tape
+-- these calls are the list's, lent words of 16 bits, each load is of what the call just before it, a save, has put into its buffer, and their run has
+-- this tape
 pub record Gives (s : State) (as′ : List Lent) (t : List ℕ) (cs : List Call) : Type 0 where
   pub calls : Lends as′ cs
   pub short : Short cs
+  pub loads : Resumes [] cs (run s cs)
   pub tape : tapeOf cs (run s cs) ≡ t
 
 -- a list's tapes are those of its runs, whatever words are lent, whatever bytes are brought
@@ -181,14 +196,25 @@ Claim = (h : Shape) → h .E ≡ h .N → (m w n : ℕ) (as′ bs′ : List Lent
 
 -- ---- What a tape is to a caller who lends no word again that is the tape's
 
--- the calls ask this in turn; each is lent the next words of one flat tape, and those that it has not used up are lent again
-unfoldable pub serve : State → List Lent → List Ask → List ℕ → List Call
-serve s [] ks x = []
-serve s (a ∷ as′) [] x = []
-serve s (a ∷ as′) (k ∷ ks) x =
-    let c = lend a k (take (a .words) x) in
+-- what is asked, where a load is of this form
+abbrev pub loading : List ℕ → Ask → Ask
+loading form (opening h) = opening h
+loading form (request k b bs) = request k b bs
+loading form turn = turn
+loading form (completion c bs) = completion c bs
+loading form collect = collect
+loading form save = save
+loading form (load x) = load form
+
+-- the calls ask this in turn, a load with what the call just before it has saved; each is lent the next words of one flat tape, and those that it has
+-- not used up are lent again
+unfoldable pub serve : State → List ℕ → List Lent → List Ask → List ℕ → List Call
+serve s form [] ks x = []
+serve s form (a ∷ as′) [] x = []
+serve s form (a ∷ as′) (k ∷ ks) x =
+    let c = lend a (loading form k) (take (a .words) x) in
     let r = step s c in
-    c ∷ serve (r .0) as′ ks (drop (length (used c (r .1))) x)
+    c ∷ serve (r .0) (savedBy (c .ask) (r .1)) as′ ks (drop (length (used c (r .1))) x)
 
 -- as many words as a list can be lent
 abbrev pub most : List Lent → ℕ
@@ -198,10 +224,10 @@ most (a ∷ as′) = a .words + most as′
 pub record Tapes : Type 0 where
   -- a flat tape that is long enough begins with a tape of the list, which is what such a caller's run has used up, whatever bytes are brought
   pub served : (s : State) (as′ : List Lent) (ks : List Ask) (x : List ℕ) → map outline ks ≡ map (λ (a : Lent). a .ask) as′ → ShortWords x → most as′ ≤ length x →
-      (t : List ℕ) × ((y : List ℕ) × ((x ≡ t ++ y) × Gives s as′ t (serve s as′ ks x)))
+      (t : List ℕ) × ((y : List ℕ) × ((x ≡ t ++ y) × Gives s as′ t (serve s [] as′ ks x)))
   -- words that give a tape give it whatever bytes are brought
-  pub given : (s : State) (as′ : List Lent) (t : List ℕ) (cs : List Call) → Gives s as′ t cs →
-      (ds : List Call) → Lends as′ ds → wordsIn ds ≡ wordsIn cs → Gives s as′ t ds
+  pub given : (h : Shape) (m w n : ℕ) (as′ : List Lent) (s : State) (t : List ℕ) (cs : List Call) → Gives s (first h m w n ∷ as′) t cs →
+      (ds : List Call) → Lends (first h m w n ∷ as′) ds → wordsIn ds ≡ wordsIn cs → Resumes [] ds (run s ds) → Gives s (first h m w n ∷ as′) t ds
   -- no tape of a list begins with another
   pub alone : (h : Shape) (m w n : ℕ) (as′ : List Lent) (s : State) (t u x y : List ℕ) →
       Tape s (first h m w n ∷ as′) t → Tape s (first h m w n ∷ as′) u → t ++ x ≡ u ++ y → t ≡ u
@@ -217,11 +243,6 @@ pub record Tapes : Type 0 where
 
 -- ---- The smaller cache: the requests may be any
 
--- calls after the open: none is another
-abbrev pub NoOpen : List Call → Type 0
-NoOpen [] = Unit {0}
-NoOpen (c ∷ cs) = (opens (c .ask) ≡ false) × NoOpen cs
-
 abbrev pub withCache : ℕ → Shape → Shape
 withCache e h = record { N = h .N; P = h .P; L = h .L; B = h .B; E = e; W = h .W }
 
@@ -229,16 +250,35 @@ withCache e h = record { N = h .N; P = h .P; L = h .L; B = h .B; E = e; W = h .W
 abbrev pub openOver : ℕ → Shape → ℕ → List ℕ → ℕ → Call
 openOver e h m ws n = record { ask = opening (withCache e h); memory = m; words = ws; buffer = n }
 
--- the same call with the same words; of contents and bytes but the lengths are equal
-pub record Twin (c d : Call) : Type 0 where
-  pub ask : outline (c .ask) ≡ outline (d .ask)
+-- calls after the open: none is another
+abbrev pub NoOpens : List Call → Type 0
+NoOpens cs = All (λ (c : Call). NoOpen (c .ask)) cs
+
+-- the same call with the same words; of what is asked, what f has of it is equal
+pub record Twin {A : Type 0} (f : Ask → A) (c d : Call) : Type 0 where
+  pub ask : f (c .ask) ≡ f (d .ask)
   pub memory : c .memory ≡ d .memory
   pub words : c .words ≡ d .words
   pub buffer : c .buffer ≡ d .buffer
 
-pub data Twins : List Call → List Call → Type 0 where
-  none : Twins [] []
-  more : {c d : Call} {cs ds : List Call} → Twin c d → Twins cs ds → Twins (c ∷ cs) (d ∷ ds)
+pub data Twins {A : Type 0} (f : Ask → A) : List Call → List Call → Type 0 where
+  none : Twins f [] []
+  more : {c d : Call} {cs ds : List Call} → Twin f c d → Twins f cs ds → Twins f (c ∷ cs) (d ∷ ds)
+
+-- an outcome, but for the bytes of the form that a save has put into its buffer
+abbrev pub withoutForm : Ask → Outcome → Outcome
+withoutForm (opening h) o = o
+withoutForm (request k b bs) o = o
+withoutForm turn o = o
+withoutForm (completion c bs) o = o
+withoutForm collect o = o
+withoutForm save o = record { number = o .number; taken = o .taken; command = o .command; bytes = []; found = o .found }
+withoutForm (load form) o = o
+
+abbrev pub withoutForms : List Call → List Outcome → List Outcome
+withoutForms [] os = []
+withoutForms (c ∷ cs) [] = []
+withoutForms (c ∷ cs) (o ∷ os) = withoutForm (c .ask) o ∷ withoutForms cs os
 
 -- What f has of the outcomes is equal at each place before the first 8 of the second run, or everywhere if it has none
 pub data AgreeUntil8 {A : Type 0} (f : Outcome → A) : List Outcome → List Outcome → Type 0 where
@@ -246,14 +286,18 @@ pub data AgreeUntil8 {A : Type 0} (f : Outcome → A) : List Outcome → List Ou
   full : {x y : Outcome} {xs ys : List Outcome} → y .number ≡ 8 → AgreeUntil8 f (x ∷ xs) (y ∷ ys)
   equal : {x y : Outcome} {xs ys : List Outcome} → f x ≡ f y → AgreeUntil8 f xs ys → AgreeUntil8 f (x ∷ xs) (y ∷ ys)
 
--- The same list with the same words, once with E equal to N and once with any E from 1 to N − 1
+-- The same list with the same words, once with E equal to N and once with any E from 1 to N − 1; each run loads what it has saved itself
 pub record Smaller : Type 0 where
   -- whatever bytes are brought in either run: what is told
-  pub tells : (h : Shape) (e : ℕ) → 1 ≤ e → e < h .N → (m n : ℕ) (ws : List ℕ) (cs ds : List Call) → NoOpen cs → Twins cs ds → (s s′ : State) →
-      AgreeUntil8 told (run s (openOver (h .N) h m ws n ∷ cs)) (run s′ (openOver e h m ws n ∷ ds))
-  -- the same bytes in both: the bytes handed out too
-  pub whole : (h : Shape) (e : ℕ) → 1 ≤ e → e < h .N → (m n : ℕ) (ws : List ℕ) (cs : List Call) → NoOpen cs → (s s′ : State) →
-      AgreeUntil8 (λ o. o) (run s (openOver (h .N) h m ws n ∷ cs)) (run s′ (openOver e h m ws n ∷ cs))
+  pub tells : (h : Shape) (e : ℕ) → 1 ≤ e → e < h .N → (m n : ℕ) (ws : List ℕ) (cs ds : List Call) → NoOpens cs → Twins outline cs ds → (s s′ : State) →
+      let A = openOver (h .N) h m ws n ∷ cs in
+      let B = openOver e h m ws n ∷ ds in
+      Resumes [] A (run s A) → Resumes [] B (run s′ B) → AgreeUntil8 told (run s A) (run s′ B)
+  -- the same bytes in both, but for the forms that are loaded: the bytes handed out too, but for the forms that are saved
+  pub whole : (h : Shape) (e : ℕ) → 1 ≤ e → e < h .N → (m n : ℕ) (ws : List ℕ) (cs ds : List Call) → NoOpens cs → Twins (loading []) cs ds → (s s′ : State) →
+      let A = openOver (h .N) h m ws n ∷ cs in
+      let B = openOver e h m ws n ∷ ds in
+      Resumes [] A (run s A) → Resumes [] B (run s′ B) → AgreeUntil8 (λ o. o) (withoutForms A (run s A)) (withoutForms B (run s′ B))
 
 -- Demand 3
 pub record Hiding : Type 0 where

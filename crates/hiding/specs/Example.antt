@@ -5,31 +5,34 @@
 -- its last draw is settled, as 65,535 is passed over below 3. In either list each of the four slots of level 1 is read with twelve of the
 -- choices. Both lists go on with a completion of that read as one of slot 2, and a collect: they are accepted with those twelve choices and
 -- refused with the others. All else is the same.
+-- Saved and loaded before the second request, the two lists are told the same as before.
 -- With an honest host, the bytes that a read brings depend on the tape. What is told is the same as if it brought zeros, and where the second
 -- request is collected, the first list's hands out the 7 that it wrote, and the second's a 0.
-use mathlib.Core.Path.{_≡_, refl}
-use mathlib.Core.Bool.{Bool, true}
+use mathlib.Core.Path.{_≡_, refl, sym}
+use mathlib.Core.Bool.{Bool, true, false, not, true≢false}
 use mathlib.Core.List.{List, [], _∷_, _++_, map}
-use Prim.Native.Nat.{ℕ, _+_, _<_}
+use Prim.Native.Nat.{ℕ, _<_}
 use native.Mathlib.Omega.{arith}
-use lib.ListN.{length, getD}
+use lib.ListN.{length, getD, take, drop}
 use lib.Dec.{eqb, ltb}
 use borrow.Author.Tests.{ltb-true}
-use Rattle.lists.specs.All.{all-yes, all-map}
+use Rattle.lists.specs.All.{All, nil, cons, all-yes, all-map}
 use Rattle.lists.specs.Search.{keep, all, below}
 use Rattle.lists.specs.Tests.{if_then_else_, between}
-use Rattle.rules.specs.Questions.{Ask, opening, request, turn, completion, collect, Call}
+use Rattle.rules.specs.Questions.{Ask, opening, request, turn, completion, collect, save, load, Call}
 use Rattle.rules.specs.Unfold.{model, shape, call}
-use Rattle.rules.specs.State.{Command, cmd, read, write, closed}
-use Rattle.rules.specs.Run.{Outcome, run}
+use Rattle.rules.specs.State.{State, Command, cmd, read, write, closed}
+use Rattle.rules.specs.Resumes.{savedBy, OfLast, Resumes}
+use Rattle.rules.specs.Run.{Outcome, step, run}
 use Rattle.rules.specs.Ranges.{isKind, bytesOf}
 use Rattle.rules.specs.Shape.{Shape}
 use Rattle.rules.specs.Draws.{newOrder}
+use Rattle.hiding.specs.Lists.Served.{loading-outline, loading-last}
 use Rattle.hiding.specs.Theorem.{hidden}
 use Rattle.hiding.specs.Claim
 use Rattle.array.specs.Claim.{Slots, store, sends as hostSends}
 use Rattle.array.specs.Served.{fit, brings, served}
-use Rattle.hiding.specs.Claim.{Outline, aTurn, aCompletion, aCollect, outline, Lent, first, WellFormed, Alike, wellFormed, turns, completions, collects, Same, Compared, Tape, Lends, Short, isTurn, usedBy, tapeOf, told, Matching}
+use Rattle.hiding.specs.Claim.{Outline, aTurn, aCompletion, aCollect, aSave, aLoad, outline, loading, Lent, first, WellFormed, Alike, wellFormed, turns, completions, collects, saves, loads, Same, Compared, Tape, Lends, Short, isTurn, usedBy, tapeOf, told, Matching}
 
 abbrev two : Shape
 two = shape 2 1 2 1 2 1
@@ -63,21 +66,31 @@ many k = if eqb k read then 1 else 0
 abbrev brought : ℕ → List ℕ
 brought k = if eqb k read then 0 ∷ [] else []
 
--- the jobs and then the second request, r, with its turn, a completion and a collect
-unfoldable pub calls : Ask → List Sends → List Call
-calls r [] = call r 1000 (0 ∷ 0 ∷ []) 0 ∷ call turn 1000 [] 1 ∷ call (completion (cmd read 0 1 2) (0 ∷ [])) 1000 [] 0 ∷ call collect 1000 [] 1 ∷ []
-calls r (x ∷ xs) = call turn 1000 (x .words) 1 ∷ call (completion (x .command) (brought (x .command .kind))) 1000 [] 0 ∷ calls r xs
+-- the second request, r, with its turn, a completion and a collect
+abbrev ending : Ask → List Call
+ending r = call r 1000 (0 ∷ 0 ∷ []) 0 ∷ call turn 1000 [] 1 ∷ call (completion (cmd read 0 1 2) (0 ∷ [])) 1000 [] 0 ∷ call collect 1000 [] 1 ∷ []
 
-unfoldable pub list : Outline → List Sends → List Lent
-list r [] = lent r 2 0 ∷ lent aTurn 0 1 ∷ lent (aCompletion (cmd read 0 1 2) 1) 0 0 ∷ lent aCollect 0 1 ∷ []
-list r (x ∷ xs) = lent aTurn (length (x .words)) 1 ∷ lent (aCompletion (x .command) (many (x .command .kind))) 0 0 ∷ list r xs
+abbrev endingList : Outline → List Lent
+endingList r = lent r 2 0 ∷ lent aTurn 0 1 ∷ lent (aCompletion (cmd read 0 1 2) 1) 0 0 ∷ lent aCollect 0 1 ∷ []
+
+-- the jobs and then these calls
+unfoldable pub calls : List Call → List Sends → List Call
+calls cs [] = cs
+calls cs (x ∷ xs) = call turn 1000 (x .words) 1 ∷ call (completion (x .command) (brought (x .command .kind))) 1000 [] 0 ∷ calls cs xs
+
+unfoldable pub list : List Lent → List Sends → List Lent
+list as′ [] = as′
+list as′ (x ∷ xs) = lent aTurn (length (x .words)) 1 ∷ lent (aCompletion (x .command) (many (x .command .kind))) 0 0 ∷ list as′ xs
 
 -- the list after its open, and its run with these draws
 abbrev later : Ask → Ask → List Lent
-later r₁ r₂ = lent (outline r₁) 2 0 ∷ lent aCollect 0 1 ∷ list (outline r₂) (jobs 0 0 0 0)
+later r₁ r₂ = lent (outline r₁) 2 0 ∷ lent aCollect 0 1 ∷ list (endingList (outline r₂)) (jobs 0 0 0 0)
+
+abbrev begins : Ask → List Call → ℕ → ℕ → ℕ → ℕ → List Call
+begins r cs j a b c = call (opening two) 1000 (0 ∷ 0 ∷ []) 0 ∷ call r 1000 (0 ∷ 0 ∷ []) 0 ∷ call collect 1000 [] 1 ∷ calls cs (jobs j a b c)
 
 abbrev runs : Ask → Ask → ℕ → ℕ → ℕ → ℕ → List Call
-runs r₁ r₂ j a b c = call (opening two) 1000 (0 ∷ 0 ∷ []) 0 ∷ call r₁ 1000 (0 ∷ 0 ∷ []) 0 ∷ call collect 1000 [] 1 ∷ calls r₂ (jobs j a b c)
+runs r₁ r₂ j a b c = begins r₁ (ending r₂) j a b c
 
 -- the two lists' requests
 abbrev a₁ : Ask
@@ -100,18 +113,26 @@ well k b n x y z = record { kind = x; block = y; contents = z }
 same : (a b : Outline) (w n : ℕ) → Alike two a b → Same two (lent a w n) (lent b w n)
 same a b w n k = record { ask = k; memory = refl; words = refl; buffer = refl }
 
-rest-compared : (r q : Outline) → Alike two r q → (xs : List Sends) → Compared two (list r xs) (list q xs)
+ends-compared : (r q : Outline) → Alike two r q → Compared two (endingList r) (endingList q)
+ends-compared r q k = Claim.more (same r q 2 0 k) (Claim.more (same aTurn aTurn 0 1 turns) (Claim.more (same _ _ 0 0 completions) (Claim.more (same aCollect aCollect 0 1 collects) Claim.none)))
+
+rest-compared : (as′ bs′ : List Lent) → Compared two as′ bs′ → (xs : List Sends) → Compared two (list as′ xs) (list bs′ xs)
 unfolding list
-rest-compared r q k [] =
-    Claim.more (same r q 2 0 k) (Claim.more (same aTurn aTurn 0 1 turns) (Claim.more (same _ _ 0 0 completions) (Claim.more (same aCollect aCollect 0 1 collects) Claim.none)))
-rest-compared r q k (x ∷ xs) = Claim.more (same aTurn aTurn _ 1 turns) (Claim.more (same _ _ 0 0 completions) (rest-compared r q k xs))
+rest-compared as′ bs′ k [] = k
+rest-compared as′ bs′ k (x ∷ xs) = Claim.more (same aTurn aTurn _ 1 turns) (Claim.more (same _ _ 0 0 completions) (rest-compared as′ bs′ k xs))
+
+first-alike : Alike two (outline a₁) (outline b₁)
+unfolding isKind between bytesOf
+first-alike = wellFormed (well write 0 1 refl (omega arith) refl) (well read 1 0 refl (omega arith) refl)
+
+second-alike : Alike two (outline a₂) (outline b₂)
+unfolding isKind between bytesOf
+second-alike = wellFormed (well read 0 0 refl (omega arith) refl) (well write 0 1 refl (omega arith) refl)
 
 pub compared : Compared two (later a₁ a₂) (later b₁ b₂)
-unfolding isKind between bytesOf
 compared =
-    Claim.more (same (outline a₁) (outline b₁) 2 0 (wellFormed (well write 0 1 refl (omega arith) refl) (well read 1 0 refl (omega arith) refl)))
-    (Claim.more (same aCollect aCollect 0 1 collects)
-    (rest-compared (outline a₂) (outline b₂) (wellFormed (well read 0 0 refl (omega arith) refl) (well write 0 1 refl (omega arith) refl)) (jobs 0 0 0 0)))
+    Claim.more (same (outline a₁) (outline b₁) 2 0 first-alike)
+    (Claim.more (same aCollect aCollect 0 1 collects) (rest-compared (endingList (outline a₂)) (endingList (outline b₂)) (ends-compared (outline a₂) (outline b₂) second-alike) (jobs 0 0 0 0)))
 
 -- ---- their tapes
 
@@ -127,13 +148,41 @@ each f = join (map (λ j. join (map (λ a. join (map (λ b. map (λ c. f j a b c
 abbrev tape : ℕ → ℕ → ℕ → ℕ → List ℕ
 tape j a b c = 0 ∷ 0 ∷ 0 ∷ 0 ∷ j ∷ a ∷ 65535 ∷ 1 ∷ a ∷ 65535 ∷ b ∷ c ∷ 0 ∷ 0 ∷ []
 
-lends : (r₁ r₂ : Ask) (j a b c : ℕ) → Lends (first two 1000 2 0 ∷ later r₁ r₂) (runs r₁ r₂ j a b c)
-unfolding list calls
-lends r₁ r₂ j a b c =
-    Claim.more refl refl (Claim.more refl refl (Claim.more refl refl (Claim.more refl refl (Claim.more refl refl (Claim.more refl refl (Claim.more refl refl
-    (Claim.more refl refl (Claim.more refl refl (Claim.more refl refl (Claim.more refl refl (Claim.more refl refl (Claim.more refl refl (Claim.more refl refl
-    (Claim.more refl refl (Claim.more refl refl (Claim.more refl refl (Claim.more refl refl (Claim.more refl refl (Claim.more refl refl (Claim.more refl refl
-    (Claim.more refl refl (Claim.more refl refl (Claim.more refl refl (Claim.more refl refl Claim.none))))))))))))))))))))))))
+-- the list of some calls
+abbrev lentOf : Call → Lent
+lentOf c = record { ask = outline (c .ask); memory = c .memory; words = length (c .words); buffer = c .buffer }
+
+lends : (cs : List Call) → Lends (map lentOf cs) cs
+lends [] = Claim.none
+lends (c ∷ cs) = Claim.more refl refl (lends cs)
+
+-- without loads there is none to be of another form
+isLoad : Ask → Bool
+isLoad (opening h) = false
+isLoad (request k b bs) = false
+isLoad turn = false
+isLoad (completion c bs) = false
+isLoad collect = false
+isLoad save = false
+isLoad (load form) = true
+
+loadless : (cs : List Call) → all (λ (c : Call). not (isLoad (c .ask))) cs ≡ true → (y : List ℕ) (os : List Outcome) → Resumes y cs os
+unfolding isLoad
+loadless cs e = every cs (all-yes (λ (c : Call). not (isLoad (c .ask))) cs e)
+  where
+    one : (y : List ℕ) (a : Ask) → not (isLoad a) ≡ true → OfLast y a
+    one y (opening h) e = tt
+    one y (request k b bs) e = tt
+    one y turn e = tt
+    one y (completion c bs) e = tt
+    one y collect e = tt
+    one y save e = tt
+    one y (load form) e = absurd (true≢false (sym e))
+
+    every : (cs : List Call) → All (λ (c : Call). not (isLoad (c .ask)) ≡ true) cs → (y : List ℕ) (os : List Outcome) → Resumes y cs os
+    every [] nil y os = tt
+    every (c ∷ cs) p y [] = tt
+    every (c ∷ cs) (cons p q) y (o ∷ os) = (one y (c .ask) p, every cs q (savedBy (c .ask) o) os)
 
 -- words of 16 bits, computed
 isShort : Call → Bool
@@ -148,17 +197,17 @@ abbrev Two : Ask → Ask → Type 0
 Two r₁ r₂ = Tape closed (first two 1000 2 0 ∷ later r₁ r₂) (tape 0 0 0 0) × Tape closed (first two 1000 2 0 ∷ later r₁ r₂) (tape 1 3 2 1)
 
 pub tapes-first : Two a₁ a₂
-unfolding model calls usedBy tapeOf isShort isTurn
+unfolding model calls list usedBy tapeOf isShort isLoad isTurn
 tapes-first = (
-  (runs a₁ a₂ 0 0 0 0, record { calls = lends a₁ a₂ 0 0 0 0; short = short (runs a₁ a₂ 0 0 0 0) refl; tape = refl }),
-  (runs a₁ a₂ 1 3 2 1, record { calls = lends a₁ a₂ 1 3 2 1; short = short (runs a₁ a₂ 1 3 2 1) refl; tape = refl }),
+  (runs a₁ a₂ 0 0 0 0, record { calls = lends (runs a₁ a₂ 0 0 0 0); short = short (runs a₁ a₂ 0 0 0 0) refl; loads = loadless (runs a₁ a₂ 0 0 0 0) refl [] (run closed (runs a₁ a₂ 0 0 0 0)); tape = refl }),
+  (runs a₁ a₂ 1 3 2 1, record { calls = lends (runs a₁ a₂ 1 3 2 1); short = short (runs a₁ a₂ 1 3 2 1) refl; loads = loadless (runs a₁ a₂ 1 3 2 1) refl [] (run closed (runs a₁ a₂ 1 3 2 1)); tape = refl }),
 )
 
 pub tapes-second : Two b₁ b₂
-unfolding model calls usedBy tapeOf isShort isTurn
+unfolding model calls list usedBy tapeOf isShort isLoad isTurn
 tapes-second = (
-  (runs b₁ b₂ 0 0 0 0, record { calls = lends b₁ b₂ 0 0 0 0; short = short (runs b₁ b₂ 0 0 0 0) refl; tape = refl }),
-  (runs b₁ b₂ 1 3 2 1, record { calls = lends b₁ b₂ 1 3 2 1; short = short (runs b₁ b₂ 1 3 2 1) refl; tape = refl }),
+  (runs b₁ b₂ 0 0 0 0, record { calls = lends (runs b₁ b₂ 0 0 0 0); short = short (runs b₁ b₂ 0 0 0 0) refl; loads = loadless (runs b₁ b₂ 0 0 0 0) refl [] (run closed (runs b₁ b₂ 0 0 0 0)); tape = refl }),
+  (runs b₁ b₂ 1 3 2 1, record { calls = lends (runs b₁ b₂ 1 3 2 1); short = short (runs b₁ b₂ 1 3 2 1) refl; loads = loadless (runs b₁ b₂ 1 3 2 1) refl [] (run closed (runs b₁ b₂ 1 3 2 1)); tape = refl }),
 )
 
 -- and the tapes of the two lists are matched
@@ -213,7 +262,7 @@ abbrev unknown : Slots
 unknown q ℓ i = 255 ∷ []
 
 abbrev honestly : Ask → Ask → ℕ → ℕ → ℕ → ℕ → List Call
-honestly r₁ r₂ j a b c = served unknown closed (runs r₁ r₂ j a b c)
+honestly r₁ r₂ j a b c = served unknown [] closed (runs r₁ r₂ j a b c)
 
 -- what is told, and what the last call, the second collect, hands out
 abbrev seen : List Outcome → List (ℕ × ℕ × Command) × List ℕ
@@ -229,3 +278,58 @@ pub honest-second : each (λ j a b c. seen (run closed (honestly b₁ b₂ j a b
     ≡ each (λ j a b c. (shows (slotOf 1 j a b c), if eqb (slotOf 1 j a b c) 2 then 0 ∷ [] else []))
 unfolding model calls served brings fit hostSends store
 honest-second = refl
+
+-- ---- saved and loaded before the second request
+
+-- each run loads the form that it has saved itself
+unfoldable pub resuming : State → List ℕ → List Call → List Call
+resuming s form [] = []
+resuming s form (c ∷ cs) =
+    let d : Call = record { ask = loading form (c .ask); memory = c .memory; words = c .words; buffer = c .buffer } in
+    let r : State × Outcome = step s d in
+    d ∷ resuming (r .0) (savedBy (d .ask) (r .1)) cs
+
+abbrev stopped : Ask → Ask → ℕ → ℕ → ℕ → ℕ → List Call
+stopped r₁ r₂ j a b c = resuming closed [] (begins r₁ (call save 1000 [] 512 ∷ call (load []) 1000 [] 0 ∷ ending r₂) j a b c)
+
+abbrev stoppedList : Ask → Ask → List Lent
+stoppedList r₁ r₂ = lent (outline r₁) 2 0 ∷ lent aCollect 0 1 ∷ list (lent aSave 0 512 ∷ lent aLoad 0 0 ∷ endingList (outline r₂)) (jobs 0 0 0 0)
+
+-- what both are told: the save and the load are accepted, and all else is as it was; of the choices of draws, four
+abbrev showsStopped : ℕ → List (ℕ × ℕ × Command)
+showsStopped i = let os = shows i in take 21 os ++ ((0, 0, zeros) ∷ (0, 0, zeros) ∷ drop 21 os)
+
+pub stopped-first : map (λ a. map told (run closed (stopped a₁ a₂ 1 a 2 1))) (below 4) ≡ map (λ a. showsStopped (slotOf 0 1 a 2 1)) (below 4)
+unfolding model calls resuming savedBy
+stopped-first = refl
+
+pub stopped-second : map (λ a. map told (run closed (stopped b₁ b₂ 1 a 2 1))) (below 4) ≡ map (λ a. showsStopped (slotOf 1 1 a 2 1)) (below 4)
+unfolding model calls resuming savedBy
+stopped-second = refl
+
+-- these lists are compared too, and their tapes are matched
+pub stopped-compared : Compared two (stoppedList a₁ a₂) (stoppedList b₁ b₂)
+stopped-compared =
+    Claim.more (same (outline a₁) (outline b₁) 2 0 first-alike)
+    (Claim.more (same aCollect aCollect 0 1 collects)
+    (rest-compared _ _ (Claim.more (same aSave aSave 0 512 saves) (Claim.more (same aLoad aLoad 0 0 loads) (ends-compared (outline a₂) (outline b₂) second-alike))) (jobs 0 0 0 0)))
+
+pub stopped-matching : Matching (Tape closed (first two 1000 2 0 ∷ stoppedList a₁ a₂)) (Tape closed (first two 1000 2 0 ∷ stoppedList b₁ b₂))
+stopped-matching = hidden .lists two refl 1000 2 0 (stoppedList a₁ a₂) (stoppedList b₁ b₂) stopped-compared closed closed .0
+
+-- the runs are of these lists
+resuming-lends : (cs : List Call) (s : State) (form : List ℕ) → Lends (map lentOf cs) (resuming s form cs)
+unfolding resuming
+resuming-lends [] s form = Claim.none
+resuming-lends (c ∷ cs) s form = Claim.more (loading-outline form (c .ask)) refl (resuming-lends cs _ _)
+
+resuming-loads : (cs : List Call) (s : State) (form : List ℕ) → Resumes form (resuming s form cs) (run s (resuming s form cs))
+unfolding resuming run
+resuming-loads [] s form = tt
+resuming-loads (c ∷ cs) s form = (loading-last form (c .ask), resuming-loads cs _ _)
+
+pub stopped-tape : Tape closed (first two 1000 2 0 ∷ stoppedList a₁ a₂) (tape 1 3 2 1)
+unfolding model calls list resuming savedBy usedBy tapeOf isShort isTurn
+stopped-tape =
+    let cs = begins a₁ (call save 1000 [] 512 ∷ call (load []) 1000 [] 0 ∷ ending a₂) 1 3 2 1 in
+    (resuming closed [] cs, record { calls = resuming-lends cs closed []; short = short (resuming closed [] cs) refl; loads = resuming-loads cs closed []; tape = refl })

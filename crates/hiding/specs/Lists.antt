@@ -1,6 +1,10 @@
--- What bytes a call has matters to nothing that is told; a list with its bytes
-pub mod Bytes
+-- A list with its bytes; what its saves have written, and what a load of it brings
 pub mod Fixed
+pub mod Saves
+pub mod Reloads
+-- What bytes a call has matters to nothing that is told
+pub mod Bytes
+pub mod Twins
 -- One call with numbers for words, as the machine of the rules has it
 pub mod Calls
 -- One call with words: a word is a quotient and a number; what the call's number depends on, what it does, what it uses up

@@ -1,12 +1,31 @@
 -- Every state that calls left has what the stages need: the crate `reachable` gives it.
-use mathlib.Core.Path.{_≡_, refl, ap, sym, _∙_, subst}
-use mathlib.Core.Bool.{true, _||_}
+use mathlib.Core.Path.{_≡_, refl, ap, sym, _∙_, subst, fun-ext}
+use mathlib.Core.Bool.{true, _||_, Bool, false, _&&_, true≢false}
 use mathlib.Core.Option.{some}
 use Prim.Native.Nat.{ℕ, suc, _<_}
 use native.Mathlib.Omega.{arith}
-use lib.ListN.{length, replicate}
-use lib.Dec.{ltb}
-use Rattle.lists.specs.Search.{member}
+use lib.ListN.{length, replicate, length-replicate}
+use lib.Dec.{ltb, eqb}
+use Rattle.lists.specs.Search.{member, keep, below, keep-no}
+use mathlib.Core.List.{List, [], _∷_, map}
+use borrow.Author.Tests.{ne-eqb, ltb-true, eqb-true}
+use Rattle.matching.specs.Keyed.{Key}
+use Rattle.rules.specs.Form.Loading.{loads, loadedForm}
+use Rattle.rules.specs.Form.Payload.{savedForm}
+use Rattle.rules.specs.Run.{act, perform}
+use Rattle.rules.specs.Questions.{bounds, number, questions, save, load, request}
+use Rattle.rules.specs.Draws.{Drew}
+use Rattle.rules.specs.Levels.{filled}
+use Rattle.rules.specs.Laws.Form.Saveable.{Saveable}
+use Rattle.rules.specs.Laws.Form.Back.{contentsOf, ordersIn, over-in, agrees, saved-summed, saved-loads, saved-back}
+use Rattle.rules.specs.Laws.Form.Fits.{form-fits}
+use Rattle.rules.specs.Laws.Shapes.{act-shape}
+use Rattle.rules.specs.Laws.Layout.{cell-inj}
+use Rattle.rules.specs.Laws.Orders.{drew-length}
+use Rattle.lists.specs.Places.{map-same}
+use Rattle.lists.specs.Members.{mem-below}
+use Rattle.lists.specs.All.{All, nil, cons, map-below}
+use Rattle.lists.specs.Tests.{if_then_else_}
 use Rattle.rules.specs.Laws.Range.{facts-range}
 use Rattle.rules.specs.Collect.{finished}
 use Rattle.rules.specs.Laws.Kept.{fresh-in}
@@ -14,9 +33,8 @@ use Rattle.rules.specs.Request.{slotIn}
 use Rattle.rules.specs.Levels
 use Rattle.rules.specs.Laws.Decided.{decide-in}
 use Rattle.rules.specs.Turn.{readForRequest, rebuild, decide}
-use Rattle.rules.specs.State.{State, Request, stored, closed}
-use Rattle.rules.specs.Laws.Answers.{accepted-passed}
-use Rattle.rules.specs.Run.{after}
+use Rattle.rules.specs.State.{State, Request, stored}
+use Rattle.rules.specs.Laws.Answers.{accepted-passed, opens, Passed}
 use Rattle.rules.specs.Rebuild
 use Rattle.rules.specs.Rebuild.{gathered}
 use Rattle.rules.specs.Shape.{Shape, slots, cell}
@@ -24,14 +42,17 @@ use Rattle.reachable.specs.Decided.{RequestReads, Rebuilds, decided}
 use Rattle.reachable.specs.Invariant.{Reached}
 use Rattle.reachable.specs.Consequences.{finished-read, request-unread, slot-own, sources-read}
 use Rattle.reachable.specs.Kept.Open.{fresh-kept}
-use Rattle.reachable.specs.Reached.{shut, act-kept, was-reached, after-was}
+use Rattle.reachable.specs.Reached.{act-kept, brings-other, save-passed, nothing-loads}
+use Rattle.rules.specs.Laws.Released.{release-none}
+use Rattle.rules.specs.Laws.Asked.{loaded-idle}
 use Rattle.reachable.specs.Never.{always-possible, room-or-waits}
 use Rattle.reachable.specs.Slots.{gathered-stored, chosen-stored}
-use Rattle.hiding.specs.Unchanged.{act-shape, fresh-shape}
-use Rattle.hiding.specs.Machines.Public.{ask}
+use Rattle.hiding.specs.Unchanged.{fresh-shape}
+use Rattle.hiding.specs.Machines.Public.{ask, Later, later-request, later-turn, later-completion, later-collect, later-save, later-reload, saving, saved, openIn}
 use Rattle.hiding.specs.Machines.Middle.{gatheredM, chosenM}
-use Rattle.hiding.specs.Machines.Rules.{called}
-use Rattle.hiding.specs.Machines.Needs.{Reachable, Able}
+use Rattle.hiding.specs.Machines.Rules.{called, numberR, slotsIn, itemSlots}
+use Rattle.hiding.specs.Machines.Needs.{Reachable}
+use Rattle.reachable.specs.Saved.{Rests, rest-facts, saveable, loaded-kept}
 
 module _ (s : State) (f : Reached s) where
   -- the read that a turn decides on is for the request in hand
@@ -79,14 +100,92 @@ room-for h s b f e q l =
     subst (λ (h′ : Shape). (ltb (length (s .waiting)) (h′ .E) || member b (s .waiting)) ≡ true) e
     (room-or-waits s f (subst (λ (h′ : Shape). h′ .E ≡ h′ .N) (sym e) q) b (subst (λ (h′ : Shape). b < h′ .N) (sym e) l))
 
+-- ---- a load of what was saved just before
+
+module _ (s : State) (f : Reached s) (r : Rests s) where
+  abbrev v : Saveable s
+  v = saveable s f r
+
+  -- no slot of a level that is not filled is unread
+  unfilled : (q ℓ i : ℕ) → q < s .shape .P → ℓ < s .shape .L → i < slots ℓ → filled (s .counter q) ℓ ≡ false → eqb (s .mark (cell (s .shape) q ℓ i)) 1 ≡ false
+  unfilled q ℓ i hq hℓ hi e = ne-eqb (s .mark (cell (s .shape) q ℓ i)) 1 (λ z.
+      let d = v .marked (cell (s .shape) q ℓ i) (λ w. omega (arith, sym z ∙ w)) in
+      let c = cell-inj (s .shape) q (d .part) ℓ (d .level) i (d .slot) hℓ (d .inLevels) hi (d .inSlots) (d .isCell) in
+      true≢false (sym (d .isFilled) ∙ ap (λ x. filled (s .counter x) (d .level)) (sym (c .0)) ∙ ap (filled (s .counter q)) (sym (c .1)) ∙ e))
+
+  level-slots : (k : Key) → k .0 < s .shape .P → k .1 < s .shape .L → (b : Bool) → filled (s .counter (k .0)) (k .1) ≡ b
+      → keep (λ i. eqb (s .mark (cell (s .shape) (k .0) (k .1) i)) 1) (map (λ j. ordersIn s v (cell (s .shape) (k .0) (k .1) j)) (below (slots (k .1))))
+      ≡ keep (λ i. eqb (s .mark (cell (s .shape) (k .0) (k .1) i)) 1) (map (λ j. s .order (cell (s .shape) (k .0) (k .1) j)) (below (slots (k .1))))
+  level-slots k hq hℓ true e = ap (keep (λ i. eqb (s .mark (cell (s .shape) (k .0) (k .1) i)) 1))
+      (map-same _ _ (below (slots (k .1))) (λ j m. agrees s v .orders (k .0) (k .1) j hq hℓ e (mem-below (slots (k .1)) j m)))
+  level-slots k hq hℓ false e = none (ordersIn s v) (over-in s v .orders) ∙ sym (none (s .order) (f .range .orders))
+    where
+      gone : (xs : List ℕ) → All (λ i. i < slots (k .1)) xs → keep (λ i. eqb (s .mark (cell (s .shape) (k .0) (k .1) i)) 1) xs ≡ []
+      gone [] nil = unfold keep in refl
+      gone (x ∷ xs) (cons l t) = keep-no (λ i. eqb (s .mark (cell (s .shape) (k .0) (k .1) i)) 1) x xs (unfilled (k .0) (k .1) x hq hℓ l e) ∙ gone xs t
+
+      none : (o : ℕ → ℕ) → ((q ℓ i : ℕ) → q < s .shape .P → ℓ < s .shape .L → i < slots ℓ → o (cell (s .shape) q ℓ i) < slots ℓ)
+          → keep (λ i. eqb (s .mark (cell (s .shape) (k .0) (k .1) i)) 1) (map (λ j. o (cell (s .shape) (k .0) (k .1) j)) (below (slots (k .1)))) ≡ []
+      none o h = gone _ (map-below (λ i. i < slots (k .1)) (λ j. o (cell (s .shape) (k .0) (k .1) j)) (slots (k .1)) (λ j l. h (k .0) (k .1) j hq hℓ l))
+
+  slots-same : slotsIn (s .shape) (s .mark) (ordersIn s v) ≡ slotsIn (s .shape) (s .mark) (s .order)
+  unfolding openIn itemSlots
+  slots-same = fun-ext (λ k. go k (ltb (k .0) (s .shape .P)) (ltb (k .1) (s .shape .L)) refl refl)
+    where
+      go : (k : Key) (a b : Bool) → ltb (k .0) (s .shape .P) ≡ a → ltb (k .1) (s .shape .L) ≡ b
+          → (if a && b then keep (λ i. eqb (s .mark (cell (s .shape) (k .0) (k .1) i)) 1) (map (λ j. ordersIn s v (cell (s .shape) (k .0) (k .1) j)) (below (slots (k .1)))) else [])
+          ≡ (if a && b then keep (λ i. eqb (s .mark (cell (s .shape) (k .0) (k .1) i)) 1) (map (λ j. s .order (cell (s .shape) (k .0) (k .1) j)) (below (slots (k .1)))) else [])
+      go k true true x y = level-slots k (ltb-true (k .0) (s .shape .P) x) (ltb-true (k .1) (s .shape .L) y) (filled (s .counter (k .0)) (k .1)) refl
+      go k true false x y = refl
+      go k false b x y = refl
+
+-- what a load of what was saved brings
+reload-kept : (s : State) → Reached s → (m n : ℕ) → loads (saved s m n) ≡ true → Reached (loadedForm (saved s m n)) × (loadedForm (saved s m n) .shape ≡ s .shape)
+unfolding saved
+reload-kept s f m n = go (eqb (number s (saving m n)) 0) refl
+  where
+    go : (t : Bool) → eqb (number s (saving m n)) 0 ≡ t → loads (if t then savedForm s else []) ≡ true → Reached (loadedForm (if t then savedForm s else [])) × (loadedForm (if t then savedForm s else []) .shape ≡ s .shape)
+    go true e w =
+        let r = rest-facts s (save-passed s save m [] n refl (accepted-passed s (saving m n) (eqb-true (number s (saving m n)) 0 e)) .1) in
+        rw (saved-back s (saveable s f r)) (loaded-kept s f r, refl)
+    go false e w = absurd (true≢false (sym w ∙ nothing-loads))
+
+load-act : (s : State) (form js : List ℕ) → act s (load form) js ≡ loadedForm form
+unfolding act perform
+load-act s form js = release-none (loadedForm form) (loaded-idle form)
+
+load-passed : (s : State) (form : List ℕ) (m : ℕ) (ws : List ℕ) (n : ℕ) → Passed (questions s (load form) m ws n) → loads form ≡ true
+unfolding questions
+load-passed s form m ws n p = p .1 .0
+
+later-kept : (h : Shape) (s : State) → Reached s → s .shape ≡ h → (l : Later) (m w n : ℕ) (js : List ℕ) → numberR s l m w n ≡ 0 → Drew (bounds s (ask s l)) js → Reached (act s (ask s l) js) × (act s (ask s l) js .shape ≡ h)
+later-kept h s f q l m w n js e b = go l e b
+  where
+    plain : (l : Later) → opens (ask s l) ≡ false → numberR s l m w n ≡ 0 → Drew (bounds s (ask s l)) js → Reached (act s (ask s l) js) × (act s (ask s l) js .shape ≡ h)
+    plain l o e b = (act-kept s f (ask s l) m (replicate w 0) n js (accepted-passed s (called s l m w n) e) b (brings-other (ask s l) o), act-shape s (ask s l) js o ∙ q)
+
+    reload : (m₀ n₀ : ℕ) → numberR s (later-reload m₀ n₀) m w n ≡ 0 → Reached (act s (load (saved s m₀ n₀)) js) × (act s (load (saved s m₀ n₀)) js .shape ≡ h)
+    reload m₀ n₀ e =
+        let p = load-passed s (saved s m₀ n₀) m (replicate w 0) n (accepted-passed s (called s (later-reload m₀ n₀) m w n) e) in
+        let x = reload-kept s f m₀ n₀ p in
+        rw (load-act s (saved s m₀ n₀) js) (x .0, x .1 ∙ q)
+
+    go : (l : Later) → numberR s l m w n ≡ 0 → Drew (bounds s (ask s l)) js → Reached (act s (ask s l) js) × (act s (ask s l) js .shape ≡ h)
+    go (later-request k c bs) e b = plain (later-request k c bs) (unfold opens in refl) e b
+    go later-turn e b = plain later-turn (unfold opens in refl) e b
+    go (later-completion c bs) e b = plain (later-completion c bs) (unfold opens in refl) e b
+    go later-collect e b = plain later-collect (unfold opens in refl) e b
+    go later-save e b = plain later-save (unfold opens in refl) e b
+    go (later-reload m₀ n₀) e b = reload m₀ n₀ e
+
 pub reached : (h : Shape) → h .E ≡ h .N → Reachable h
 reached h q = record {
   Holds = λ s. Reached s × (s .shape ≡ h);
-  start = λ js w b. (fresh-kept h js (fresh-in h js w b), fresh-shape h js);
-  kept = λ s l m w n js k e b. (
-    act-kept s (k .0) (ask l) m (replicate w 0) n js (accepted-passed s (called l m w n) e) b,
-    act-shape s l js ∙ k .1,
-  );
+  start = λ js w b. (fresh-kept h js (drew-length (replicate (h .N) (h .P)) js b ∙ length-replicate (h .N) (h .P)) (fresh-in h js w b), fresh-shape h js);
+  kept = λ s l m w n js k e b. later-kept h s (k .0) (k .1) l m w n js e b;
+  fits = λ s k. form-fits s (k .0 .range) (k .0 .waiting .once) (λ b m. k .0 .tidy .whole b);
+  loadable = λ s k e. let v = saveable s (k .0) (rest-facts s e) in (saved-summed s v, saved-loads s v);
+  reloads = λ s k e. let r = rest-facts s e in let v = saveable s (k .0) r in (contentsOf s v, ordersIn s v, (saved-back s v, slots-same s (k .0) r));
   shape = λ s k. k .1;
   range = λ s k. facts-range s (k .0 .range);
   able = λ s k. always-possible s (k .0);
@@ -98,7 +197,3 @@ reached h q = record {
   owned = λ s r q ℓ x i k. owned s (k .0) r q ℓ x i;
   left = λ s r ℓ i k. left s (k .0) r ℓ i;
 }
-
--- whatever calls were made since the closed state
-pub able : Able closed
-able cs m e = always-possible (after closed cs) (was-reached (after closed cs) m (after-was cs closed (shut refl)) e)

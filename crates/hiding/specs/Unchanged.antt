@@ -9,15 +9,10 @@ use Rattle.lists.specs.Tests.{if_then_else_}
 use Rattle.rules.specs.Open.{fresh}
 use Rattle.rules.specs.Completion
 use Rattle.rules.specs.Completion.{complete}
-use Rattle.rules.specs.Run.{act}
-use Rattle.rules.specs.Laws.Answers.{opens}
-use Rattle.rules.specs.Laws.Shapes
 use Rattle.rules.specs.Laws.Shapes.{unawaited}
-use Rattle.rules.specs.Request
 use Rattle.rules.specs.State.{State, Command, Place, Request}
 use Rattle.rules.specs.Blocks
 use Rattle.rules.specs.Shape.{Shape}
-use Rattle.hiding.specs.Machines.Public.{Later, later-request, later-turn, later-completion, later-collect, ask}
 
 -- ---- a completion
 
@@ -68,17 +63,7 @@ complete-rest s c bs = go (eqb (c .kind) 1) (Blocks.holder s (c .partition) (c .
     go false b [] = first
     go false b (q ∷ qs) = ended q qs (Completion.jobDone s′ q)
 
--- ---- no later call changes the shape
-
-later-opens : (l : Later) → opens (ask l) ≡ false
-unfolding opens
-later-opens (later-request k b bs) = refl
-later-opens later-turn = refl
-later-opens (later-completion c bs) = refl
-later-opens later-collect = refl
-
-pub act-shape : (s : State) (l : Later) (js : List ℕ) → (act s (ask l) js) .shape ≡ s .shape
-act-shape s l js = Shapes.act-shape s (ask l) js (later-opens l)
+-- ---- the shape of a fresh state
 
 pub fresh-shape : (h : Shape) (js : List ℕ) → (fresh h js) .shape ≡ h
 unfolding fresh

@@ -19,7 +19,8 @@ use Rattle.rules.specs.Levels.{sources, target}
 use Rattle.rules.specs.Rebuild.{gathered, chosen}
 use Rattle.rules.specs.Shape.{Shape, slots}
 use Rattle.rules.specs.State.{State, Place, nowhere, stored}
-use Rattle.reachable.specs.Invariant.{isIn, storedAt, taken}
+use Rattle.rules.specs.Form.Loading.{isIn, storedAt}
+use Rattle.reachable.specs.Invariant.{taken}
 use Rattle.reachable.specs.Live
 
 pub stored-inj : (ℓ m i j : ℕ) → stored ℓ i ≡ stored m j → (ℓ ≡ m) × (i ≡ j)

@@ -101,7 +101,7 @@ block-lt s f r e = go (s .request) e (f .range .request)
     go : (o : Option Request) → o ≡ some r → IfSome (RequestIn (s .shape)) o → r .block < s .shape .N
     go o e k = let k′ : RequestIn (s .shape) r = rw e at k in k′ .block
 
-named-is : (n b : ℕ) → Blocks.named n ≡ some b → n ≡ suc b
+pub named-is : (n b : ℕ) → Blocks.named n ≡ some b → n ≡ suc b
 unfolding Blocks.named
 named-is zero b e = let z : _≡_ {A = ℕ} 0 1 = cc in absurd (omega arith)
 named-is (suc n) b e = let w : n ≡ b = cc in ap suc w

@@ -4,7 +4,7 @@ use mathlib.Core.Path.{_≡_, refl, ap, sym, _∙_}
 use mathlib.Core.Logic.{_⊎_, inl, inr, ⊎-elim}
 use mathlib.Core.Bool.{Bool, true, false, _&&_, true≢false}
 use mathlib.Core.List.{List, _∷_}
-use Prim.Native.Nat.{ℕ, _+_, _-_, _≤_, _<_}
+use Prim.Native.Nat.{ℕ, _+_, _≤_, _<_}
 use native.Mathlib.Omega.{arith}
 use native.Mathlib.Decide.{decLt}
 use lib.Dec.{eqb, leb}
@@ -18,7 +18,7 @@ use Rattle.rules.specs.Laws.Answers.{step-accepted, step-refused}
 use Rattle.rules.specs.Laws.Decided.{places-in}
 use Rattle.rules.specs.Laws.Layout.{offset-in}
 use Rattle.rules.specs.Levels.{filled, sources}
-use Rattle.rules.specs.Questions.{Ask, opening, request, turn, completion, collect, Call, number}
+use Rattle.rules.specs.Questions.{Ask, opening, request, turn, completion, collect, save, load, Call, number}
 use Rattle.rules.specs.Rebuild.{places, unread}
 use Rattle.rules.specs.Request
 use Rattle.rules.specs.Run
@@ -186,6 +186,8 @@ sent-turn s k q ℓ i e = go (eqb (number s k) 0) refl
     by turn e = unfold Run.sentCommand in e
     by (completion c bs) e = absurd (no-read (unfold Run.sentCommand in e))
     by collect e = absurd (no-read (unfold Run.sentCommand in e))
+    by save e = absurd (no-read (unfold Run.sentCommand in e))
+    by (load form) e = absurd (no-read (unfold Run.sentCommand in e))
 
     go : (t : Bool) → eqb (number s k) 0 ≡ t → command (decide s) ≡ cmd read q ℓ i
     go true z = by (k .ask) (unfold Run.accepted in (rw (step-accepted s k (eqb-true (number s k) 0 z)) at e))

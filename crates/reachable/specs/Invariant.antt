@@ -1,16 +1,16 @@
 -- What holds of every state that calls left: one record, a named fact to each field.
 use mathlib.Core.Path.{_≡_}
 use mathlib.Core.Logic.{_⊎_}
-use mathlib.Core.Bool.{Bool, true, false, _&&_}
+use mathlib.Core.Bool.{true, false}
 use mathlib.Core.List.{List, [], _∷_}
 use mathlib.Core.Option.{Option, some}
 use Prim.Native.Nat.{ℕ, zero, suc, _+_, _-_, _%_, _^_, _≤_, _<_}
 use lib.ListN.{length, drop}
-use lib.Dec.{eqb}
 use Rattle.lists.specs.All.{All}
 use Rattle.lists.specs.Distinct.{Mem, NoDup}
-use Rattle.lists.specs.Search.{keep, below}
 use Rattle.lists.specs.Totals.{total}
+use Rattle.rules.specs.Form.Loading.{storedAt}
+use Rattle.rules.specs.Laws.Form.Saveable.{FilledCell}
 use Rattle.rules.specs.Laws.Range.{InRange}
 use Rattle.rules.specs.Levels.{filled, sources, target}
 use Rattle.rules.specs.Request
@@ -41,14 +41,6 @@ Items h count order mark holds = (q ℓ : ℕ) → q < h .P → ℓ < h .L → f
 pub record Agree (h : Shape) (count : ℕ → ℕ) (partition : ℕ → ℕ) (place : ℕ → Place) (holds : ℕ → ℕ) : Type 0 where
   pub placed : (b ℓ i : ℕ) → b < h .N → place b ≡ stored ℓ i → (filled (count (partition b)) ℓ ≡ true) × (holds (cell h (partition b) ℓ i) ≡ suc b)
   pub held : (q ℓ i b : ℕ) → q < h .P → ℓ < h .L → i < slots ℓ → holds (cell h q ℓ i) ≡ suc b → (partition b ≡ q) × (place b ≡ stored ℓ i)
-
--- the blocks of level ℓ of q
-unfoldable pub isIn : ℕ → Place → Bool
-isIn ℓ nowhere = false
-isIn ℓ (stored m i) = eqb m ℓ
-
-unfoldable pub storedAt : State → ℕ → ℕ → List ℕ
-storedAt s q ℓ = keep (λ b. eqb (s .partition b) q && isIn ℓ (s .place b)) (below (s .shape .N))
 
 -- A level stores at most 2^ℓ blocks, a partition 2^(L-1)
 abbrev pub Room : State → Type 0
@@ -156,6 +148,34 @@ Writing s c = WriteOf (s .shape) (s .counter) (s .queue) (s .sent) c
 abbrev pub Commands : State → Type 0
 Commands s = All (λ c. Reading s c ⊎ Writing s c) (s .outstanding)
 
+-- ---- Nothing stale
+
+-- a cell of a slot
+pub record SlotCell (h : Shape) (c : ℕ) : Type 0 where
+  pub part : ℕ
+  pub level : ℕ
+  pub slot : ℕ
+  pub inParts : part < h .P
+  pub inLevels : level < h .L
+  pub inSlots : slot < slots level
+  pub isCell : c ≡ cell h part level slot
+
+-- A front job that has not begun has left the slots of its partition's blocks unread; the request for a block may have read its slot, in a level
+-- that the job does not gather
+abbrev pub Untouched : State → Type 0
+Untouched s = (b ℓ i : ℕ) → b < s .shape .N → s .place b ≡ stored ℓ i → s .begun ≡ 0 → isFront (s .queue) (s .partition b) ≡ true →
+    (s .mark (cell (s .shape) (s .partition b) ℓ i) ≡ 1) ⊎ Own s b ℓ
+
+-- Tables have zeros outside the shape, and a slot that is not in a live level is not unread
+pub record Tidy (s : State) : Type 0 where
+  pub partitions : (b : ℕ) → s .shape .N ≤ b → s .partition b ≡ 0
+  pub places : (b : ℕ) → s .shape .N ≤ b → s .place b ≡ nowhere
+  pub counters : (q : ℕ) → s .shape .P ≤ q → s .counter q ≡ 0
+  pub marked : (c : ℕ) → ¬ (s .mark c ≡ 0) → FilledCell (s .shape) (counted s) c
+  pub held : (c : ℕ) → ¬ (s .holds c ≡ 0) → SlotCell (s .shape) c
+  pub whole : (b : ℕ) → length (s .bytes b) ≡ s .shape .B
+  pub untouched : Untouched s
+
 -- ---- All of it
 
 pub record Reached (s : State) : Type 0 where
@@ -181,3 +201,4 @@ pub record Reached (s : State) : Type 0 where
   pub spent : Spent s
   pub apart : Apart (s .outstanding)  -- a slot never has two commands outstanding
   pub commands : Commands s
+  pub tidy : Tidy s  -- what a saved form leaves out is no part of it

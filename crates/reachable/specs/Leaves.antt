@@ -22,14 +22,17 @@ use Rattle.rules.specs.Laws.Answers.{step-accepted, step-refused, accepted-leav
 use Rattle.rules.specs.Laws.Levels.{sources-le}
 use Rattle.rules.specs.Levels.{sources}
 use Rattle.rules.specs.Open.{fresh}
-use Rattle.rules.specs.Questions.{Ask, opening, request, turn, completion, collect, Call, bounds, number}
+use Rattle.rules.specs.Questions.{Ask, opening, request, turn, completion, collect, save, load, Call, bounds, number}
 use Rattle.rules.specs.Rebuild.{chosen, isChosen, gathered}
 use Rattle.rules.specs.Request.{accept, release}
+use Rattle.rules.specs.Resumes.{NoLoad, savedBy, OfLast, Resumes}
 use Rattle.rules.specs.Run
 use Rattle.rules.specs.Run.{Outcome, perform, sentCommand, step, run, after}
 use Rattle.rules.specs.State.{State, Command, read, write, Place, nowhere, Request, closed}
 use Rattle.rules.specs.Turn.{Step, idle, noDummy, readForRequest, readForJob, rebuild, writeNext, decide, command, doStep, markRead, send}
 use Rattle.reachable.specs.Invariant.{Reached}
+use Rattle.reachable.specs.LastSaved.{OfState, step-last, Brought, back, gone, load-leaves, resumes-was}
+use Rattle.reachable.specs.Reached.{Was}
 use Rattle.reachable.specs.Live.{isBelow}
 use Rattle.reachable.specs.Slots.{entry-why, is-chosen}
 
@@ -93,17 +96,19 @@ module _ (s : State) (b : ℕ) (e : s .place b ≡ nowhere) where
   collect-stays none = e
   collect-stays (some r) = put-has (λ (x : Place). x ≡ nowhere) (r .block) nowhere (s .place) b refl e
 
-  perform-stays : (a : Ask) (js : List ℕ) → ¬ (sentCommand s a .kind ≡ write) → perform s a js .place b ≡ nowhere
+  perform-stays : (a : Ask) (js : List ℕ) → NoLoad a → ¬ (sentCommand s a .kind ≡ write) → perform s a js .place b ≡ nowhere
   unfolding perform sentCommand
-  perform-stays (opening h) js n = unfold fresh in refl
-  perform-stays (request k d bs) js n = unfold accept in e
-  perform-stays turn js n = turn-stays (decide s) js n
-  perform-stays (completion c bs) js n = complete-stays c bs
-  perform-stays collect js n = collect-stays (s .request)
+  perform-stays (opening h) js o n = unfold fresh in refl
+  perform-stays (request k d bs) js o n = unfold accept in e
+  perform-stays turn js o n = turn-stays (decide s) js n
+  perform-stays (completion c bs) js o n = complete-stays c bs
+  perform-stays collect js o n = collect-stays (s .request)
+  perform-stays save js o n = e
+  perform-stays (load form) js o n = absurd o
 
-  step-stays : (c : Call) → ¬ (step s c .1 .command .kind ≡ write) → step s c .0 .place b ≡ nowhere
+  step-stays : (c : Call) → NoLoad (c .ask) → ¬ (step s c .1 .command .kind ≡ write) → step s c .0 .place b ≡ nowhere
   unfolding Run.refuse
-  step-stays c n = go (eqb (number s c) 0) refl
+  step-stays c o n = go (eqb (number s c) 0) refl
     where
       refused-stays : (a : Ask) → Run.refuse s a .place b ≡ nowhere
       refused-stays (opening h) = unfold closed in refl
@@ -111,19 +116,44 @@ module _ (s : State) (b : ℕ) (e : s .place b ≡ nowhere) where
       refused-stays turn = e
       refused-stays (completion c bs) = e
       refused-stays collect = e
+      refused-stays save = e
+      refused-stays (load form) = unfold closed in refl
 
       go : (t : Bool) → eqb (number s c) 0 ≡ t → step s c .0 .place b ≡ nowhere
       go true k =
           let z = eqb-true (number s c) 0 k in
           let w : step s c .1 .command ≡ sentCommand s (c .ask) = ap (λ (x : State × Outcome). x .1 .command) (step-accepted s c z) ∙ (unfold Run.accepted in refl) in
-          ap (λ (x : State). x .place b) (accepted-leaves s c z) ∙ perform-stays (c .ask) (Run.numbersOf (draws (bounds s (c .ask)) (c .words))) (λ v. n (ap (λ (x : Command). x .kind) w ∙ v))
+          ap (λ (x : State). x .place b) (accepted-leaves s c z) ∙ perform-stays (c .ask) (Run.numbersOf (draws (bounds s (c .ask)) (c .words))) o (λ v. n (ap (λ (x : Command). x .kind) w ∙ v))
       go false k = ap (λ (x : State × Outcome). x .0 .place b) (step-refused s c (eqb-false (number s c) 0 k)) ∙ refused-stays (c .ask)
+
+-- a load of what was saved last brings the block's place back
+load-stays : (s : State) (b : ℕ) → s .place b ≡ nowhere → (t : State) → Brought s t → t .place b ≡ nowhere
+load-stays s b e t (back f r y o z) = ap (λ (x : State). x .place b) z ∙ e
+load-stays s b e t (gone z) = ap (λ (x : State). x .place b) z ∙ unfold closed in refl
+
+resumes-stays : (s : State) (b : ℕ) → s .place b ≡ nowhere → (x : List ℕ) (c : Call) → OfLast x (c .ask) → OfState s x → Was s → ¬ (step s c .1 .command .kind ≡ write) → step s c .0 .place b ≡ nowhere
+resumes-stays s b e x c v y l n = go (c .ask) refl v
+  where
+    plain : NoLoad (c .ask) → step s c .0 .place b ≡ nowhere
+    plain o = step-stays s b e c o n
+
+    go : (a : Ask) → c .ask ≡ a → OfLast x a → step s c .0 .place b ≡ nowhere
+    go (opening h) w v = plain (rw w tt)
+    go (request k d bs) w v = plain (rw w tt)
+    go turn w v = plain (rw w tt)
+    go (completion d bs) w v = plain (rw w tt)
+    go collect w v = plain (rw w tt)
+    go save w v = plain (rw w tt)
+    go (load form) w v = load-stays s b e (step s c .0) (load-leaves s c form w (rw v y) l .0)
 
 -- no call of these sends a write
 abbrev pub Unwritten : List Outcome → Type 0
 Unwritten os = All (λ (o : Outcome). ¬ (o .command .kind ≡ write)) os
 
-pub after-stays : (ds : List Call) (s : State) (b : ℕ) → s .place b ≡ nowhere → Unwritten (run s ds) → after s ds .place b ≡ nowhere
+-- over calls whose loads are of what was saved last
+pub after-stays : (ds : List Call) (s : State) (b : ℕ) (x : List ℕ) → s .place b ≡ nowhere → Unwritten (run s ds) → Resumes x ds (run s ds) → OfState s x → Was s
+    → (after s ds .place b ≡ nowhere) × Was (after s ds)
 unfolding run after
-after-stays [] s b e n = e
-after-stays (d ∷ ds) s b e (cons n ns) = after-stays ds (step s d .0) b (step-stays s b e d n) ns
+after-stays [] s b x e n v y l = (e, l)
+after-stays (d ∷ ds) s b x e (cons n ns) v y l =
+    after-stays ds (step s d .0) b (savedBy (d .ask) (step s d .1)) (resumes-stays s b e x d (v .0) y l n) ns (v .1) (step-last s d) (resumes-was s x d (v .0) y l)

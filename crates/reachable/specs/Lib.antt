@@ -6,8 +6,14 @@ pub mod Terms
 pub mod Theorems
 pub mod Live
 pub mod Invariant
+pub mod Saved
+pub mod Values
 pub mod Reached
 -- The steps, one file each, a lemma for each field of the record
+pub mod Same
+pub mod SameCalls
+pub mod Resumed
+pub mod LastSaved
 pub mod Kept
 -- What the steps and the crates above use: what a turn's step says of its state, what follows from the invariant, and why no state that calls
 -- left lacks a dummy or gathers too much

@@ -1,6 +1,6 @@
 -- States that calls left never lack a dummy, and never gather more blocks than the target holds.
 use mathlib.Core.Path.{_≡_, refl, ap, sym, _∙_}
-use mathlib.Core.Logic.{_⊎_, inl, inr, ⊎-elim}
+use mathlib.Core.Logic.{inl, inr, ⊎-elim}
 use mathlib.Core.Bool.{Bool, true, false, not, _&&_, _||_, true≢false}
 use mathlib.Core.List.{List, [], _∷_, _++_, map}
 use mathlib.Core.Option.{Option, none, some}
@@ -32,7 +32,8 @@ use Rattle.rules.specs.Turn.{decide, Step, idle, noDummy, readForRequest, readF
 use Rattle.reachable.specs.Blocks.{in-why, is-below, why-in, lt-below, why-at, in-is, nodup-in, nodup-gathered, gathered-lt, target-min}
 use Rattle.reachable.specs.Consequences.{block-lt, released-count, lowest-none}
 use Rattle.reachable.specs.Decided.{Lacks, Decided, decided, costs-filled}
-use Rattle.reachable.specs.Invariant.{taken, Reached, holdsOf, storedAt}
+use Rattle.reachable.specs.Invariant.{taken, Reached, holdsOf}
+use Rattle.rules.specs.Form.Loading.{storedAt}
 use Rattle.reachable.specs.Live
 use Rattle.rules.specs.Blocks.{readsOf}
 use Rattle.reachable.specs.Live.{counted, gathers-source}

@@ -8,6 +8,8 @@ use native.Mathlib.Omega.{arith}
 use native.Mathlib.Decide.{ℕ-discrete}
 use lib.Dec.{eqb, ltb}
 use borrow.Author.Tests.{ltb-true, eqb-true, eqb-false, eq-eqb, ne-eqb, lt-ltb}
+use Rattle.reachable.specs.LastSaved.{OfState, step-last as step-saved, Brought, back, gone, load-silent, load-leaves, resumes-was}
+use Rattle.rules.specs.Resumes.{savedBy, OfLast, Resumes, NoOpen}
 use Rattle.lists.specs.All.{All, nil, cons}
 use Rattle.lists.specs.Search
 use Rattle.lists.specs.Search.{any}
@@ -25,7 +27,7 @@ use Rattle.rules.specs.Laws.Layout.{cell-inj}
 use Rattle.rules.specs.Levels.{target}
 use Rattle.rules.specs.Open.{fresh}
 use Rattle.rules.specs.Questions
-use Rattle.rules.specs.Questions.{Ask, opening, request, turn, completion, collect, Call, bounds, number, questions}
+use Rattle.rules.specs.Questions.{Ask, opening, request, turn, completion, collect, save, load, Call, bounds, number, questions}
 use Rattle.rules.specs.Ranges.{isKind}
 use Rattle.rules.specs.Rebuild.{doRebuild}
 use Rattle.rules.specs.Request
@@ -187,6 +189,8 @@ module _ (q ℓ i : ℕ) where
     call-last collect e p =
         let f = was-reached s memory l (p .0) in
         ((λ e. absurd (omega (arith, ap (λ (c : Command). c .kind) e))), rw (kind-none k) (collect-last s f k last (s .request)))
+    call-last save e p = ((λ e. absurd (omega (arith, ap (λ (c : Command). c .kind) e))), rw (kind-none k) last)
+    call-last (load form) e p = absurd (true≢false e)
 
   refuse-last : (s : State) (k : ℕ) (a : Ask) → opens a ≡ false → Last s k → Last (Run.refuse s a) k
   refuse-last s k a e last = rw (refuse-keeps s a e) last
@@ -203,12 +207,41 @@ module _ (q ℓ i : ℕ) where
         rw (kind-none k) (refuse-last s k (c .ask) o last),
       ))
 
-  run-last : (cs : List Call) → All (λ (c : Call). opens (c .ask) ≡ false) cs → (s : State) (k : ℕ) → Was s → Last s k → EachAfterWrite q ℓ i k (run s cs)
+  -- a load of what the call just before it has saved: no slot is marked anew
+  pub load-last : (s : State) (k : ℕ) (c : Call) (form : List ℕ) → c .ask ≡ load form → Brought s (step s c .0) → Last s k
+      → (step s c .1 .command ≡ cmd read q ℓ i → k ≡ write) × Last (step s c .0) (lastKind q ℓ i k (step s c .1 .command))
+  load-last s k c form e w last = rw (load-silent s c form e, kind-none k) ((λ x. absurd (omega (arith, ap (λ (c : Command). c .kind) x))), go w)
+    where
+      go : Brought s (step s c .0) → Last (step s c .0) k
+      go (back f r y o z) = rw z (λ hℓ hi u v. last hℓ hi u (λ t. absurd (t .1 (f .unbegun (r .unbegun) .1))))
+      go (gone z) = rw z (unfold closed in (λ hℓ hi u v. absurd (omega arith)))
+
+  -- any call but an open
+  any-last : (s : State) (k : ℕ) (x : List ℕ) (c : Call) → NoOpen (c .ask) → OfLast x (c .ask) → OfState s x → Was s → Last s k
+      → (step s c .1 .command ≡ cmd read q ℓ i → k ≡ write) × Last (step s c .0) (lastKind q ℓ i k (step s c .1 .command))
+  any-last s k x c o v y l last = go (c .ask) refl o v
+    where
+      Next : Type 0
+      Next = (step s c .1 .command ≡ cmd read q ℓ i → k ≡ write) × Last (step s c .0) (lastKind q ℓ i k (step s c .1 .command))
+
+      plain : opens (c .ask) ≡ false → Next
+      plain z = step-last s k c z l last
+
+      go : (a : Ask) → c .ask ≡ a → NoOpen a → OfLast x a → Next
+      go (opening h) e o v = absurd o
+      go (request j b bs) e o v = plain (ap opens e ∙ (unfold opens in refl))
+      go turn e o v = plain (ap opens e ∙ (unfold opens in refl))
+      go (completion d bs) e o v = plain (ap opens e ∙ (unfold opens in refl))
+      go collect e o v = plain (ap opens e ∙ (unfold opens in refl))
+      go save e o v = plain (ap opens e ∙ (unfold opens in refl))
+      go (load form) e o v = load-last s k c form e (load-leaves s c form e (rw v y) l .0) last
+
+  run-last : (cs : List Call) → All (λ (c : Call). NoOpen (c .ask)) cs → (s : State) (k : ℕ) (x : List ℕ) → Was s → Last s k → OfState s x → Resumes x cs (run s cs) → EachAfterWrite q ℓ i k (run s cs)
   unfolding run
-  run-last [] nil s k l last = tt
-  run-last (c ∷ cs) (cons o t) s k l last =
-      let x = step-last s k c o l last in
-      (x .0, run-last cs t (step s c .0) (lastKind q ℓ i k (step s c .1 .command)) (step-was s c l) (x .1))
+  run-last [] nil s k x l last y r = tt
+  run-last (c ∷ cs) (cons o t) s k x l last y r =
+      let z = any-last s k x c o (r .0) y l last in
+      (z .0, run-last cs t (step s c .0) (lastKind q ℓ i k (step s c .1 .command)) (savedBy (c .ask) (step s c .1)) (resumes-was s x c (r .0) y l) (z .1) (step-saved s c) (r .1))
 
   -- what an open leaves: nothing is unread
   pub open-last : (h : Shape) (c : Call) → c .ask ≡ opening h → (step closed c .1 .command ≡ cmd 0 0 0 0) × ((k : ℕ) → Last (step closed c .0) k)
@@ -228,11 +261,11 @@ module _ (q ℓ i : ℕ) where
       go false z = rw (step-refused closed c (eqb-false (number closed c) 0 z)) (unfold Run.refused in (refl, shuts (c .ask) e))
 
   -- Over a run from an open up to the next, each read of the slot comes when the last command to it was a write
-  pub reads-after-writes : (s : State) (c : Call) (h : Shape) → c .ask ≡ opening h → (cs : List Call) → All (λ (c : Call). opens (c .ask) ≡ false) cs → EachAfterWrite q ℓ i 0 (run s (c ∷ cs))
+  pub reads-after-writes : (s : State) (c : Call) (h : Shape) → c .ask ≡ opening h → (cs : List Call) → All (λ (c : Call). NoOpen (c .ask)) cs → Resumes [] (c ∷ cs) (run s (c ∷ cs)) → EachAfterWrite q ℓ i 0 (run s (c ∷ cs))
   unfolding run
-  reads-after-writes s c h e cs o = rw (open-first s c h e) (
+  reads-after-writes s c h e cs o r = rw (open-first s c h e) (
     (λ w. absurd (omega (arith, ap (λ (x : Command). x .kind) (sym (first .0) ∙ w)))),
-    run-last cs o (step closed c .0) (lastKind q ℓ i 0 (step closed c .1 .command)) (step-was closed c (shut refl)) (first .1 (lastKind q ℓ i 0 (step closed c .1 .command))),
+    run-last cs o (step closed c .0) (lastKind q ℓ i 0 (step closed c .1 .command)) (savedBy (c .ask) (step closed c .1)) (step-was closed c (rw e tt) (shut refl)) (first .1 (lastKind q ℓ i 0 (step closed c .1 .command))) (step-saved closed c) (rw (open-first s c h e) at (r .1)),
   )
     where
       first : (step closed c .1 .command ≡ cmd 0 0 0 0) × ((k : ℕ) → Last (step closed c .0) k)

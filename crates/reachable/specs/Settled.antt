@@ -1,7 +1,6 @@
 -- After every call a request that is held is held by the rule: one that may be released is released by the call that makes it so.
 use mathlib.Core.Path.{_≡_, refl, ap, sym, _∙_}
 use mathlib.Core.Bool.{Bool, true, false, not, _&&_, true≢false}
-use mathlib.Core.List.{List, [], _∷_}
 use mathlib.Core.Option.{Option, none, some, Option·map}
 use Prim.Native.Nat.{ℕ}
 use native.Mathlib.Omega.{arith}
@@ -12,12 +11,13 @@ use Rattle.lists.specs.Search.{isNone}
 use Rattle.lists.specs.Tests.{if_then_else_, and-true}
 use Rattle.rules.specs.Blocks.{lookUp}
 use Rattle.rules.specs.Draws.{draws}
-use Rattle.rules.specs.Laws.Answers.{step-accepted, step-refused}
-use Rattle.rules.specs.Questions.{Ask, opening, request, turn, completion, collect, Call, bounds, number}
+use Rattle.rules.specs.Laws.Answers.{step-accepted, step-refused, open-first, load-first}
+use Rattle.rules.specs.Questions.{Ask, opening, request, turn, completion, collect, save, load, Call, bounds, number}
 use Rattle.rules.specs.Request.{undrawnOnly, isSource, worn, heldFor, blocked, held, withFound, releasedIn, release}
 use Rattle.rules.specs.Run
-use Rattle.rules.specs.Run.{act, step, after}
+use Rattle.rules.specs.Run.{act, step}
 use Rattle.rules.specs.State.{State, Request, closed}
+use Rattle.reachable.specs.Terms.{CallsLeft, opened, called, loaded}
 
 -- a request that is held is held by the rule
 abbrev pub Settled : State → Type 0
@@ -57,12 +57,15 @@ step-settles s c l = go (eqb (number s c) 0) refl
     refused turn = unfold Run.refuse in l
     refused (completion c bs) = unfold Run.refuse in l
     refused collect = unfold Run.refuse in l
+    refused save = unfold Run.refuse in l
+    refused (load form) = unfold Run.refuse in closed-settled
 
     go : (t : Bool) → eqb (number s c) 0 ≡ t → Settled (step s c .0)
     go true e = rw (step-accepted s c (eqb-true (number s c) 0 e)) (unfold Run.accepted act in (release-settles (Run.perform s (c .ask) (Run.numbersOf (draws (bounds s (c .ask)) (c .words))))))
     go false e = rw (step-refused s c (eqb-false (number s c) 0 e)) (refused (c .ask))
 
-pub after-settled : (cs : List Call) (s : State) → Settled s → Settled (after s cs)
-unfolding after
-after-settled [] s l = l
-after-settled (c ∷ cs) s l = after-settled cs (step s c .0) (step-settles s c l)
+-- no request is held too long in a state that calls left
+pub left-settled : {s : State} → CallsLeft s → Settled s
+left-settled (opened s c h e z) = rw (z, open-first s c h e) (step-settles closed c closed-settled)
+left-settled (called c l o z) = rw z (step-settles _ c (left-settled l))
+left-settled (loaded {u = u} s c d l e a z) = rw (z, load-first s c (step u d .1 .bytes) a) (step-settles closed c closed-settled)

@@ -1,14 +1,36 @@
 -- Words that the theorems use: nothing of the invariant.
 use mathlib.Core.Path.{_≡_}
-use mathlib.Core.Bool.{_&&_}
+use mathlib.Core.Bool.{_&&_, false}
 use mathlib.Core.List.{List, [], _∷_}
 use Prim.Native.Nat.{ℕ, _^_, _≤_, _<_}
 use lib.Dec.{eqb, ltb}
+use Rattle.rules.specs.Laws.Answers.{opens}
+use Rattle.rules.specs.Questions.{Ask, opening, request, turn, completion, collect, save, load, Call}
 use Rattle.lists.specs.All.{All}
 use Rattle.lists.specs.Tests.{if_then_else_}
-use Rattle.rules.specs.Run.{Outcome}
+use Rattle.rules.specs.Run.{Outcome, step}
 use Rattle.rules.specs.Shape.{Shape, cell, slots}
-use Rattle.rules.specs.State.{Command, cmd, read, write}
+use Rattle.rules.specs.State.{State, Command, cmd, read, write}
+
+-- ---- States that calls left
+
+-- "What document 01 says of states that calls left holds from open and through loads of saved forms": the state after an open, whatever was
+-- before it; after a call other than an open or a load; and after a load of what a save in such a state has put into its buffer, whenever that
+-- was, and whatever is before the load. Any of these calls may be refused
+pub data CallsLeft : State → Type 0 where
+  opened : {t : State} (s : State) (c : Call) (h : Shape) → c .ask ≡ opening h → t ≡ step s c .0 → CallsLeft t
+  called : {s t : State} (c : Call) → CallsLeft s → opens (c .ask) ≡ false → t ≡ step s c .0 → CallsLeft t
+  loaded : {u t : State} (s : State) (c d : Call) → CallsLeft u → d .ask ≡ save → c .ask ≡ load (step u d .1 .bytes) → t ≡ step s c .0 → CallsLeft t
+
+-- A call of a list: a load is of a saved form
+abbrev pub OfSaved : Ask → Type 0
+OfSaved (opening h) = Unit {0}
+OfSaved (request k b bs) = Unit {0}
+OfSaved turn = Unit {0}
+OfSaved (completion c bs) = Unit {0}
+OfSaved collect = Unit {0}
+OfSaved save = Unit {0}
+OfSaved (load form) = (u : State) × (d : Call) × (CallsLeft u × (d .ask ≡ save) × (form ≡ step u d .1 .bytes))
 
 -- ---- Slots and commands
 

@@ -1,30 +1,31 @@
--- What holds of every state that calls left, for whoever needs it: stated over `run` and `after` of the rules, from an open, with nothing of
--- the invariant. Whatever state was before the open, and also if the open is refused; refused calls among the others. The list may have
--- further opens, but where it is said that it has none.
+-- What holds of every state that calls left, for whoever needs it: stated over the rules, with nothing of the invariant. Which states these are
+-- is said in Terms (`CallsLeft`): after an open, whatever state was before it, also if it is refused, and then through any calls, refused ones
+-- among them, further opens, and loads of saved forms. `after-open` has it for the state after a list of calls.
 use mathlib.Core.Path.{_≡_, refl, ap, sym, _∙_}
 use mathlib.Core.Logic.{_⊎_, inl, inr, ⊎-elim}
 use mathlib.Core.Bool.{Bool, true, false, not, _&&_, true≢false}
 use mathlib.Core.List.{List, [], _∷_, _++_}
 use mathlib.Core.Option.{Option, none, some}
-use Prim.Native.Nat.{ℕ, _+_, _-_, _^_, _≤_, _<_}
+use Prim.Native.Nat.{ℕ, _+_, _^_, _≤_, _<_}
 use native.Mathlib.Omega.{arith}
 use lib.ListN.{length}
 use borrow.Author.Tests.{leb-false}
-use Rattle.lists.specs.All.{All}
+use Rattle.lists.specs.All.{All, nil, cons}
 use Rattle.lists.specs.Distinct.{Mem}
 use Rattle.lists.specs.Members.{mem-not}
 use Rattle.lists.specs.Search.{find, any, member}
 use Rattle.lists.specs.Tests.{and-true, and-false}
 use Rattle.lists.specs.Totals.{total}
+use Rattle.rules.specs.Resumes.{Resumes, NoOpen}
 use Rattle.rules.specs.Blocks.{isUnread}
 use Rattle.rules.specs.Completion.{isCommand}
 use Rattle.rules.specs.Figures.{nowhereBlocks, storedBlocks, waitingBlocks, jobsFor}
-use Rattle.rules.specs.Laws.Answers.{opens, open-first}
+use Rattle.rules.specs.Laws.Answers.{opens}
 use Rattle.rules.specs.Laws.Figures.{places-add, ColumnsAdd, columns-add, front-counts}
 use Rattle.rules.specs.Levels.{filled, sources}
 use Rattle.rules.specs.Memory.{needed}
 use Rattle.rules.specs.Questions
-use Rattle.rules.specs.Questions.{opening, request, turn, Call, possible, questions, firstNo, number, collect}
+use Rattle.rules.specs.Questions.{Ask, opening, request, turn, completion, collect, save, load, Call, possible, questions, firstNo, number}
 use Rattle.rules.specs.Rebuild.{places, unread, gathered, chosen}
 use Rattle.rules.specs.Request.{held, undrawnOnly, isSource, levelsLeft, slotIn, ifUnread, slotRead}
 use Rattle.rules.specs.Run.{Outcome, step, run, after}
@@ -39,12 +40,13 @@ use Rattle.reachable.specs.Found.{request-decides, scan-all, lower-read,
 use Rattle.reachable.specs.Leaves.{gathered-chosen, collected-nowhere, Unwritten, after-stays}
 use Rattle.reachable.specs.Live.{alone-only}
 use Rattle.reachable.specs.Never.{always-possible, never-many, late-two, never-full, full-ready}
-use Rattle.reachable.specs.Reached.{Was, reachable, after-was, live, shut, ready-memory, was-reached}
+use Rattle.reachable.specs.Reached.{Was, reachable, step-was, live, shut, ready-memory, was-reached}
+use Rattle.reachable.specs.LastSaved.{nothing}
 use Rattle.reachable.specs.Sends.{write-within, reads-after-writes, behind, read-is}
-use Rattle.reachable.specs.Settled.{Settled, no-request, closed-settled, step-settles, after-settled}
+use Rattle.reachable.specs.Settled.{Settled, no-request, left-settled}
 use Rattle.reachable.specs.Slots.{front-in}
 use Rattle.reachable.specs.Worn.{blocked-why}
-use Rattle.reachable.specs.Terms.{Apart, none-apart, Numbered, LowestUnread, EachAfterWrite}
+use Rattle.reachable.specs.Terms.{Apart, none-apart, Numbered, LowestUnread, EachAfterWrite, CallsLeft, opened, called, loaded, OfSaved}
 
 -- a closed state sends nothing
 closed-idle : decide closed ≡ idle
@@ -66,19 +68,34 @@ closed-hand s w r e = let z : s .request ≡ none = unfold closed in (ap (λ (x 
 no-queue : (q : ℕ) (rest : List ℕ) → [] ≡ q ∷ rest → ⊥
 no-queue q rest e = let z : _≡_ {A = ℕ} 0 1 = cc in omega arith
 
-module _ (s : State) (c : Call) (h : Shape) (first : c .ask ≡ opening h) (cs : List Call) where
-  -- the state that these calls left
-  abbrev left : State
-  left = after s (c ∷ cs)
+-- The state after an open and a list of calls, whose loads are of saved forms
+call-left : (s : State) (c : Call) → OfSaved (c .ask) → CallsLeft s → CallsLeft (step s c .0)
+call-left s c w l = go (c .ask) refl w
+  where
+    go : (a : Ask) → c .ask ≡ a → OfSaved a → CallsLeft (step s c .0)
+    go (opening h) e w = opened s c h e refl
+    go (request k b bs) e w = called c l (ap opens e ∙ (unfold opens in refl)) refl
+    go turn e w = called c l (ap opens e ∙ (unfold opens in refl)) refl
+    go (completion d bs) e w = called c l (ap opens e ∙ (unfold opens in refl)) refl
+    go collect e w = called c l (ap opens e ∙ (unfold opens in refl)) refl
+    go save e w = called c l (ap opens e ∙ (unfold opens in refl)) refl
+    go (load form) e w = loaded s c (w .1) (w .2 .0) (w .2 .1) (e ∙ ap load (w .2 .2)) refl
 
+calls-left : (cs : List Call) → All (λ (c : Call). OfSaved (c .ask)) cs → (s : State) → CallsLeft s → CallsLeft (after s cs)
+unfolding after
+calls-left [] nil s l = l
+calls-left (c ∷ cs) (cons w t) s l = calls-left cs t (step s c .0) (call-left s c w l)
+
+pub after-open : (s : State) (c : Call) (h : Shape) → c .ask ≡ opening h → (cs : List Call) → All (λ (c : Call). OfSaved (c .ask)) cs → CallsLeft (after s (c ∷ cs))
+unfolding after
+after-open s c h e cs t = calls-left cs t (step s c .0) (opened s c h e refl)
+
+module _ (left : State) (calls : CallsLeft left) where
   was : Was left
-  was = reachable s c h first cs
-
-  opened-settled : Settled (step s c .0)
-  opened-settled = rw (open-first s c h first) (step-settles closed c closed-settled)
+  was = reachable calls
 
   settled : Settled left
-  settled = unfold after in (after-settled cs (step s c .0) opened-settled)
+  settled = left-settled calls
 
   -- ---- "States that calls left never do either"
 
@@ -123,20 +140,20 @@ module _ (s : State) (c : Call) (h : Shape) (first : c .ask ≡ opening h) (cs :
   draws-later q t e r h u = let d : Rebuilds left q t = rw e at (decided left) in d .apart r h u
 
   -- P4: "and the wanted block leaves the job": the next order that is drawn after a collect, the first write since it, gathers its block only if that is
-  -- the one chosen from the cache, as any block that waits
+  -- the one chosen from the cache, as any block that waits. Calls in between may save, and load what was just saved
   pub wanted-leaves : (k : Call) → k .ask ≡ collect → number left k ≡ 0 → (r : Request) → left .request ≡ some r
-      → (ds : List Call) → Unwritten (run (step left k .0) ds) → (q t : ℕ) → decide (after (step left k .0) ds) ≡ rebuild q t
+      → (ds : List Call) → Resumes [] ds (run (step left k .0) ds) → Unwritten (run (step left k .0) ds) → (q t : ℕ) → decide (after (step left k .0) ds) ≡ rebuild q t
       → Mem (r .block) (gathered (after (step left k .0) ds) q) → chosen (after (step left k .0) ds) q ≡ some (r .block)
-  wanted-leaves k a z r e ds n q t d m = go (unfold after in (after-was (k ∷ ds) left was))
+  wanted-leaves k a z r e ds v n q t d m = go (stays .1)
     where
       s′ : State
       s′ = after (step left k .0) ds
 
-      away : s′ .place (r .block) ≡ nowhere
-      away = after-stays ds (step left k .0) (r .block) (collected-nowhere left k a z r e) n
+      stays : (s′ .place (r .block) ≡ nowhere) × Was s′
+      stays = after-stays ds (step left k .0) (r .block) [] (collected-nowhere left k a z r e) n v (nothing refl) (step-was left k (rw a tt) was)
 
       go : Was s′ → chosen s′ q ≡ some (r .block)
-      go (live f) = let x : Rebuilds s′ q t = rw d at (decided s′) in gathered-chosen s′ f q (r .block) (front-in s′ f q (x .rest) (x .front)) away m
+      go (live f) = let x : Rebuilds s′ q t = rw d at (decided s′) in gathered-chosen s′ f q (r .block) (front-in s′ f q (x .rest) (x .front)) (stays .0) m
       go (shut w) = absurd (closed-decides s′ w (rebuild q t) d (unfold Questions.sends in refl))
 
   -- ---- "Then it sends one read to each filled level of p": while a request that isn't held has a level left that costs a read, a turn reads the
@@ -163,7 +180,7 @@ module _ (s : State) (c : Call) (h : Shape) (first : c .ask ≡ opening h) (cs :
       go (live f) = let d : Rebuilds left q t = rw e at (decided left) in rw (d .goal) (never-many left f q (front-in left f q (d .rest) (d .front)))
       go (shut w) = absurd (closed-decides left w (rebuild q t) e (unfold Questions.sends in refl))
 
-  -- ..so a turn's 2 says that the open was refused, or that the memory is too short
+  -- ..so a turn's 2 says that the open or the load was refused, or that the memory is too short
   pub never-late : (k : Call) → k .ask ≡ turn → number left k ≡ 2 → (left ≡ closed) ⊎ (k .memory < needed (left .shape))
   unfolding number
   never-late k e n = go was
@@ -272,17 +289,17 @@ module _ (s : State) (c : Call) (h : Shape) (first : c .ask ≡ opening h) (cs :
       go (live f) = decided-filled left f q ℓ i (sent-turn left k q ℓ i e)
       go (shut w) = absurd (closed-reads left w q ℓ i (sent-turn left k q ℓ i e))
 
--- ---- Over the commands of a run from an open up to the next
-module _ (s : State) (c : Call) (h : Shape) (first : c .ask ≡ opening h) (cs : List Call) (last : All (λ (x : Call). opens (x .ask) ≡ false) cs) where
+-- ---- Over the commands of a run from an open up to the next, with loads only of the form that the call just before has saved
+module _ (s : State) (c : Call) (h : Shape) (first : c .ask ≡ opening h) (cs : List Call) (last : All (λ (x : Call). NoOpen (x .ask)) cs) (resumes : Resumes [] (c ∷ cs) (run s (c ∷ cs))) where
   -- a read of a slot is preceded by a write of it
   pub written-before : (q ℓ i : ℕ) (xs zs : List Outcome) (b : Outcome) → run s (c ∷ cs) ≡ xs ++ (b ∷ zs) → b .command ≡ cmd read q ℓ i
       → any (λ (o : Outcome). isCommand (cmd write q ℓ i) (o .command)) xs ≡ true
-  written-before q ℓ i xs zs b e r = write-within q ℓ i 0 xs b zs (λ z. omega arith) (rw e at (reads-after-writes q ℓ i s c h first cs last)) r
+  written-before q ℓ i xs zs b e r = write-within q ℓ i 0 xs b zs (λ z. omega arith) (rw e at (reads-after-writes q ℓ i s c h first cs last resumes)) r
 
   -- no written slot is read twice before it is written again: between two reads of a slot there is a write of it
   pub written-between : (q ℓ i : ℕ) (xs ys zs : List Outcome) (a b : Outcome) → run s (c ∷ cs) ≡ xs ++ (a ∷ (ys ++ (b ∷ zs))) → a .command ≡ cmd read q ℓ i → b .command ≡ cmd read q ℓ i
       → any (λ (o : Outcome). isCommand (cmd write q ℓ i) (o .command)) ys ≡ true
   written-between q ℓ i xs ys zs a b e ra rb =
-      let x = behind q ℓ i 0 xs (a ∷ (ys ++ (b ∷ zs))) (rw e at (reads-after-writes q ℓ i s c h first cs last)) in
+      let x = behind q ℓ i 0 xs (a ∷ (ys ++ (b ∷ zs))) (rw e at (reads-after-writes q ℓ i s c h first cs last resumes)) in
       let y : EachAfterWrite q ℓ i read (ys ++ (b ∷ zs)) = rw (read-is q ℓ i (x .0) (a .command) ra) at (x .1 .1) in
       write-within q ℓ i read ys b zs (λ z. let v : _≡_ {A = ℕ} 1 2 = z in omega arith) y rb

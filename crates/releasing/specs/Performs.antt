@@ -23,7 +23,7 @@ use Rattle.client.specs.Moves.{Room}
 use Rattle.client.specs.View.{stateOf}
 use Rattle.tape.specs.Tape.{wordsOf}
 use Rattle.contract.specs.declared.Answer.{Answer}
-use Rattle.contract.specs.Meets.{Meets, meets-yes, callOf, commandOf, handedTo, unasked}
+use Rattle.contract.specs.Meets.{Meets, meets-yes, callOf, commandOf, handedTo, reported, unasked}
 use Rattle.releasing.specs.Released.{Released}
 
 -- the same answer with another client
@@ -34,7 +34,7 @@ withClient d r =
 -- what an accepted call leaves; a request may be released then
 pub record Performed (c : Client) (s : State) (a : Ask) (m tape b : List ℕ) (r : Answer) (m′ b′ : List ℕ) : Type 0 where
   pub yes : number s (callOf a m tape b) ≡ 0
-  pub taken : r .taken ≡ takenOf (draws (bounds s a) (wordsOf tape))
+  pub taken : r .taken ≡ reported a (takenOf (draws (bounds s a) (wordsOf tape))) (handed s a (perform s a (numbersOf (draws (bounds s a) (wordsOf tape)))))
   pub command : commandOf r ≡ sentCommand s a
   pub found : r .found ≡ foundNumber (handedFound s a)
   pub state : stateOf (r .client) m′ ≡ perform s a (numbersOf (draws (bounds s a) (wordsOf tape)))
@@ -67,7 +67,7 @@ module _ (c : Client) (s : State) (a : Ask) (m tape b : List ℕ) (r : Answer) (
       meets-yes c s a m tape b (withClient d r) m′ b′ (record {
         yes = p .yes;
         number = z;
-        taken = p .taken;
+        taken = p .taken ∙ ap (reported a (takenOf (draws (bounds s a) (wordsOf tape)))) (sym (handed-release s a (perform s a (numbersOf (draws (bounds s a) (wordsOf tape))))));
         command = p .command;
         found = p .found;
         idle = i;

@@ -9,3 +9,5 @@ pub mod SessionsE
 pub mod SessionsF
 pub mod Even
 pub mod Beside
+pub mod Saved
+pub mod SessionsSaved

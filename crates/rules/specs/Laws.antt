@@ -19,3 +19,4 @@ pub mod Figures
 pub mod Silent
 pub mod Found
 pub mod Awaited
+pub mod Form

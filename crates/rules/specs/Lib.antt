@@ -13,11 +13,14 @@ pub mod Rebuild
 pub mod Turn
 pub mod Completion
 pub mod Collect
+-- ..and document 02's saved form
+pub mod Form
 pub mod Questions
 pub mod Run
 -- Document 02: the figures of a page; and runs that look nothing up to tell where a block was
 pub mod Figures
 pub mod Silent
+pub mod Resumes
 -- Theorems: sessions and edges that the checker computes, and laws
 pub mod Unfold
 pub mod Checked

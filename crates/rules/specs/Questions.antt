@@ -1,11 +1,11 @@
--- Document 01, "Questions, and the number when the reply is no".
+-- Document 01, "Questions, and the number when the reply is no"; document 02, P5, the questions of saving and loading.
 use mathlib.Core.Bool.{Bool, true, false, not, _&&_, _||_}
 use mathlib.Core.List.{List, [], _∷_}
 use mathlib.Core.Option.{Option, none, some}
 use Prim.Native.Nat.{ℕ, _^_}
 use lib.ListN.{length, replicate}
 use lib.Dec.{ltb, leb, eqb}
-use Rattle.lists.specs.Tests.{if_then_else_}
+use Rattle.lists.specs.Tests.{if_then_else_, every}
 use Rattle.lists.specs.Search.{any, isNone, member}
 use Rattle.rules.specs.Shape.{Shape, within}
 use Rattle.rules.specs.State.{Command, read, write, Request, State}
@@ -16,6 +16,10 @@ use Rattle.rules.specs.Rebuild.{gathered}
 use Rattle.rules.specs.Turn.{Step, idle, noDummy, readForRequest, readForJob, rebuild, writeNext, decide, command, stepBounds}
 use Rattle.rules.specs.Completion.{isCommand}
 use Rattle.rules.specs.Collect.{finished}
+use Rattle.rules.specs.Form.Sums.{summed}
+use Rattle.rules.specs.Form.Payload.{savedForm}
+use Rattle.rules.specs.Form.Longest.{longest}
+use Rattle.rules.specs.Form.Loading.{loads, loadedForm}
 
 -- What is asked
 pub data Ask : Type 0 where
@@ -24,6 +28,8 @@ pub data Ask : Type 0 where
   turn : Ask
   completion : Command → List ℕ → Ask
   collect : Ask
+  save : Ask
+  load : List ℕ → Ask  -- a form's bytes
 
 -- ..and what is lent with it: the bytes of memory, the words of the tape, the bytes of the buffer
 pub record Call : Type 0 where
@@ -39,6 +45,8 @@ bounds s (request k b bs) = s .shape .P ∷ s .shape .P ∷ []
 bounds s turn = stepBounds (decide s)
 bounds s (completion c bs) = []
 bounds s collect = []
+bounds s save = []
+bounds s (load form) = []
 
 -- "Memory long enough, each number of the state in its range"
 unfoldable pub ready : State → ℕ → Bool
@@ -65,6 +73,10 @@ possible s (writeNext q t i) = true
 unfoldable pub inHand : (Request → Bool) → Option Request → Bool
 inHand p none = false
 inHand p (some r) = p r
+
+-- "While a request is in hand, a command outstanding or a job begun": none is
+unfoldable pub atRest : State → Bool
+atRest s = every (isNone (s .request) ∷ eqb (length (s .outstanding)) 0 ∷ eqb (s .begun) 0 ∷ [])
 
 -- The questions of a call in their order, each with the number of a no
 unfoldable pub questions : State → Ask → ℕ → List ℕ → ℕ → List (Bool × ℕ)
@@ -96,6 +108,16 @@ questions s collect memory words buffer =
     ∷ (inHand (λ r. true) (s .request), 13)
     ∷ (inHand (finished s) (s .request), 14)
     ∷ (eqb buffer (s .shape .B), 15) ∷ []
+-- "After 2, which covers the form's buffer, saving replies 16 ..". The last 2 is for states that no calls left, where one block may wait twice
+questions s save memory words buffer =
+    (ready s memory && leb (longest (s .shape)) buffer, 2)
+    ∷ (atRest s, 16)
+    ∷ (leb (length (savedForm s)) buffer, 2) ∷ []
+-- "Loading replies 17 .., then 18 .., then 2 for lent memory too short."
+questions s (load form) memory words buffer =
+    (summed form, 17)
+    ∷ (loads form, 18)
+    ∷ (leb (needed (loadedForm form .shape)) memory, 2) ∷ []
 
 -- "The first no decides."
 unfoldable pub firstNo : List (Bool × ℕ) → ℕ

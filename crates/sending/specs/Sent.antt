@@ -154,9 +154,9 @@ pub handed-read : (b : List ℕ) (s : State) (q l i : ℕ) → b ≡ handedTo b 
 unfolding written
 handed-read b s q l i = refl
 
-pub handed-write : (b b′ : List ℕ) (s : State) (q l i : ℕ) → 1 ≤ length b′ → b′ ≡ slotBytes s (holder s q l i) → b′ ≡ handedTo b (written s (cmd write q l i))
+pub handed-write : (b b′ : List ℕ) (s : State) (q l i : ℕ) → length b ≡ length b′ → b′ ≡ slotBytes s (holder s q l i) → b′ ≡ handedTo b (written s (cmd write q l i))
 unfolding written
-handed-write b b′ s q l i n e = e ∙ sym (filled b (slotBytes s (holder s q l i)) (rw (sym e) n))
+handed-write b b′ s q l i n e = e ∙ sym (filled b (slotBytes s (holder s q l i)) (n ∙ ap length e))
 
 -- ---- What it changes
 
@@ -266,7 +266,7 @@ module _ (c : Client) (m tape b : List ℕ) (x : Step) (d : Due c m x) where
     no-room e n p = rw (g, k, eq-eqb (length b) (c .shape .b) e, n, p)
 
     pub write-performs : (e : Client) (m′ b′ : List ℕ) (n : ℕ) → possible (stateOf c m) x ≡ true → length b ≡ c .shape .b → Enough (stepBounds x) (wordsOf tape) → n ≡ takenOf (draws (stepBounds x) (wordsOf tape))
-        → length m′ ≡ length m → Left c e m m′ (doStep x (drawn c m tape b x d) (stateOf c m)) → 1 ≤ length b′ → b′ ≡ slotBytes (stateOf e m′) (holder (stateOf e m′) q l i)
+        → length m′ ≡ length m → Left c e m m′ (doStep x (drawn c m tape b x d) (stateOf c m)) → length b ≡ length b′ → b′ ≡ slotBytes (stateOf e m′) (holder (stateOf e m′) q l i)
         → Performs c (stateOf c m) turn m tape b (acceptedWith e n 2 q l i) m′ b′
     unfolding firstNo
     write-performs e m′ b′ n p h w t y f o z = accepts c m tape b x d (acceptedWith e n 2 q l i) m′ b′

@@ -22,7 +22,7 @@ use Rattle.client.specs.declared.Client.{Client}
 use Rattle.client.specs.View.{stateOf, view}
 use Rattle.tape.specs.Tape.{wordsOf, length-words, word-is}
 use Rattle.contract.specs.declared.Answer.{Answer}
-use Rattle.contract.specs.Meets.{Meets, callOf}
+use Rattle.contract.specs.Meets.{Meets, callOf, reported}
 use Rattle.printing.specs.Text.{numberText}
 use Rattle.printing.specs.Laws.{textRoom, number-le as number-text-le}
 use Rattle.printing.specs.Written.{Written, same-text}
@@ -89,6 +89,10 @@ meets-small c st a m t b r m′ b′ k = omega (arith, k .number, step-number st
 
 -- ---- One call, on what is left of the tape: the bytes t
 
+-- a call whose answer reports the words that it took
+abbrev pub CountsWords : Ask → Type 0
+CountsWords a = (n : ℕ) (bs : List ℕ) → reported a n bs ≡ n
+
 module _ (s : Session) (m tape host t : List ℕ) (f : Served s tape) (left : t ≡ drop (s .taken * 2) tape) (long : length m ≡ memoryRoom) where
   words-left : wordsOf t ≡ drop (s .taken) (wordsOf tape)
   words-left = ap wordsOf left ∙ words-drop tape (s .taken) (f .taken)
@@ -120,20 +124,20 @@ module _ (s : Session) (m tape host t : List ℕ) (f : Served s tape) (left : t 
     abbrev pub later : Session
     later = record { client = r .client; taken = s .taken + r .taken }
 
-    pub went-is : kept later m′ tape host ≡ went (kept s m tape host) (step st made)
+    pub went-is : CountsWords a → kept later m′ tape host ≡ went (kept s m tape host) (step st made)
     unfolding went
-    went-is = λ i. record { state = state-is i; words = words-are i; host = host }
+    went-is q = λ i. record { state = state-is i; words = words-are i; host = host }
       where
         state-is : stateOf (r .client) m′ ≡ step st made .0
         state-is = k .state ∙ ap (λ y. step st y .0) made-is
 
         words-are : drop (s .taken + r .taken) (wordsOf tape) ≡ drop (step st made .1 .taken) (drop (s .taken) (wordsOf tape))
-        words-are = sym (drop-drop (r .taken) (s .taken) (wordsOf tape)) ∙ ap (λ n. drop n (drop (s .taken) (wordsOf tape))) (k .taken ∙ ap (λ y. step st y .1 .taken) made-is)
+        words-are = sym (drop-drop (r .taken) (s .taken) (wordsOf tape)) ∙ ap (λ n. drop n (drop (s .taken) (wordsOf tape))) (k .taken ∙ q _ _ ∙ ap (λ y. step st y .1 .taken) made-is)
 
-    pub taken-le : s .taken + r .taken ≤ length (wordsOf tape)
-    taken-le =
+    pub taken-le : CountsWords a → s .taken + r .taken ≤ length (wordsOf tape)
+    taken-le q =
         let l = ap length words-left ∙ length-drop (s .taken) (wordsOf tape) in
-        omega (arith, f .taken, k .taken, step-taken st (callOf a m t b))
+        omega (arith, f .taken, k .taken ∙ q _ _, step-taken st (callOf a m t b))
 
     -- the shape that is left
     shape-left : shapeOf (r .client .shape) ≡ step st made .0 .shape
@@ -143,17 +147,17 @@ module _ (s : Session) (m tape host t : List ℕ) (f : Served s tape) (left : t 
     pub shape-same : st .shape ≡ shapeOf (s .client .shape) → opens a ≡ false → shapeOf (r .client .shape) ≡ shapeOf (s .client .shape)
     shape-same e four = shape-left ∙ step-shape st made four ∙ e
 
-    pub served-later : st .shape ≡ shapeOf (s .client .shape) → opens a ≡ false → Served later tape
-    served-later e four =
+    pub served-later : CountsWords a → st .shape ≡ shapeOf (s .client .shape) → opens a ≡ false → Served later tape
+    served-later q e four =
         let h = shape-same e four in
-        record { serves = ap serves h ∙ f .serves; block = omega (arith, ap (λ (x : Shape). x .B) h, f .block); taken = taken-le }
+        record { serves = ap serves h ∙ f .serves; block = omega (arith, ap (λ (x : Shape). x .B) h, f .block); taken = taken-le q }
 
-    pub call-yes : r .number ≡ 0 → Served later tape → (text : List ℕ) → length text ≤ textRoom → (p : Printed) → p .session ≡ later → (out out′ : List ℕ) (at : ℕ) → Written out at text out′ (p .at)
+    pub call-yes : CountsWords a → r .number ≡ 0 → Served later tape → (text : List ℕ) → length text ≤ textRoom → (p : Printed) → p .session ≡ later → (out out′ : List ℕ) (at : ℕ) → Written out at text out′ (p .at)
         → Gives (answered (kept s m tape host) (step st made) (went (kept s m tape host) (step st made), text)) tape out at p m′ host out′
     unfolding answered
-    call-yes z l text short p e out out′ at w =
+    call-yes q z l text short p e out out′ at w =
         rw (eq-eqb (step st made .1 .number) 0 (sym number-is ∙ z)) (record {
-          session = ap (λ x. kept x m′ tape host) e ∙ went-is;
+          session = ap (λ x. kept x m′ tape host) e ∙ went-is q;
           text = w;
           served = rw e l;
           room = omega (arith, w .place);
@@ -174,9 +178,9 @@ module _ (s : Session) (m tape t : List ℕ) (f : Served s tape) (left : t ≡ d
   pub asked-yes : r .number ≡ 0 → (p : Printed) → p .session ≡ record { client = r .client; taken = s .taken + r .taken } → (out out′ : List ℕ) (at : ℕ) → Written out at (numberText 0) out′ (p .at) → Asks s kind block bs m tape out at p m′ out′
   unfolding replied
   asked-yes z p e out out′ at w host =
-      call-yes s m tape host t f left long (s .client) (stateOf (s .client) m) (request kind block bs) [] r m′ [] k z
-      (served-later s m tape host t f left long (s .client) (stateOf (s .client) m) (request kind block bs) [] r m′ [] k shaped (unfold opens in refl))
+      call-yes s m tape host t f left long (s .client) (stateOf (s .client) m) (request kind block bs) [] r m′ [] k (λ n bs. refl) z
+      (served-later s m tape host t f left long (s .client) (stateOf (s .client) m) (request kind block bs) [] r m′ [] k (λ n bs. refl) shaped (unfold opens in refl))
       (numberText 0) (omega (arith, number-text-le 0)) p e out out′ at w
 
   pub asked-taken : s .taken + r .taken ≤ length (wordsOf tape)
-  asked-taken = taken-le s m tape [] t f left long (s .client) (stateOf (s .client) m) (request kind block bs) [] r m′ [] k
+  asked-taken = taken-le s m tape [] t f left long (s .client) (stateOf (s .client) m) (request kind block bs) [] r m′ [] k (λ n bs. refl)

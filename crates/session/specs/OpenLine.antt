@@ -1,5 +1,5 @@
 -- How the answer to an O comes to be what the definition gives.
-use mathlib.Core.Path.{_≡_, ap, sym, _∙_}
+use mathlib.Core.Path.{_≡_, refl, ap, sym, _∙_}
 use mathlib.Core.Bool.{true, false}
 use mathlib.Core.List.{List, []}
 use Prim.Native.Nat.{ℕ, _+_, _*_, _≤_}
@@ -87,13 +87,13 @@ module _ (s : Session) (m tape t : List ℕ) (f : Served s tape) (left : t ≡ d
   opens-no n p e out out′ at x host = rw lent-all (call-no s m tape host t f left long clearedClient closed (opening h) [] r m′ [] k _ n p e out out′ at x)
 
   pub opens-taken : s .taken + r .taken ≤ length (wordsOf tape)
-  opens-taken = taken-le s m tape [] t f left long clearedClient closed (opening h) [] r m′ [] k
+  opens-taken = taken-le s m tape [] t f left long clearedClient closed (opening h) [] r m′ [] k (λ n bs. refl)
 
   -- the shape of the new store
   new-shape : r .number ≡ 0 → shapeOf (r .client .shape) ≡ h
   unfolding stateOf view accepted act perform fresh went
   new-shape z =
-      let x = went-is s m tape [] t f left long clearedClient closed (opening h) [] r m′ [] k in
+      let x = went-is s m tape [] t f left long clearedClient closed (opening h) [] r m′ [] k (λ n bs. refl) in
       let y : number closed (asks memoryRoom) ≡ 0 = sym (step-number closed (asks memoryRoom)) ∙ number-zero z in
       ap (λ (u : S.Session). u .state .shape) x ∙ ap (λ (u : State × Outcome). u .0 .shape) (step-accepted closed (asks memoryRoom) y)
     where
@@ -104,6 +104,6 @@ module _ (s : Session) (m tape t : List ℕ) (f : Served s tape) (left : t ≡ d
       → AnswersApart s (opens h) m tape out at p m′ out′
   unfolding gives replied
   opens-yes z p e out out′ at x host = rw lent-all (
-      call-yes s m tape host t f left long clearedClient closed (opening h) [] r m′ [] k z
+      call-yes s m tape host t f left long clearedClient closed (opening h) [] r m′ [] k (λ n bs. refl) z
       (record { serves = ap serves (new-shape z) ∙ g; block = omega (arith, ap (λ (u : Shape). u .B) (new-shape z), bounds h w .2); taken = opens-taken })
       (numberText 0) (omega (arith, number-text-le 0)) p e out out′ at x)

@@ -1,6 +1,6 @@
 -- Whether a session opened a store: exactly then the state that it leaves is ready, and has a page.
 use mathlib.Core.Path.{_≡_, refl, ap, sym, _∙_}
-use mathlib.Core.Bool.{Bool, true, false, not, _&&_, _||_, true≢false}
+use mathlib.Core.Bool.{Bool, true, false, not, _&&_, _||_}
 use mathlib.Core.List.{List, [], _∷_}
 use mathlib.Core.Option.{Option, none, some}
 use Prim.Native.Nat.{ℕ, _≤_}
@@ -13,15 +13,16 @@ use Rattle.rules.specs.Shape.{Shape}
 use Rattle.rules.specs.State.{State, closed}
 use Rattle.rules.specs.Memory.{needed}
 use Rattle.rules.specs.Open.{fresh}
-use Rattle.rules.specs.Ranges.{inRange, isKind}
-use Rattle.rules.specs.Questions.{Ask, opening, request, turn, completion, collect, Call, ready, questions, number}
+use Rattle.rules.specs.Ranges.{inRange}
+use Rattle.rules.specs.Questions.{opening, Call, ready, questions, number}
 use Rattle.rules.specs.Run.{Outcome, step, act, perform, accepted}
-use Rattle.rules.specs.Laws.Answers.{opens as opensOf, Passed, accepted-passed, step-number, step-accepted, refused-keeps, closed-unready}
+use Rattle.rules.specs.Laws.Answers.{opens as opensOf, accepted-passed, step-number, step-accepted, refused-keeps, closed-unready}
 use Rattle.rules.specs.Laws.Kept.{accepted-in}
 use Rattle.rules.specs.Laws.Range.{InRange, facts-range}
 use Rattle.lines.specs.Lines.{Line, opens, reads, writes, turns, collects, malformed, lineOf, tapeOf}
 use Rattle.printing.specs.Text.{numberText}
 use Rattle.session.specs.Session.{Session, Given, serves, memoryRoom, lent, call, went, answered, completed, replied, turned, collected, gives, ends, begun, leaves, left}
+use Rattle.contract.specs.Buffers.{ready-of}
 use Rattle.session.specs.Laws.{step-shape}
 
 -- ---- Document 02, P1: "Without an accepted O it prints nothing."
@@ -51,15 +52,6 @@ ready-from : (s : State) (m : ℕ) → leb (needed (s .shape)) m ≡ true → In
 unfolding ready
 ready-from s m e f = and-true e (facts-range s f)
 
--- the first question of four calls
-passed-ready : (s : State) (a : Ask) (m : ℕ) (ws : List ℕ) (n : ℕ) → opensOf a ≡ false → Passed (questions s a m ws n) → ready s m ≡ true
-unfolding opensOf questions
-passed-ready s (opening h) m ws n four p = absurd (true≢false four)
-passed-ready s (request k b bs) m ws n four p = and-l (ready s m) (isKind k) (p .0)
-passed-ready s turn m ws n four p = p .0
-passed-ready s (completion c bs) m ws n four p = and-l (ready s m) (isKind (c .kind)) (p .0)
-passed-ready s collect m ws n four p = p .0
-
 accepted-range : (s : State) (c : Call) → number s c ≡ 0 → InRange (step s c .0)
 unfolding accepted
 accepted-range s c z = rw (step-accepted s c z) (accepted-in s (c .ask) (c .memory) (c .words) (c .buffer) (accepted-passed s c z))
@@ -70,7 +62,7 @@ step-ready s c four = go (ℕ-discrete (number s c) 0)
   where
     go : Dec (number s c ≡ 0) → ready (step s c .0) (c .memory) ≡ ready s (c .memory)
     go (yes z) =
-        let before = passed-ready s (c .ask) (c .memory) (c .words) (c .buffer) four (accepted-passed s c z) in
+        let before = ready-of s (c .ask) (c .memory) (c .words) (c .buffer) four (accepted-passed s c z) in
         let room : leb (needed (s .shape)) (c .memory) ≡ true = unfold ready in (and-l (leb (needed (s .shape)) (c .memory)) (inRange s) before) in
         ready-from (step s c .0) (c .memory) (ap (λ h. leb (needed h) (c .memory)) (step-shape s c four) ∙ room) (accepted-range s c z) ∙ sym before
     go (no n) = ap (λ x. ready x (c .memory)) (refused-keeps s c four n)

@@ -26,7 +26,7 @@ use Rattle.client.specs.View.{stateOf, view}
 use Rattle.tape.specs.Tape.{wordsOf}
 use Rattle.contract.specs.declared.Answer.{Answer}
 use Rattle.contract.specs.Meets.{Meets, callOf, commandOf, handedTo}
-use Rattle.contract.specs.Buffers.{state-whole, ready-long, filled, written-some, answer-some}
+use Rattle.contract.specs.Buffers.{state-whole, ready-long, filled, written-length, answer-length}
 use Rattle.printing.specs.Text.{numberText, commandText, contentsText}
 use Rattle.printing.specs.Laws.{command-le, contents-le}
 use Rattle.printing.specs.Written.{Written, same-text}
@@ -117,7 +117,7 @@ module _ (s : Session) (m tape host t : List ℕ) (f : Served s tape) (left : t 
   turn-shape = shape-same s m tape host t f left long (s .client) st turn b r m′ b′ k shaped (unfold opens in refl)
 
   pub turn-taken : s .taken + r .taken ≤ length (wordsOf tape)
-  turn-taken = taken-le s m tape host t f left long (s .client) st turn b r m′ b′ k
+  turn-taken = taken-le s m tape host t f left long (s .client) st turn b r m′ b′ k (λ n bs. refl)
 
   -- it is refused
   pub turns-no : (r .number ≡ 0 → ⊥) → (p : Printed) → p .session ≡ s → (out out′ : List ℕ) (at : ℕ) → Written out at (numberText (r .number)) out′ (p .at) → Answers s turns m tape host out at p m′ host out′
@@ -156,13 +156,13 @@ module _ (s : Session) (m tape host t : List ℕ) (f : Served s tape) (left : t 
     -- a write's bytes are in the buffer
     pub turn-bytes : r .kind ≡ write → b′ ≡ step st asks .1 .bytes
     unfolding accepted handed written sentCommand
-    turn-bytes e = k .buffer ∙ ap (λ y. handedTo b (step st y .1 .bytes)) (made-is s m tape host t f left long (s .client) st turn b r m′ b′ k) ∙ filled b (step st asks .1 .bytes) some
+    turn-bytes e = k .buffer ∙ ap (λ y. handedTo b (step st y .1 .bytes)) (made-is s m tape host t f left long (s .client) st turn b r m′ b′ k) ∙ filled b (step st asks .1 .bytes) (sym (full ∙ size-is))
       where
         kind-is : eqb (command (decide st) .kind) write ≡ true
         kind-is = eq-eqb (command (decide st) .kind) write (sym (ap (λ (x : Command). x .kind) (command-is ∙ ap (λ (x : State × Outcome). x .1 .command) (step-accepted st asks yes))) ∙ e)
 
-        some : 1 ≤ length (step st asks .1 .bytes)
-        some = rw (step-accepted st asks yes, kind-is) (written-some st memoryRoom (state-whole (s .client) m (omega (arith, ready-long st memoryRoom ready-now, long))) ready-now (numbersOf (draws (bounds st turn) (asks .words))) _)
+        full : length (step st asks .1 .bytes) ≡ st .shape .B
+        full = rw (step-accepted st asks yes, kind-is) (written-length st (state-whole (s .client) m (omega (arith, ready-long st memoryRoom ready-now, long))) (numbersOf (draws (bounds st turn) (asks .words))) _)
 
     -- what is kept, with the host's bytes, after the completion
     module _ (long′ : length m′ ≡ memoryRoom) (c : Client) (m″ host′ : List ℕ) (x : Completes r m′ host b′ c m″ host′) where
@@ -199,7 +199,7 @@ module _ (s : Session) (m tape host t : List ℕ) (f : Served s tape) (left : t 
       turns-yes p e out out′ at w =
           subst (λ n. Gives (turned (kept s m tape host) (step st (call turn memoryRoom (drop (s .taken) (wordsOf tape)) n))) tape out at p m″ host′ out′) (sym size-is)
           (rw (eq-eqb (step st asks .1 .number) 0 (step-number st asks ∙ yes)) (record {
-            session = ap (λ y. kept y m″ tape host′) e ∙ completed-is ∙ ap (λ y. completed y (step st asks .1)) (went-is s m tape host t f left long (s .client) st turn b r m′ b′ k);
+            session = ap (λ y. kept y m″ tape host′) e ∙ completed-is ∙ ap (λ y. completed y (step st asks .1)) (went-is s m tape host t f left long (s .client) st turn b r m′ b′ k (λ n bs. refl));
             text = same-text (ap commandText command-is) w;
             served = rw e (record { serves = ap S.serves last-shape ∙ f .serves; block = omega (arith, ap (λ (y : Shape). y .B) last-shape, f .block); taken = turn-taken });
             room = omega (arith, w .place, command-le (commandOf r));
@@ -232,7 +232,7 @@ module _ (s : Session) (m tape : List ℕ) (f : Served s tape) (long : length m 
   same-size = sym size
 
   pub collect-taken : s .taken + r .taken ≤ length (wordsOf tape)
-  collect-taken = taken-le s m tape [] (drop (s .taken * 2) tape) f refl long (s .client) from collect b r m′ b′ k
+  collect-taken = taken-le s m tape [] (drop (s .taken * 2) tape) f refl long (s .client) from collect b r m′ b′ k (λ n bs. refl)
 
   pub collects-no : (r .number ≡ 0 → ⊥) → (p : Printed) → p .session ≡ s → (out out′ : List ℕ) (at : ℕ) → Written out at (numberText (r .number)) out′ (p .at) → AnswersApart s collects m tape out at p m′ out′
   unfolding gives collected
@@ -242,7 +242,7 @@ module _ (s : Session) (m tape : List ℕ) (f : Served s tape) (long : length m 
 
   collect-bytes : r .number ≡ 0 → b′ ≡ step from wants .1 .bytes
   unfolding accepted handed questions
-  collect-bytes z = k .buffer ∙ ap (λ y. handedTo b (step from y .1 .bytes)) is ∙ filled b (step from wants .1 .bytes) some
+  collect-bytes z = k .buffer ∙ ap (λ y. handedTo b (step from y .1 .bytes)) is ∙ filled b (step from wants .1 .bytes) (sym (full ∙ same-size))
     where
       is : callOf collect m (drop (s .taken * 2) tape) b ≡ wants
       is = made-is s m tape [] (drop (s .taken * 2) tape) f refl long (s .client) from collect b r m′ b′ k
@@ -250,17 +250,17 @@ module _ (s : Session) (m tape : List ℕ) (f : Served s tape) (long : length m 
       yes : number from wants ≡ 0
       yes = sym (step-number from wants) ∙ sym (number-is s m tape [] (drop (s .taken * 2) tape) f refl long (s .client) from collect b r m′ b′ k) ∙ z
 
-      some : 1 ≤ length (step from wants .1 .bytes)
-      some =
+      full : length (step from wants .1 .bytes) ≡ from .shape .B
+      full =
           let q = accepted-passed from wants yes in
-          rw (step-accepted from wants yes) (answer-some from memoryRoom (state-whole (s .client) m (omega (arith, ready-long from memoryRoom (q .0), long))) (q .0) (from .request) (q .1 .0))
+          rw (step-accepted from wants yes) (answer-length from (state-whole (s .client) m (omega (arith, ready-long from memoryRoom (q .0), long))) (from .request) (q .1 .0))
 
   pub collects-yes : r .number ≡ 0 → length b′ ≡ length b → (p : Printed) → p .session ≡ record { client = r .client; taken = s .taken + r .taken } → (out out′ : List ℕ) (at : ℕ) → Written out at (contentsText b′) out′ (p .at)
       → AnswersApart s collects m tape out at p m′ out′
   unfolding gives collected
   collects-yes z l p e out out′ at w host =
       subst (λ x. Gives (collected (kept s m tape host) (step from (call collect memoryRoom (drop (s .taken) (wordsOf tape)) x))) tape out at p m′ host out′) (sym same-size)
-      (call-yes s m tape host (drop (s .taken * 2) tape) f refl long (s .client) from collect b r m′ b′ k z
-      (served-later s m tape host (drop (s .taken * 2) tape) f refl long (s .client) from collect b r m′ b′ k same-shape (unfold opens in refl))
+      (call-yes s m tape host (drop (s .taken * 2) tape) f refl long (s .client) from collect b r m′ b′ k (λ n bs. refl) z
+      (served-later s m tape host (drop (s .taken * 2) tape) f refl long (s .client) from collect b r m′ b′ k (λ n bs. refl) same-shape (unfold opens in refl))
       (contentsText (step from wants .1 .bytes)) (contents-le (step from wants .1 .bytes) (omega (arith, ap length (collect-bytes z), l, size, f .block)))
       p e out out′ at (same-text (ap contentsText (collect-bytes z)) w))

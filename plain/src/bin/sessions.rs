@@ -6,18 +6,13 @@
 //! rebuilt (P4).
 
 use plain::antt;
-use plain::calls::{Call, Outcome};
-use plain::marks::{DRAW_MARKS, FOUND_MARKS, Mark, marks};
+use plain::choose::{Group, Kind, Plan, Session};
+use plain::marks::{DRAW_MARKS, FOUND_MARKS, Mark};
 use plain::mistakes::Mistake;
-use plain::script::{Script, replay};
 use plain::shape::Shape;
 use plain::situations::Situation;
 use std::path::Path;
 use std::process::ExitCode;
-
-/// The shape of a session, the shape it is opened with anew in the middle,
-/// and the number of its calls.
-type Plan = (Shape, Option<Shape>, usize);
 
 const PLANS: [Plan; 7] = [
     (Shape::new(1, 1, 1, 1, 1, 1), None, 44),
@@ -55,50 +50,39 @@ const SEEDS: u64 = 3000;
 const MORE_SEEDS: u64 = 9000;
 const MOST_SEEDS: u64 = 20_000;
 const MOST_LINES: usize = 399;
-/// What a mistake or a mark counts that no chosen session has.
-const UNMET: usize = 300;
 
 /// The numbers that have to occur; 7 needs 63 jobs queued.
 const NUMBERS: [u8; 15] = [0, 1, 2, 3, 4, 5, 6, 8, 9, 10, 11, 12, 13, 14, 15];
 
-/// Sessions to choose, and what they have to tell and to have among them.
-struct Group {
-    plans: &'static [Plan],
-    /// Whether requests are to be made while their partition is rebuilt.
-    beside: bool,
-    seeds: u64,
-    mistakes: Vec<Mistake>,
-    marks: Vec<Mark>,
-}
-
 fn groups() -> [Group; 4] {
-    let later = [&Mistake::FOUND[..], &Mistake::DRAWS, &Mistake::BESIDE].concat();
+    let later = [&Mistake::FOUND[..], &Mistake::DRAWS, &Mistake::BESIDE];
+    let later = [later.concat(), Mistake::SAVED.to_vec()].concat();
     let of_document_01 = |mistake: &Mistake| !later.contains(mistake);
     let mistakes = Mistake::ALL.into_iter().filter(of_document_01);
     let first = Group {
         plans: &PLANS,
-        beside: false,
+        kind: Kind::Any,
         seeds: SEEDS,
         mistakes: mistakes.collect(),
         marks: NUMBERS.map(Mark::Number).to_vec(),
     };
     let found = Group {
         plans: &FOUND_PLANS,
-        beside: false,
+        kind: Kind::Any,
         seeds: MORE_SEEDS,
         mistakes: Mistake::FOUND.to_vec(),
         marks: FOUND_MARKS.to_vec(),
     };
     let draws = Group {
         plans: &DRAW_PLANS,
-        beside: false,
+        kind: Kind::Any,
         seeds: MORE_SEEDS,
         mistakes: Mistake::DRAWS.to_vec(),
         marks: DRAW_MARKS.to_vec(),
     };
     let beside = Group {
         plans: &BESIDE_PLANS,
-        beside: true,
+        kind: Kind::Beside,
         seeds: MOST_SEEDS,
         mistakes: Mistake::BESIDE.to_vec(),
         marks: Situation::ALL.map(Mark::Met).to_vec(),
@@ -106,87 +90,11 @@ fn groups() -> [Group; 4] {
     [first, found, draws, beside]
 }
 
-struct Session {
-    shape: Shape,
-    calls: Vec<Call>,
-    outcomes: Vec<Outcome>,
-    told: Vec<Mistake>,
-    marks: Vec<Mark>,
-}
-
-fn told(calls: &[Call], outcomes: &[Outcome], mistakes: &[Mistake]) -> Vec<Mistake> {
-    let differs = |mistake: &&Mistake| replay(calls, **mistake) != outcomes;
-    mistakes.iter().filter(differs).copied().collect()
-}
-
-fn has(sessions: &[Session], mark: Mark) -> bool {
-    sessions.iter().any(|s| s.marks.contains(&mark))
-}
-
-fn tells(sessions: &[Session], mistake: Mistake) -> bool {
-    sessions.iter().any(|s| s.told.contains(&mistake))
-}
-
-impl Group {
-    /// The session of a seed, with which of the group's mistakes it tells.
-    fn session(&self, (shape, second, length): &Plan, seed: u64) -> Session {
-        let Script {
-            calls, outcomes, ..
-        } = match self.beside {
-            true => Script::beside(*shape, seed, *length),
-            false => Script::new(*shape, *second, seed, *length),
-        };
-        Session {
-            shape: *shape,
-            marks: marks(&calls, &outcomes),
-            told: told(&calls, &outcomes, &self.mistakes),
-            calls,
-            outcomes,
-        }
-    }
-
-    /// What a session adds: the less a mistake or a mark has been met, the
-    /// more it counts.
-    fn worth(&self, session: &Session, chosen: &[Session]) -> usize {
-        let told = self.mistakes.iter().filter(|m| session.told.contains(m));
-        let mistakes = told.map(|mistake| {
-            let times = chosen.iter().filter(|s| s.told.contains(mistake)).count();
-            if times == 0 { UNMET } else { 60 / (1 + times) }
-        });
-        let marked = self.marks.iter().filter(|m| session.marks.contains(m));
-        let marks = marked.map(|mark| if has(chosen, *mark) { 1 } else { UNMET });
-        mistakes.chain(marks).sum()
-    }
-
-    fn choose(&self) -> Vec<Session> {
-        let mut chosen: Vec<Session> = Vec::new();
-        for plan in self.plans {
-            let seeds = (0..self.seeds).map(|seed| self.session(plan, seed));
-            if let Some(mut best) = seeds.max_by_key(|s| self.worth(s, &chosen)) {
-                best.told = told(&best.calls, &best.outcomes, &Mistake::ALL);
-                chosen.push(best);
-            }
-        }
-        chosen
-    }
-
-    /// The chosen sessions tell each mistake, and each mark occurs in them.
-    fn complete(&self, chosen: &[Session]) -> Result<(), String> {
-        let missed = self.mistakes.iter().filter(|m| !tells(chosen, **m));
-        let absent = self.marks.iter().filter(|m| !has(chosen, **m));
-        let (missed, absent): (Vec<_>, Vec<_>) = (missed.collect(), absent.collect());
-        if missed.is_empty() && absent.is_empty() {
-            return Ok(());
-        }
-        Err(format!("not told: {missed:?}; absent: {absent:?}"))
-    }
-}
-
 /// The sessions of all groups, one after the other.
 fn choose() -> Result<Vec<Session>, String> {
     let mut all = Vec::new();
     for group in groups() {
-        let chosen = group.choose();
+        let chosen = group.choose(Vec::new());
         group.complete(&chosen)?;
         all.extend(chosen);
     }
@@ -198,7 +106,8 @@ fn files(sessions: &[Session]) -> Vec<String> {
     let lines = |part: &str| part.lines().count();
     let mut files = vec![String::new()];
     for (index, session) in sessions.iter().enumerate() {
-        let text = antt::session(index, &session.calls, &session.outcomes);
+        let name = format!("session{index}");
+        let text = antt::session(&name, &session.calls, &session.outcomes);
         let last = files.len() - 1;
         if antt::HEADER_LINES + lines(&files[last]) + 1 + lines(&text) > MOST_LINES {
             files.push(String::new());
@@ -207,7 +116,7 @@ fn files(sessions: &[Session]) -> Vec<String> {
         files[last] += "\n";
         files[last] += &text;
     }
-    let whole = |text: String| antt::header(&text) + &text;
+    let whole = |text: String| antt::header("sessions", &text) + &text;
     files.into_iter().map(whole).collect()
 }
 
@@ -216,7 +125,8 @@ fn print_told(sessions: &[Session]) {
         let Session { shape, calls, .. } = session;
         println!("session{index}: {} calls, {shape:?}", calls.len());
     }
-    for mistake in Mistake::ALL {
+    let saved = |mistake: &Mistake| Mistake::SAVED.contains(mistake);
+    for mistake in Mistake::ALL.into_iter().filter(|m| !saved(m)) {
         let told = those(sessions, |session| session.told.contains(&mistake));
         println!("{mistake:?}: told by sessions {told:?}");
     }

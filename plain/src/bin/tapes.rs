@@ -2,11 +2,13 @@
 //! bits, and compares the transcripts: with the right rules each occurs equally
 //! often in both lists, look-ups while a partition is rebuilt among them. With
 //! each of some planted mistakes some pair differs, and so it does for a caller
-//! who lends words again.
+//! who lends words again. Then pairs in which the client is saved and loaded are
+//! compared so, each run with its own forms.
 
 use plain::lists::{Pair, pair};
 use plain::lists::{above_sources, source_read, source_spent, source_unread};
 use plain::lists::{drawn_again, layered, lent_again, two_stored};
+use plain::lists::{reloaded_marks, reloaded_queue, reloading};
 use plain::mistakes::Mistake;
 use plain::shape::Shape;
 use plain::situations::Situation;
@@ -32,6 +34,8 @@ const SHAPES: [Shape; 12] = [
 ];
 
 const PAIRS: usize = 600;
+/// Those in which the client is saved and loaded.
+const RELOADING: usize = 240;
 /// The bits of the largest words.
 const WIDEST: u32 = 3;
 /// In so many pairs at least a word has to be passed over, and in so many a
@@ -39,6 +43,8 @@ const WIDEST: u32 = 3;
 const FEWEST: usize = 100;
 /// In so many a request has to be released while its partition is rebuilt.
 const FEWEST_BESIDE: usize = 300;
+/// In so many the client has to be loaded and then send a read.
+const FEWEST_RELOADED: usize = 100;
 
 /// The mistakes that demand 3 itself has to shut out. With words of few bits
 /// draws are far from even if words that should be passed over are taken: the
@@ -66,6 +72,10 @@ const TOLD: [Mistake; 16] = [
     Mistake::OwnJobReadAwaited,
 ];
 
+/// The mistakes that make a load change what the host sees by what it must not
+/// learn.
+const TOLD_BY_RELOADS: [Mistake; 2] = [Mistake::LoadClearsMarks, Mistake::LoadPrefersWaiting];
+
 /// A pair, and at how many different runs its lists end.
 type Limited = (Pair, usize);
 
@@ -86,15 +96,26 @@ fn pairs() -> impl Iterator<Item = Limited> {
         above_sources(2),
         above_sources(3),
     ];
-    let random = (0..).map(|seed: usize| {
+    let made = made.map(|pair| (pair, usize::MAX));
+    made.into_iter().chain(random(pair))
+}
+
+/// Random pairs that this makes from a shape, a width and a seed.
+fn random(make: fn(Shape, u32, u64) -> Pair) -> impl Iterator<Item = Limited> {
+    (0..).map(move |seed: usize| {
         let (shape, round) = (SHAPES[seed % SHAPES.len()], seed / SHAPES.len());
         let least = shape.levels as u32;
         let width = least + round as u32 % (WIDEST + 1 - least);
         let most = if shape.levels == 1 { 1_000 } else { 12_000 };
-        (pair(shape, width, seed as u64), most)
-    });
+        (make(shape, width, seed as u64), most)
+    })
+}
+
+/// The same with pairs in which the client is saved and loaded.
+fn reloading_pairs() -> impl Iterator<Item = Limited> {
+    let made = [reloaded_marks(2), reloaded_queue(2)];
     let made = made.map(|pair| (pair, usize::MAX));
-    made.into_iter().chain(random)
+    made.into_iter().chain(random(reloading))
 }
 
 /// Goes over the tapes of pairs. The words of each width are gone over once
@@ -137,6 +158,9 @@ struct Met {
     beside: usize,
     collected: usize,
     situations: BTreeMap<Situation, usize>,
+    /// The pairs in which the client is loaded, and in which it then reads.
+    reloaded: usize,
+    read_after: usize,
 }
 
 impl Met {
@@ -151,6 +175,8 @@ impl Met {
         self.unsettled += usize::from(found.unsettled);
         self.beside += usize::from(!found.met.is_empty());
         self.collected += usize::from(found.collected);
+        self.reloaded += usize::from(found.reloaded);
+        self.read_after += usize::from(found.read_after);
         for situation in &found.met {
             *self.situations.entry(*situation).or_default() += 1;
         }
@@ -179,6 +205,14 @@ impl Met {
         for (situation, pairs) in &self.situations {
             println!("None: beside a rebuild, {situation:?} in {pairs} pairs");
         }
+        let Met {
+            reloaded,
+            read_after,
+            ..
+        } = self;
+        if *reloaded > 0 {
+            println!("None: loaded in {reloaded} pairs, with reads after it in {read_after}");
+        }
     }
 
     /// There are enough pairs of each kind.
@@ -200,10 +234,10 @@ impl Met {
 }
 
 /// Compares the lists with the right rules.
-fn honest() -> Result<Met, String> {
+fn honest(pairs: impl Iterator<Item = Limited>) -> Result<Met, String> {
     let mut tapes = Tapes::new(Mistake::None, Caller::MovesOn);
     let mut met = Met::default();
-    for (index, pair) in pairs().take(PAIRS).enumerate() {
+    for (index, pair) in pairs.enumerate() {
         if !pair.0.is_compared() {
             return Err(format!("pair {index} has no compared lists"));
         }
@@ -214,7 +248,6 @@ fn honest() -> Result<Met, String> {
         met.add(pair, &found);
     }
     met.print();
-    met.suffices()?;
     Ok(met)
 }
 
@@ -233,24 +266,39 @@ fn print_told(mistake: Mistake, caller: Caller, pairs: &[Limited]) -> bool {
     told.is_some()
 }
 
+/// Whether some wrong rule, or words lent again, are not told apart.
+fn untold(mistakes: &[Mistake], callers: &[Caller], pairs: &[Limited]) -> bool {
+    let mistakes = mistakes.iter().map(|mistake| (*mistake, Caller::MovesOn));
+    // With the right rules too, if words are lent again.
+    let callers = callers.iter().map(|caller| (Mistake::None, *caller));
+    let told: Vec<bool> = mistakes
+        .chain(callers)
+        .map(|(mistake, caller)| print_told(mistake, caller, pairs))
+        .collect();
+    told.contains(&false)
+}
+
+fn run() -> Result<bool, String> {
+    let met = honest(pairs().take(PAIRS))?;
+    met.suffices()?;
+    let untold_here = untold(&TOLD, &[Caller::LendsAgain], &met.pairs);
+    println!("pairs in which the client is saved and loaded:");
+    let met = honest(reloading_pairs().take(RELOADING))?;
+    if met.read_after < FEWEST_RELOADED {
+        return Err(format!(
+            "None: fewer than {FEWEST_RELOADED} read after a load"
+        ));
+    }
+    Ok(untold_here || untold(&TOLD_BY_RELOADS, &[], &met.pairs))
+}
+
 fn main() -> ExitCode {
-    let pairs = match honest() {
-        Ok(met) => met.pairs,
+    match run() {
+        Ok(false) => ExitCode::SUCCESS,
+        Ok(true) => ExitCode::FAILURE,
         Err(error) => {
             eprintln!("{error}");
-            return ExitCode::FAILURE;
+            ExitCode::FAILURE
         }
-    };
-    let mistakes = TOLD.map(|mistake| (mistake, Caller::MovesOn));
-    // With the right rules too, if words are lent again.
-    let wrong = mistakes
-        .into_iter()
-        .chain([(Mistake::None, Caller::LendsAgain)]);
-    let told: Vec<bool> = wrong
-        .map(|(mistake, caller)| print_told(mistake, caller, &pairs))
-        .collect();
-    match told.contains(&false) {
-        true => ExitCode::FAILURE,
-        false => ExitCode::SUCCESS,
     }
 }

@@ -64,7 +64,7 @@ returns-2 c =
     let a = n .before .before .before .before .args in
     let e : n .number .result ≡ 0 = omega arith in
     let y = yes n e in
-    let full : 1 ≤ length (o .hand-out .last .1 .1 .0) = omega (arith, y .size, y .hand .room .someBytes) in
+    let full : length (a .buffer .now) ≡ length (o .hand-out .last .1 .1 .0) = omega (arith, y .size) in
     rw (c .collected .ensures) (meets-yes (a .c) (stateOf (a .c) (a .m .now)) collect (a .m .now) [] (a .buffer .now) _ _ _ (record {
       yes = sym (n .number .ensures) ∙ e;
       number = refl;

@@ -17,7 +17,7 @@ collect-requires : tie.Need-collect-requires
 collect-requires c κs = omega arith
 
 hand-back-requires : tie.Need-hand-back-requires
-hand-back-requires c κs = (omega arith, meets-small _ _ _ _ [] _ _ _ _ (c .before .before .before .before .before .collect .ensures))
+hand-back-requires c κs = (omega arith, meets-small _ _ _ _ [] _ _ _ _ (c .before .before .before .before .before .collect .ensures) tt)
 
 same-length : tie.Need-same-length
 same-length c = omega arith
@@ -34,7 +34,7 @@ returns-2 c =
     let r = c .before .before .before .before .before .before .before .before .collect in
     let d = c .before .before .before .before .before .before .before .before .before .before .before .decode in
     let a = c .before .before .before .before .before .before .before .before .before .before .before .before .before .before .before .before .before .args in
-    exported (collect) (unfold opens in refl) (a .state .now) (a .memory .now) [] (a .buffer .now) (r .result) (h .result) _ _ _ (c .before .before .before .before .before .before .before .before .before .before .before .before .before .if1 .left) (rw (← d .ensures) (r .ensures)) (h .ensures)
+    exported (collect) (unfold opens in refl) (a .state .now) (a .memory .now) [] (a .buffer .now) (r .result) (h .result) _ _ _ (c .before .before .before .before .before .before .before .before .before .before .before .before .before .if1 .left) (rw (← d .ensures) (r .ensures)) tt (h .ensures)
 
 pub rinwolfedd-collect-spec : {M : Type 1} → statement M
 rinwolfedd-collect-spec =

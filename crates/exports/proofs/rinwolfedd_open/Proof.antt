@@ -31,7 +31,7 @@ hand-back-opened-requires : tie.Need-hand-back-opened-requires
 hand-back-opened-requires c κs =
     let l = c .before .before .before .before .before .looked-at in
     let a = c .before .before .before .before .before .before .before .before .before .before .before .args in
-    (omega arith, meets-small _ _ _ _ (a .tape .now) _ _ _ _ (rw (l .ensures .1 (a .tape .now) refl) at (c .before .before .before .«open» .ensures)))
+    (omega arith, meets-small _ _ _ _ (a .tape .now) _ _ _ _ (rw (l .ensures .1 (a .tape .now) refl) at (c .before .before .before .«open» .ensures)) tt)
 
 same-length : tie.Need-same-length
 same-length c = omega arith

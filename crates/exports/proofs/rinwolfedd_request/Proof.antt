@@ -27,7 +27,7 @@ hand-back-requires : tie.Need-hand-back-requires
 hand-back-requires c κs =
     let l = c .before .before .before .before .before .looked-at in
     let a = c .before .before .before .before .before .before .before .before .before .before .before .before .before .before .args in
-    (omega arith, meets-small _ _ _ _ (a .tape .now) _ _ _ _ (rw (l .ensures .1 (a .tape .now) refl) at (c .before .before .before .request .ensures)))
+    (omega arith, meets-small _ _ _ _ (a .tape .now) _ _ _ _ (rw (l .ensures .1 (a .tape .now) refl) at (c .before .before .before .request .ensures)) tt)
 
 same-length : tie.Need-same-length
 same-length c = omega arith
@@ -43,7 +43,7 @@ returns-2 c =
     let d = c .before .before .before .before .before .before .before .before .before .before .decode in
     let a = c .before .before .before .before .before .before .before .before .before .before .before .before .before .before .before .before .before .args in
     let k = rw (l .ensures .1 (a .tape .now) refl, d .ensures) at (r .ensures) in
-    exported (request (a .kind) (a .block) (a .contents .now)) (unfold opens in refl) (a .state .now) (a .memory .now) (a .tape .now) [] (r .result) (h .result) _ _ _ (c .before .before .before .before .before .before .before .before .before .before .before .before .if1 .left) k (h .ensures)
+    exported (request (a .kind) (a .block) (a .contents .now)) (unfold opens in refl) (a .state .now) (a .memory .now) (a .tape .now) [] (r .result) (h .result) _ _ _ (c .before .before .before .before .before .before .before .before .before .before .before .before .if1 .left) k tt (h .ensures)
 
 pub rinwolfedd-request-spec : {M : Type 1} → statement M
 rinwolfedd-request-spec =

@@ -13,7 +13,7 @@ use Rattle.lists.specs.Tests.{if_then_else_}
 use Rattle.rules.specs.Ranges
 use Rattle.rules.specs.Laws.Waiting.{Waits, waits-fits, waits-more}
 use Rattle.rules.specs.Questions
-use Rattle.rules.specs.Questions.{Ask, opening, request, turn, completion, collect, bounds, questions, firstNo}
+use Rattle.rules.specs.Questions.{Ask, opening, request, turn, completion, collect, bounds, questions, firstNo, save, load}
 use Rattle.rules.specs.Completion
 use Rattle.rules.specs.Unfold.{model}
 use Rattle.rules.specs.Collect
@@ -30,6 +30,7 @@ use Rattle.rules.specs.Request
 use Rattle.rules.specs.Shape
 use Rattle.rules.specs.Shape.{Shape, cell}
 use Rattle.hiding.specs.Claim.{withCache}
+use Rattle.hiding.specs.Lists.Bytes.{NoForm}
 
 -- the same state over a cache of e places
 abbrev pub withE : ℕ → State → State
@@ -43,6 +44,8 @@ module _ (e : ℕ) (s : State) where
   keepE turn x = withE e x
   keepE (completion c bs) x = withE e x
   keepE collect x = withE e x
+  keepE save x = withE e x
+  keepE (load form) x = x
 
   requestStep-E : (r : Option Request) → Turn.requestStep (withE e s) r ≡ Turn.requestStep s r
   unfolding model
@@ -65,6 +68,8 @@ module _ (e : ℕ) (s : State) where
   bounds-E turn = rw decide-E
   bounds-E (completion c bs) = refl
   bounds-E collect = refl
+  bounds-E save = refl
+  bounds-E (load form) = refl
 
   doStep-E : (x : Step) (js : List ℕ) → doStep x js (withE e s) ≡ withE e (doStep x js s)
   unfolding model
@@ -110,6 +115,8 @@ module _ (e : ℕ) (s : State) where
   perform-E turn js = rw (decide-E e s) (doStep-E e s (decide s) js)
   perform-E (completion c bs) js = complete-E c bs
   perform-E collect js = collected-E e s (s .request)
+  perform-E save js = refl
+  perform-E (load form) js = refl
 
   release-E : (x : State) → Request.release (withE e x) ≡ withE e (Request.release x)
   unfolding model
@@ -126,6 +133,8 @@ module _ (e : ℕ) (s : State) where
   act-E turn js = ap Request.release (perform-E turn js) ∙ release-E (Run.perform s turn js)
   act-E (completion c bs) js = ap Request.release (perform-E (completion c bs) js) ∙ release-E (Run.perform s (completion c bs) js)
   act-E collect js = ap Request.release (perform-E collect js) ∙ release-E (Run.perform s collect js)
+  act-E save js = ap Request.release (perform-E save js) ∙ release-E (Run.perform s save js)
+  act-E (load form) js = ap Request.release (perform-E (load form) js)
 
   pub handedFound-E : (a : Ask) → Run.handedFound (withE e s) a ≡ Run.handedFound s a
   unfolding Run.handedFound
@@ -134,6 +143,8 @@ module _ (e : ℕ) (s : State) where
   handedFound-E turn = refl
   handedFound-E (completion c bs) = refl
   handedFound-E collect = refl
+  handedFound-E save = refl
+  handedFound-E (load form) = refl
 
   pub sentCommand-E : (a : Ask) → Run.sentCommand (withE e s) a ≡ Run.sentCommand s a
   unfolding Run.sentCommand
@@ -142,6 +153,8 @@ module _ (e : ℕ) (s : State) where
   sentCommand-E turn = rw decide-E
   sentCommand-E (completion c bs) = refl
   sentCommand-E collect = refl
+  sentCommand-E save = refl
+  sentCommand-E (load form) = refl
 
   slotBytes-E : (o : Option ℕ) → Blocks.slotBytes (withE e s) o ≡ Blocks.slotBytes s o
   unfolding model
@@ -171,13 +184,15 @@ module _ (e : ℕ) (s : State) where
   finished-E none = refl
   finished-E (some r) = refl
 
-pub handed-E : (e : ℕ) (s t : State) (a : Ask) → Run.handed (withE e s) a (withE e t) ≡ Run.handed s a t
+pub handed-E : (e : ℕ) (s t : State) (a : Ask) → NoForm a → Run.handed (withE e s) a (withE e t) ≡ Run.handed s a t
 unfolding Run.handed
-handed-E e s t (opening h) = refl
-handed-E e s t (request k b bs) = refl
-handed-E e s t turn = rw (decide-E e s, written-E e t)
-handed-E e s t (completion c bs) = refl
-handed-E e s t collect = answer-E e s (s .request)
+handed-E e s t (opening h) v = refl
+handed-E e s t (request k b bs) v = refl
+handed-E e s t turn v = rw (decide-E e s, written-E e t)
+handed-E e s t (completion c bs) v = refl
+handed-E e s t collect v = answer-E e s (s .request)
+handed-E e s t save v = absurd v
+handed-E e s t (load form) v = absurd v
 
 rangeRequest-E : (e n : ℕ) (h : Shape) (r : Option Request) → Ranges.rangeRequest (withCache e h) r ≡ Ranges.rangeRequest (withCache n h) r
 unfolding model
@@ -226,10 +241,12 @@ module _ (e n : ℕ) (s : State) (le : e ≤ n) (he : 1 ≤ e) (hn : n ≤ s .sh
   room : ltb (length (s .waiting)) e ≡ true → ltb (length (s .waiting)) n ≡ true
   room h = lt-ltb (length (s .waiting)) n (omega (arith, ltb-true))
 
-  pub questions-E : (a : Ask) (m : ℕ) (ws : List ℕ) (k : ℕ) → opens a ≡ false → Looser (questions (withE e s) a m ws k) (questions (withE n s) a m ws k)
+  pub questions-E : (a : Ask) (m : ℕ) (ws : List ℕ) (k : ℕ) → opens a ≡ false → NoForm a → Looser (questions (withE e s) a m ws k) (questions (withE n s) a m ws k)
   unfolding questions opens bounds Ranges.bytesOf
-  questions-E (opening x) m ws k o = absurd (true≢false o)
-  questions-E (request j b bs) m ws k o = rw (ready-E e n s le he hn w m) (same (same (same (same (same (eight (or-mono _ _ _ room) (same end)))))))
-  questions-E turn m ws k o = rw (decide-E e s, decide-E n s, ready-E e n s le he hn w m, possible-E e s, possible-E n s) (same (same (same (same (same (same end))))))
-  questions-E (completion c bs) m ws k o = rw (ready-E e n s le he hn w m) (same (same (same end)))
-  questions-E collect m ws k o = rw (ready-E e n s le he hn w m, finished-E e s, finished-E n s) (same (same (same (same end))))
+  questions-E (opening x) m ws k o v = absurd (true≢false o)
+  questions-E (request j b bs) m ws k o v = rw (ready-E e n s le he hn w m) (same (same (same (same (same (eight (or-mono _ _ _ room) (same end)))))))
+  questions-E turn m ws k o v = rw (decide-E e s, decide-E n s, ready-E e n s le he hn w m, possible-E e s, possible-E n s) (same (same (same (same (same (same end))))))
+  questions-E (completion c bs) m ws k o v = rw (ready-E e n s le he hn w m) (same (same (same end)))
+  questions-E collect m ws k o v = rw (ready-E e n s le he hn w m, finished-E e s, finished-E n s) (same (same (same (same end))))
+  questions-E save m ws k o v = absurd v
+  questions-E (load form) m ws k o v = absurd v

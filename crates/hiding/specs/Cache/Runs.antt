@@ -1,174 +1,107 @@
 -- Two runs, over a cache of N places and over a smaller one, agree until the second answers 8.
-use mathlib.Core.Path.{_≡_, refl, ap, sym, _∙_}
-use mathlib.Core.Bool.{Bool, true, false, true≢false}
-use mathlib.Core.List.{List, [], _∷_}
-use mathlib.Core.Option.{Option, none, some}
-use Prim.Native.Nat.{ℕ, suc, _≤_, _<_}
+use mathlib.Core.Path.{_≡_, refl, ap, ap₂, sym, _∙_, subst}
+use mathlib.Core.List.{List, [], _∷_, map}
+use mathlib.Core.Option.{Option}
+use Prim.Native.Nat.{ℕ, _≤_, _<_}
 use native.Mathlib.Omega.{arith}
-use lib.ListN.{length, length-append}
-use lib.Dec.{eqb}
-use borrow.Author.Tests.{eqb-true, eqb-false, le-leb}
+use native.Mathlib.Decide.{ℕ-discrete}
+use lib.ListN.{length}
+use borrow.Author.Tests.{le-leb}
+use Rattle.lists.specs.All.{nil, cons}
 use Rattle.lists.specs.Tests
 use Rattle.rules.specs.Draws.{Drawn, draws}
-use Rattle.rules.specs.Completion.{complete}
-use Rattle.rules.specs.Laws.Kept.{released-waits}
-use Rattle.rules.specs.Laws.Shapes.{unawaited}
-use Rattle.rules.specs.Laws.Waiting.{Waits, pass-waits, waits-le, others-room, leave-waits}
-use Rattle.rules.specs.Questions.{Ask, opening, request, turn, completion, collect, Call, bounds, questions, number}
+use Rattle.rules.specs.Laws.Answers.{accepted-passed, step-accepted, step-refused}
+use Rattle.rules.specs.Memory
 use Rattle.rules.specs.Open
-use Rattle.rules.specs.Collect
+use Rattle.rules.specs.Questions.{Ask, opening, request, turn, completion, collect, Call, bounds, questions, number, save, load}
+use Rattle.rules.specs.Resumes.{Resumes, NoOpen}
 use Rattle.rules.specs.Run
 use Rattle.rules.specs.Run.{Outcome, act, step, run}
-use Rattle.rules.specs.Memory
-use Rattle.rules.specs.Turn
-use Rattle.rules.specs.Turn.{Step, idle, noDummy, readForRequest, readForJob, rebuild, writeNext, decide, doStep}
-use Rattle.rules.specs.State.{State, closed, Request, Command}
-use Rattle.rules.specs.Rebuild
-use Rattle.rules.specs.Laws.Answers.{step-number, opens, Passed, accepted-passed, step-accepted, step-refused, refuse-keeps}
-use Rattle.rules.specs.Request
 use Rattle.rules.specs.Shape
 use Rattle.rules.specs.Shape.{Shape}
-use Rattle.hiding.specs.Unchanged.{Rest, complete-rest}
+use Rattle.rules.specs.State.{State, closed, Command}
+use Rattle.reachable.specs.Invariant.{Reached}
+use Rattle.reachable.specs.Reached.{shut, accepted-kept}
 use Rattle.hiding.specs.Claim
-use Rattle.hiding.specs.Claim.{told, withCache, NoOpen, openOver, Twin, Twins, AgreeUntil8, done, full, equal, Smaller}
-use Rattle.hiding.specs.Lists.Bytes.{bare, twin-tells, twin-next}
-use Rattle.hiding.specs.Cache.Over.{withE, bounds-E, act-E, sentCommand-E, handed-E, handedFound-E, questions-E, firstNo-looser}
+use Rattle.hiding.specs.Claim.{outline, told, wordsIn, loading, withCache, openOver, NoOpens, withoutForm, withoutForms, AgreeUntil8, done, full, equal, Smaller}
+use Rattle.hiding.specs.Lists.Fixed
+use Rattle.hiding.specs.Lists.Fixed.{Listed, at, lend, Lends}
+use Rattle.hiding.specs.Lists.Saves.{lastSave}
+use Rattle.hiding.specs.Lists.Twins
+use Rattle.hiding.specs.Lists.Twins.{headOr, tailOf, bareListing, twins-alike}
+use Rattle.hiding.specs.Lists.Matched.{IsLater, Laters, zeroed}
+use Rattle.hiding.specs.Lists.Runs.{listing, listed, lastOf, own, own-first, own-bare, own-lengths, follow, follows}
+use Rattle.hiding.specs.Lists.Served.{loading-outline}
+use Rattle.hiding.specs.Cache.Fits.{Fits}
+use Rattle.hiding.specs.Cache.Both.{Both, eight, onward, closing, both}
+use Rattle.hiding.specs.Cache.Over.{withE}
 
--- The invariant: the shape stays, and what waits fits
-pub record Fits (e n : ℕ) (s : State) : Type 0 where
-  pub room : n ≤ s .shape .N
-  pub waits : Waits e (s .waiting) (s .request)
+-- ---- Both runs
 
-module _ (e n : ℕ) (s : State) (f : Fits e n s) where
-  doStep-fits : (x : Step) (js : List ℕ) → Fits e n (doStep x js s)
-  unfolding doStep Turn.markRead Turn.send Rebuild.doRebuild
-  doStep-fits idle js = f
-  doStep-fits noDummy js = f
-  doStep-fits (readForRequest q ℓ i) js = record { room = f .room; waits = pass-waits e ℓ (suc (length (s .outstanding))) (s .waiting) (s .request) (f .waits) }
-  doStep-fits (readForJob q ℓ i) js = record { room = f .room; waits = f .waits }
-  doStep-fits (rebuild q t) js = record { room = f .room; waits = leave-waits e (s .waiting) (Rebuild.chosen s q) (s .request) (f .waits) }
-  doStep-fits (writeNext q t i) js = record { room = f .room; waits = f .waits }
+-- equal outcomes but for forms, bytes and all
+abbrev pub Agree : State → List Call → State → List Call → Type 0
+Agree s cs s′ ds = AgreeUntil8 (λ o. o) (withoutForms cs (run s cs)) (withoutForms ds (run s′ ds))
 
-  collected-fits : (r : Option Request) → s .request ≡ r → Fits e n (Collect.collected r s)
-  unfolding Collect.collected Collect.finish
-  collected-fits none q = f
-  collected-fits (some r) q = record { room = f .room; waits = rw length-append (omega (arith, rw q at (f .waits))) }
-
-  -- what a request awaits plays no part
-  less : (xs : List ℕ) (o : Option Request) → Waits e xs o → Waits e xs (unawaited o)
-  less xs none h = h
-  less xs (some r) h = h
-
-  more : (xs : List ℕ) (o : Option Request) → Waits e xs (unawaited o) → Waits e xs o
-  more xs none h = h
-  more xs (some r) h = h
-
-  perform-fits : (a : Ask) (m : ℕ) (ws : List ℕ) (k : ℕ) (js : List ℕ) → opens a ≡ false → Passed (questions (withE e s) a m ws k) → Fits e n (Run.perform s a js)
-  unfolding Run.perform questions opens Request.accept
-  perform-fits (opening h) m ws k js o p = absurd (true≢false o)
-  perform-fits (request j b bs) m ws k js o p = record {
-    room = f .room;
-    waits = let h = waits-le e (s .waiting) (s .request) (f .waits) in (h, others-room e b (s .waiting) h (p .1 .1 .1 .1 .1 .0));
-  }
-  perform-fits turn m ws k js o p = doStep-fits (decide s) js
-  perform-fits (completion c bs) m ws k js o p =
-      let q = complete-rest s c bs in
-      record {
-        room = rw (ap (λ (x : Rest). x .shape) q) (f .room);
-        waits = more (complete c bs s .waiting) (complete c bs s .request) (rw (ap (λ (x : Rest). x .request) q, ap (λ (x : Rest). x .waiting) q) (less (s .waiting) (s .request) (f .waits)));
-      }
-  perform-fits collect m ws k js o p = collected-fits (s .request) refl
-
-release-fits : (e n : ℕ) (s : State) → Fits e n s → Fits e n (Request.release s)
-release-fits e n s f = record { room = f .room; waits = released-waits s e (s .waiting) (s .request) (f .waits) }
-
-act-fits : (e n : ℕ) (s : State) → Fits e n s → (a : Ask) (m : ℕ) (ws : List ℕ) (k : ℕ) (js : List ℕ) → opens a ≡ false → Passed (questions (withE e s) a m ws k) → Fits e n (act s a js)
-unfolding act
-act-fits e n s f a m ws k js o p = release-fits e n (Run.perform s a js) (perform-fits e n s f a m ws k js o p)
-
-act-E′ : (e : ℕ) (s : State) (a : Ask) (js : List ℕ) → opens a ≡ false → act (withE e s) a js ≡ withE e (act s a js)
-unfolding opens
-act-E′ e s (opening h) js o = absurd (true≢false o)
-act-E′ e s (request k b bs) js o = act-E e s (request k b bs) js
-act-E′ e s turn js o = act-E e s turn js
-act-E′ e s (completion c bs) js o = act-E e s (completion c bs) js
-act-E′ e s collect js o = act-E e s collect js
-
-accepted-E : (e : ℕ) (s : State) (a : Ask) (d : Option Drawn) → opens a ≡ false
-    → Run.accepted (withE e s) a d ≡ (withE e (act s a (Run.numbersOf d)), Run.accepted s a d .1)
-unfolding Run.accepted
-accepted-E e s a d o = rw (act-E′ e s a (Run.numbersOf d) o, sentCommand-E e s a, handed-E e s (act s a (Run.numbersOf d)) a, handedFound-E e s a)
-
--- equal outcomes, bytes and all
-abbrev Agree : List Outcome → List Outcome → Type 0
-Agree = AgreeUntil8 (λ o. o)
-
-agree-refl : (xs : List Outcome) → Agree xs xs
+agree-refl : (xs : List Outcome) → AgreeUntil8 (λ o. o) xs xs
 agree-refl [] = done
 agree-refl (x ∷ xs) = equal refl (agree-refl xs)
 
--- one call of both runs
-record Both (e n : ℕ) (s : State) (c : Call) : Type 0 where
-  next : State
-  small : step (withE e s) c .0 ≡ withE e next
-  large : step (withE n s) c .0 ≡ withE n next
-  outcome : step (withE n s) c .1 ≡ step (withE e s) c .1
-  fits : Fits e n next
+form-told : (a : Ask) (o : Outcome) → told (withoutForm a o) ≡ told o
+form-told (opening h) o = refl
+form-told (request k b bs) o = refl
+form-told turn o = refl
+form-told (completion c bs) o = refl
+form-told collect o = refl
+form-told save o = refl
+form-told (load form) o = refl
+
+form-number : (a : Ask) (o : Outcome) → withoutForm a o .number ≡ o .number
+form-number a o = ap (λ (x : ℕ × ℕ × Command). x .0) (form-told a o)
+
+-- calls of one list from one state, with the same words, are the same
+same-calls : (as′ : List Listed) (s : State) (cs ds : List Call) → Lends s as′ cs → Lends s as′ ds → wordsIn cs ≡ wordsIn ds → cs ≡ ds
+unfolding headOr tailOf
+same-calls [] s [] [] Fixed.none Fixed.none e = refl
+same-calls (a ∷ as′) s (c ∷ cs) (d ∷ ds) (Fixed.more {ws = ws} x u) (Fixed.more {ws = vs} y v) e =
+    let q : vs ≡ ws = sym (ap (headOr []) e) in
+    let v′ : Lends (step s (lend (at s a) ws) .0) as′ ds = subst (λ zs. Lends (step s (lend (at s a) zs) .0) as′ ds) q v in
+    ap₂ (λ zs (xs : List Call). lend (at s a) zs ∷ xs) (sym q) (same-calls as′ (step s (lend (at s a) ws) .0) cs ds u v′ (ap tailOf e))
 
 module _ (e n : ℕ) (le : e ≤ n) (he : 1 ≤ e) where
-  number-E : (s : State) (c : Call) → opens (c .ask) ≡ false → Fits e n s → (number (withE e s) c ≡ 8 → ⊥) → number (withE n s) c ≡ number (withE e s) c
-  unfolding number
-  number-E s c o f h = firstNo-looser (questions-E e n s le he (f .room) (f .waits) (c .ask) (c .memory) (c .words) (c .buffer) o) h
-
-  accepted-both : (s : State) (c : Call) → opens (c .ask) ≡ false → Fits e n s → number (withE e s) c ≡ 0 → number (withE n s) c ≡ 0 → Both e n s c
-  accepted-both s c o f h k = record {
-    next = act s (c .ask) (Run.numbersOf d);
-    small = ap (λ r. r .0) (one e h);
-    large = ap (λ r. r .0) (one n k);
-    outcome = ap (λ r. r .1) (one n k) ∙ sym (ap (λ r. r .1) (one e h));
-    fits = act-fits e n s f (c .ask) (c .memory) (c .words) (c .buffer) (Run.numbersOf d) o (accepted-passed (withE e s) c h);
-  }
+  -- from one state over caches of n and of e places, e at most n
+  cache-run : (as′ : List Listed) → Laters as′ → (s : State) → Fits e n s → Reached (withE n s) → Reached (withE e s) → (cs ds : List Call) →
+      Lends (withE n s) as′ cs → Lends (withE e s) as′ ds → wordsIn cs ≡ wordsIn ds → Agree (withE n s) cs (withE e s) ds
+  unfolding run headOr tailOf
+  cache-run [] i s f rn re [] [] Fixed.none Fixed.none w = done
+  cache-run (a ∷ as′) i s f rn re (c ∷ cs) (d ∷ ds) (Fixed.more {ws = ws} x u) (Fixed.more {ws = vs} y v) w =
+      subst (λ zs. Agree (withE n s) (lend (at (withE n s) a) ws ∷ cs) (withE e s) (lend (at (withE e s) a) zs ∷ ds)) (sym q)
+      (go (both e n le he s f rn re (a .memory) ws (a .buffer) (a .ask) (i .0)) u v′ (λ s′ f′ rn′ re′ u v. cache-run as′ (i .1) s′ f′ rn′ re′ cs ds u v (ap tailOf w)))
     where
-      d : Option Drawn
-      d = draws (bounds s (c .ask)) (c .words)
+      q : vs ≡ ws
+      q = sym (ap (headOr []) w)
 
-      one : (i : ℕ) → number (withE i s) c ≡ 0 → step (withE i s) c ≡ (withE i (act s (c .ask) (Run.numbersOf d)), Run.accepted s (c .ask) d .1)
-      one i h = step-accepted (withE i s) c h ∙ rw (bounds-E i s (c .ask)) (accepted-E i s (c .ask) d o)
+      large : Call
+      large = lend (at (withE n s) a) ws
 
-  refused-both : (s : State) (c : Call) → opens (c .ask) ≡ false → Fits e n s → (number (withE e s) c ≡ 0 → ⊥) → number (withE n s) c ≡ number (withE e s) c → Both e n s c
-  refused-both s c o f h k = record {
-    next = s;
-    small = ap (λ r. r .0) (one e h);
-    large = ap (λ r. r .0) (one n (rw k h));
-    outcome = ap (λ r. r .1) (one n (rw k h)) ∙ ap Run.refused k ∙ sym (ap (λ r. r .1) (one e h));
-    fits = f;
-  }
-    where
-      one : (i : ℕ) → (number (withE i s) c ≡ 0 → ⊥) → step (withE i s) c ≡ (withE i s, Run.refused (number (withE i s) c))
-      one i h = step-refused (withE i s) c h ∙ rw (refuse-keeps (withE i s) (c .ask) o)
+      small : Call
+      small = lend (at (withE e s) a) ws
 
-  both : (s : State) (c : Call) → opens (c .ask) ≡ false → Fits e n s → (number (withE e s) c ≡ 8 → ⊥) → Both e n s c
-  both s c o f h = go (eqb (number (withE e s) c) 0) refl
-    where
-      k : number (withE n s) c ≡ number (withE e s) c
-      k = number-E s c o f h
+      v′ : Lends (step (withE e s) small .0) as′ ds
+      v′ = subst (λ zs. Lends (step (withE e s) (lend (at (withE e s) a) zs) .0) as′ ds) q v
 
-      go : (t : Bool) → eqb (number (withE e s) c) 0 ≡ t → Both e n s c
-      go true q = let z = eqb-true (number (withE e s) c) 0 q in accepted-both s c o f z (k ∙ z)
-      go false q = refused-both s c o f (eqb-false (number (withE e s) c) 0 q) k
+      go : Both e n s large small → Lends (step (withE n s) large .0) as′ cs → Lends (step (withE e s) small .0) as′ ds →
+          ((s′ : State) → Fits e n s′ → Reached (withE n s′) → Reached (withE e s′) → Lends (withE n s′) as′ cs → Lends (withE e s′) as′ ds → Agree (withE n s′) cs (withE e s′) ds) →
+          Agree (withE n s) (large ∷ cs) (withE e s) (small ∷ ds)
+      go (eight z) u v rest = full (form-number (small .ask) (step (withE e s) small .1) ∙ z)
+      go (onward o s′ x y f′ rn′ re′) u v rest =
+          let r : Agree (step (withE n s) large .0) cs (step (withE e s) small .0) ds = rw (x, y) (rest s′ f′ rn′ re′ (rw x at u) (rw y at v)) in
+          equal o r
+      go (closing o x y) u v rest =
+          let same : cs ≡ ds = same-calls as′ closed cs ds (rw x at u) (rw y at v) (ap tailOf w) in
+          let r : Agree (step (withE n s) large .0) cs (step (withE e s) small .0) ds = rw (x, y, same) (agree-refl (withoutForms ds (run closed ds))) in
+          equal o r
 
-  -- Two runs from one state over caches of n and of e places, e at most n
-  cache-run : (cs : List Call) (s : State) → Fits e n s → NoOpen cs → Agree (run (withE n s) cs) (run (withE e s) cs)
-  unfolding run
-  cache-run [] s f l = done
-  cache-run (c ∷ cs) s f l = go (eqb (number (withE e s) c) 8) refl (λ s′ f′. cache-run cs s′ f′ (l .1))
-    where
-      go : (t : Bool) → eqb (number (withE e s) c) 8 ≡ t → ((s′ : State) → Fits e n s′ → Agree (run (withE n s′) cs) (run (withE e s′) cs))
-          → Agree (run (withE n s) (c ∷ cs)) (run (withE e s) (c ∷ cs))
-      go true q rest = full (step-number (withE e s) c ∙ eqb-true (number (withE e s) c) 8 q)
-      go false q rest = let b = both s c (l .0) f (eqb-false (number (withE e s) c) 8 q) in
-          let r : Agree (run (step (withE n s) c .0) cs) (run (step (withE e s) c .0) cs) = rw (b .small, b .large) (rest (b .next) (b .fits)) in
-          equal (b .outcome) r
+-- ---- From the open
 
 module _ (e : ℕ) (h : Shape) (he : 1 ≤ e) (le : e ≤ h .N) (m : ℕ) (ws : List ℕ) (k : ℕ) where
   within-E : Shape.within (withCache e h) ≡ Shape.within (withCache (h .N) h)
@@ -179,9 +112,17 @@ module _ (e : ℕ) (h : Shape) (he : 1 ≤ e) (le : e ≤ h .N) (m : ℕ) (ws : 
   unfolding number questions bounds Memory.needed
   open-alike = rw within-E
 
-  smaller-cache : (cs : List Call) → NoOpen cs → Agree (run closed (openOver (h .N) h m ws k ∷ cs)) (run closed (openOver e h m ws k ∷ cs))
+  abbrev large : Call
+  large = openOver (h .N) h m ws k
+
+  abbrev small : Call
+  small = openOver e h m ws k
+
+  -- one list after the open, whose calls may be any but an open
+  smaller-cache : (as′ : List Listed) → Laters as′ → (cs ds : List Call) → Lends (step closed large .0) as′ cs → Lends (step closed small .0) as′ ds → wordsIn cs ≡ wordsIn ds →
+      Agree closed (large ∷ cs) closed (small ∷ ds)
   unfolding run
-  smaller-cache cs l = go (eqb (number closed (openOver e h m ws k)) 0) refl
+  smaller-cache as′ i cs ds u v w = go (ℕ-discrete (number closed small) 0)
     where
       d : Option Drawn
       d = draws (bounds closed (opening h)) ws
@@ -198,37 +139,120 @@ module _ (e : ℕ) (h : Shape) (he : 1 ≤ e) (le : e ≤ h .N) (m : ℕ) (ws : 
       no-one : (i : ℕ) → (number closed (openOver i h m ws k) ≡ 0 → ⊥) → step closed (openOver i h m ws k) ≡ (closed, Run.refused (number closed (openOver i h m ws k)))
       no-one i z = unfold Run.refuse in (step-refused closed (openOver i h m ws k) z)
 
-      go : (t : Bool) → eqb (number closed (openOver e h m ws k)) 0 ≡ t → Agree (run closed (openOver (h .N) h m ws k ∷ cs)) (run closed (openOver e h m ws k ∷ cs))
-      go true q = let z = eqb-true (number closed (openOver e h m ws k)) 0 q in
-          rw (yes-one e z, yes-one (h .N) (open-alike ∙ z)) (equal refl (cache-run e (h .N) le he cs s s-fits l))
-      go false q = let z = eqb-false (number closed (openOver e h m ws k)) 0 q in
-          rw (no-one e z, no-one (h .N) (rw open-alike z), open-alike) (agree-refl (Run.refused (number closed (openOver e h m ws k)) ∷ run closed cs))
+      reached-one : (i : ℕ) → number closed (openOver i h m ws k) ≡ 0 → Reached (withE i s)
+      reached-one i z = subst Reached (ap (λ (r : State × Outcome). r .0) (sym (step-accepted closed (openOver i h m ws k) z) ∙ yes-one i z))
+          (unfold Run.accepted in (accepted-kept closed (opening (withCache i h)) m ws k (shut refl) (accepted-passed closed (openOver i h m ws k) z) tt))
+
+      go : Dec (number closed small ≡ 0) → Agree closed (large ∷ cs) closed (small ∷ ds)
+      go (yes z) =
+          let z′ = open-alike ∙ z in
+          let x = ap (λ (r : State × Outcome). r .0) (yes-one (h .N) z′) in
+          let y = ap (λ (r : State × Outcome). r .0) (yes-one e z) in
+          let r = cache-run e (h .N) le he as′ i s s-fits (reached-one (h .N) z′) (reached-one e z) cs ds (rw x at u) (rw y at v) w in
+          rw (yes-one e z, yes-one (h .N) z′) (equal refl r)
+      go (no z) =
+          let z′ : ¬ (number closed large ≡ 0) = λ i. z (sym open-alike ∙ i) in
+          let x = ap (λ (r : State × Outcome). r .0) (no-one (h .N) z′) in
+          let y = ap (λ (r : State × Outcome). r .0) (no-one e z) in
+          let same : cs ≡ ds = same-calls as′ closed cs ds (rw x at u) (rw y at v) w in
+          rw (no-one e z, no-one (h .N) z′, open-alike, same) (equal refl (agree-refl (withoutForms ds (run closed ds))))
 
 -- whatever was before an open
 run-open : (s : State) (h : Shape) (e m n : ℕ) (ws : List ℕ) (cs : List Call) → run s (openOver e h m ws n ∷ cs) ≡ run closed (openOver e h m ws n ∷ cs)
 unfolding run step number questions bounds Run.accepted act Run.perform Run.sentCommand Run.handed Run.handedFound Run.refuse
 run-open s h e m n ws cs = refl
 
-smaller-whole : (h : Shape) (e : ℕ) → 1 ≤ e → e < h .N → (m n : ℕ) (ws : List ℕ) (cs : List Call) → NoOpen cs → (s s′ : State) →
-    Agree (run s (openOver (h .N) h m ws n ∷ cs)) (run s′ (openOver e h m ws n ∷ cs))
-smaller-whole h e he le m n ws cs l s s′ = rw (run-open s h (h .N) m n ws cs, run-open s′ h e m n ws cs) (smaller-cache e h he (omega arith) m ws n cs l)
+-- ---- The calls of a run, as a list
 
--- what is told does not depend on the bytes that the second run is brought
-agree-told : (cs ds : List Call) → Twins cs ds → (s s′ : State) → bare s ≡ bare s′ → (xs : List Outcome) → Agree xs (run s cs) → AgreeUntil8 told xs (run s′ ds)
+laters : (cs : List Call) → NoOpens cs → (p : ℕ × ℕ) → Laters (own p cs)
+laters [] nil p = tt
+laters (c ∷ cs) (cons x l) p = (go (c .ask) x, laters cs l (lastOf c))
+  where
+    go : (a : Ask) → NoOpen a → IsLater (listing p a)
+    go (opening h) x = x
+    go (request k b bs) x = tt
+    go turn x = tt
+    go (completion c bs) x = tt
+    go collect x = tt
+    go save x = tt
+    go (load form) x = tt
+
+-- which form a load is of plays no part
+loading-listing : (p : ℕ × ℕ) (a : Ask) → listing p (loading [] a) ≡ listing p a
+loading-listing p (opening h) = refl
+loading-listing p (request k b bs) = refl
+loading-listing p turn = refl
+loading-listing p (completion c bs) = refl
+loading-listing p collect = refl
+loading-listing p save = refl
+loading-listing p (load form) = refl
+
+twins-words : {A : Type 0} {f : Ask → A} (cs ds : List Call) → Claim.Twins f cs ds → wordsIn cs ≡ wordsIn ds
+twins-words [] [] Claim.none = refl
+twins-words (c ∷ cs) (d ∷ ds) (Claim.more t ts) = ap₂ (λ (x : List ℕ) xs. x ∷ xs) (t .words) (twins-words cs ds ts)
+
+same-own : (cs ds : List Call) → Claim.Twins (loading []) cs ds → (p : ℕ × ℕ) → own p cs ≡ own p ds
+same-own [] [] Claim.none p = refl
+same-own (c ∷ cs) (d ∷ ds) (Claim.more t ts) p =
+    let ask : listing p (c .ask) ≡ listing p (d .ask) = sym (loading-listing p (c .ask)) ∙ ap (listing p) (t .ask) ∙ loading-listing p (d .ask) in
+    let outlines : outline (c .ask) ≡ outline (d .ask) = sym (loading-outline [] (c .ask)) ∙ ap outline (t .ask) ∙ loading-outline [] (d .ask) in
+    ap₂ (λ (x : Listed) xs. x ∷ xs) (λ i. record { ask = ask i; memory = t .memory i; words = length (t .words i); buffer = t .buffer i })
+    (same-own cs ds ts (lastOf c) ∙ (λ i. own (lastSave (outlines i) (t .memory i) (t .buffer i)) ds))
+
+like-own : (cs ds : List Call) → Claim.Twins outline cs ds → (p : ℕ × ℕ) → Twins.Twins (own p cs) (own p ds)
+like-own [] [] Claim.none p = Twins.none
+like-own (c ∷ cs) (d ∷ ds) (Claim.more t ts) p =
+    Twins.more (record { ask = own-bare p (c .ask) ∙ ap (λ x. bareListing (zeroed p x)) (t .ask) ∙ sym (own-bare p (d .ask)); memory = t .memory; words = ap length (t .words); buffer = t .buffer })
+    (subst (λ q. Twins.Twins (own (lastOf c) cs) (own q ds)) (λ i. lastSave (t .ask i) (t .memory i) (t .buffer i)) (like-own cs ds ts (lastOf c)))
+
+rest-lends : (s : State) (a : Listed) (as′ : List Listed) (c : Call) (cs : List Call) → Lends s (a ∷ as′) (c ∷ cs) → Lends (step s c .0) as′ cs
+rest-lends s a as′ c cs (Fixed.more e l) = l
+
+-- ---- What is told
+
+agree-told : (cs ds : List Call) (s s′ : State) → Agree s cs s′ ds → AgreeUntil8 told (run s cs) (run s′ ds)
 unfolding run
-agree-told [] [] Claim.none s s′ e [] done = done
-agree-told (c ∷ cs) (d ∷ ds) (Claim.more t ts) s s′ e (x ∷ xs) (full q) = full (ap (λ (o : ℕ × ℕ × Command). o .0) (sym (twin-tells c d t s s′ e)) ∙ q)
-agree-told (c ∷ cs) (d ∷ ds) (Claim.more t ts) s s′ e (x ∷ xs) (equal p r) =
-    equal (ap told p ∙ twin-tells c d t s s′ e) (agree-told cs ds ts (step s c .0) (step s′ d .0) (twin-next c d t s s′ e) xs r)
+agree-told [] [] s s′ done = done
+agree-told (c ∷ cs) (d ∷ ds) s s′ (full z) = full (sym (form-number (d .ask) (step s′ d .1)) ∙ z)
+agree-told (c ∷ cs) (d ∷ ds) s s′ (equal z r) = equal (sym (form-told (c .ask) (step s c .1)) ∙ ap told z ∙ form-told (d .ask) (step s′ d .1)) (agree-told cs ds (step s c .0) (step s′ d .0) r)
 
-itself : (c : Call) → Twin c c
-itself c = record { ask = refl; memory = refl; words = refl; buffer = refl }
+same-told : (xs ys zs : List Outcome) → AgreeUntil8 told xs ys → map told ys ≡ map told zs → AgreeUntil8 told xs zs
+unfolding headOr tailOf
+same-told [] [] [] done e = done
+same-told [] [] (z ∷ zs) done e = absurd (omega (arith, ap length e))
+same-told (x ∷ xs) (y ∷ ys) [] a e = absurd (omega (arith, ap length e))
+same-told (x ∷ xs) (y ∷ ys) (z ∷ zs) (full q) e = let o : told y ≡ told z = ap (headOr (told y)) e in full (ap (λ (o : ℕ × ℕ × Command). o .0) (sym o) ∙ q)
+same-told (x ∷ xs) (y ∷ ys) (z ∷ zs) (equal q r) e = equal (q ∙ ap (headOr (told y)) e) (same-told xs ys zs r (ap tailOf e))
 
 -- The second claim
 pub smaller : Smaller
 smaller = record {
-  whole = smaller-whole;
-  tells = λ h e he le m n ws cs ds l t s s′.
-      agree-told (openOver e h m ws n ∷ cs) (openOver e h m ws n ∷ ds) (Claim.more (itself (openOver e h m ws n)) t) s′ s′ refl
-      (run s (openOver (h .N) h m ws n ∷ cs)) (smaller-whole h e he le m n ws cs l s s′);
+  whole = λ h e he le m n ws cs ds l t s s′ r r′. rw (run-open s h (h .N) m n ws cs, run-open s′ h e m n ws ds) (whole h e he le m n ws cs ds l t (rw (run-open s h (h .N) m n ws cs) at r) (rw (run-open s′ h e m n ws ds) at r′));
+  tells = λ h e he le m n ws cs ds l t s s′ r r′. rw (run-open s h (h .N) m n ws cs, run-open s′ h e m n ws ds) (tells h e he le m n ws cs ds l t (rw (run-open s h (h .N) m n ws cs) at r) (rw (run-open s′ h e m n ws ds) at r′));
 }
+  where
+    whole : (h : Shape) (e : ℕ) → 1 ≤ e → e < h .N → (m n : ℕ) (ws : List ℕ) (cs ds : List Call) → NoOpens cs → Claim.Twins (loading []) cs ds →
+        let A = openOver (h .N) h m ws n ∷ cs in
+        let B = openOver e h m ws n ∷ ds in
+        Resumes [] A (run closed A) → Resumes [] B (run closed B) → Agree closed A closed B
+    whole h e he le m n ws cs ds l t r r′ =
+        let u = rest-lends closed _ (own (0, 0) cs) (openOver (h .N) h m ws n) cs (own-first (openOver (h .N) h m ws n ∷ cs) r) in
+        let v = rest-lends closed _ (own (0, 0) ds) (openOver e h m ws n) ds (own-first (openOver e h m ws n ∷ ds) r′) in
+        smaller-cache e h he (omega arith) m ws n (own (0, 0) cs) (laters cs l (0, 0)) cs ds u (rw (← same-own cs ds t (0, 0)) at v) (twins-words cs ds t)
+
+    tells : (h : Shape) (e : ℕ) → 1 ≤ e → e < h .N → (m n : ℕ) (ws : List ℕ) (cs ds : List Call) → NoOpens cs → Claim.Twins outline cs ds →
+        let A = openOver (h .N) h m ws n ∷ cs in
+        let B = openOver e h m ws n ∷ ds in
+        Resumes [] A (run closed A) → Resumes [] B (run closed B) → AgreeUntil8 told (run closed A) (run closed B)
+    tells h e he le m n ws cs ds l t r r′ =
+        let c = openOver (h .N) h m ws n in
+        let d = openOver e h m ws n in
+        let es = follow (step closed d .0) (own (0, 0) cs) cs in
+        let f = follows (own (0, 0) cs) cs (own-lengths cs (0, 0)) (step closed d .0) in
+        let u = rest-lends closed _ (own (0, 0) cs) c cs (own-first (c ∷ cs) r) in
+        let a = smaller-cache e h he (omega arith) m ws n (own (0, 0) cs) (laters cs l (0, 0)) cs es u (f .calls) (f .same) in
+        let itself : Twins.Twin (listed (0, 0) d) (listed (0, 0) d) = record { ask = refl; memory = refl; words = refl; buffer = refl } in
+        let v : Lends closed (listed (0, 0) d ∷ own (0, 0) cs) (d ∷ es) = Fixed.more refl (f .calls) in
+        let b = twins-alike (listed (0, 0) d ∷ own (0, 0) cs) (listed (0, 0) d ∷ own (0, 0) ds) (Twins.more itself (like-own cs ds t (0, 0))) (d ∷ es) (d ∷ ds) closed closed v (own-first (d ∷ ds) r′)
+        (ap (λ (xs : List (List ℕ)). ws ∷ xs) (sym (f .same) ∙ twins-words cs ds t)) refl (shut refl) (shut refl) in
+        same-told (run closed (c ∷ cs)) (run closed (d ∷ es)) (run closed (d ∷ ds)) (agree-told (c ∷ cs) (d ∷ es) closed closed a) (b .0)

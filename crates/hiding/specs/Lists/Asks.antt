@@ -17,12 +17,17 @@ use Rattle.rules.specs.Draws.{limit, draws}
 use Rattle.rules.specs.Turn.{decide, command}
 use Rattle.rules.specs.Completion.{isCommand}
 use Rattle.rules.specs.Collect.{finished}
-use Rattle.rules.specs.Questions.{Ask, opening, request, turn, completion, collect, Call, bounds, ready, sends, inHand, questions, firstNo, number}
+use Rattle.rules.specs.Questions.{Ask, opening, request, turn, completion, collect, Call, bounds, ready, sends, inHand, questions, firstNo, number, save, load, atRest}
 use Rattle.rules.specs.Laws.Bounds.{Few, partitions-few, turn-few}
 use Rattle.rules.specs.Laws.Draws.{partitions-even}
 use Rattle.rules.specs.Laws.Kept.{given-in}
-use Rattle.hiding.specs.Machines.Needs.{Able, able-now}
+use Rattle.reachable.specs.Never.{always-possible}
+use Rattle.reachable.specs.Reached.{Was, was-reached}
 use Rattle.hiding.specs.Claim.{isTurn}
+use Rattle.rules.specs.Form.Sums.{summed}
+use Rattle.rules.specs.Form.Loading.{loads, loadedForm}
+use Rattle.rules.specs.Form.Payload.{savedForm}
+use Rattle.rules.specs.Form.Longest.{longest}
 
 abbrev pub settled : List ℕ → List ℕ → Bool
 settled ms ws = not (isNone (draws ms ws))
@@ -42,7 +47,7 @@ pub data Asks (s : State) (k : Ask) (m n : ℕ) : Type 0 where
 even-shape : (h : Shape) → within h ≡ true → Even (h .P)
 even-shape h e = omega (arith, partitions-even h e)
 
-pub asks : (s : State) → Able s → (k : Ask) (m n : ℕ) → Asks s k m n
+pub asks : (s : State) → Was s → (k : Ask) (m n : ℕ) → Asks s k m n
 unfolding number questions firstNo bounds isTurn
 asks s v (opening h) m n = go (within h) refl (leb (needed h) m) refl
   where
@@ -79,7 +84,7 @@ asks s v turn m n =
     go true e true f false g y i = asks-no 10 refl refl (λ ws. rw (e, f, g))
     go true e true f true g false i = asks-no 15 refl refl (λ ws. rw (e, f, g, i))
     go true e true f true g true i =
-        asks-draws (turn-few s (given-in s m e)) (λ q. absurd (true≢false q)) (λ ws. rw (e, f, g, i, able-now s m v e))
+        asks-draws (turn-few s (given-in s m e)) (λ q. absurd (true≢false q)) (λ ws. rw (e, f, g, i, always-possible s (was-reached s m v e)))
 asks s v (completion c bs) m n =
     go (ready s m && isKind (c .kind)) refl (any (isCommand c) (s .outstanding)) refl (eqb (length bs) (if eqb (c .kind) read then s .shape .B else 0)) refl
   where
@@ -88,6 +93,22 @@ asks s v (completion c bs) m n =
     go false e u f x g = asks-no 2 refl refl (λ ws. rw e)
     go true e false f x g = asks-no 11 refl refl (λ ws. rw (e, f))
     go true e true f false g = asks-no 12 refl refl (λ ws. rw (e, f, g))
+    go true e true f true g = asks-draws nil (λ q. nil) (λ ws. rw (e, f, g) (unfold draws isNone in refl))
+asks s v save m n =
+    go (ready s m && leb (longest (s .shape)) n) refl (atRest s) refl (leb (length (savedForm s)) n) refl
+  where
+    go : (t : Bool) → (ready s m && leb (longest (s .shape)) n) ≡ t → (u : Bool) → atRest s ≡ u → (x : Bool) → leb (length (savedForm s)) n ≡ x → Asks s save m n
+    go false e u f x g = asks-no 2 refl refl (λ ws. rw e)
+    go true e false f x g = asks-no 16 refl refl (λ ws. rw (e, f))
+    go true e true f false g = asks-no 2 refl refl (λ ws. rw (e, f, g))
+    go true e true f true g = asks-draws nil (λ q. nil) (λ ws. rw (e, f, g) (unfold draws isNone in refl))
+asks s v (load form) m n =
+    go (summed form) refl (loads form) refl (leb (needed (loadedForm form .shape)) m) refl
+  where
+    go : (t : Bool) → summed form ≡ t → (u : Bool) → loads form ≡ u → (x : Bool) → leb (needed (loadedForm form .shape)) m ≡ x → Asks s (load form) m n
+    go false e u f x g = asks-no 17 refl refl (λ ws. rw e)
+    go true e false f x g = asks-no 18 refl refl (λ ws. rw (e, f))
+    go true e true f false g = asks-no 2 refl refl (λ ws. rw (e, f, g))
     go true e true f true g = asks-draws nil (λ q. nil) (λ ws. rw (e, f, g) (unfold draws isNone in refl))
 asks s v collect m n =
     go (ready s m) refl (inHand (λ r. true) (s .request)) refl (inHand (finished s) (s .request)) refl (eqb n (s .shape .B)) refl

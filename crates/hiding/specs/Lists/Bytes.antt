@@ -1,8 +1,8 @@
--- What bytes a completion brings, and which contents a request has, changes nothing of what is told: calls that differ only in these have the
--- same numbers, counts of words and commands, and use up the same words, from states that differ only in the bytes they keep, and leave such states.
-use mathlib.Core.Path.{_≡_, refl, ap, ap₂, sym, _∙_}
-use mathlib.Core.Bool.{Bool, true, false, not, _&&_, true≢false}
-use mathlib.Core.List.{List, [], _∷_, map, _++_}
+-- What bytes a completion brings, and which contents a request has, changes nothing of what is told: a call with zeros for them, from the state
+-- without the bytes that it keeps, has the same number, count of words and command, and leaves the same but for bytes.
+use mathlib.Core.Path.{_≡_, refl, ap, sym, _∙_}
+use mathlib.Core.Bool.{Bool, true, false, not, _&&_}
+use mathlib.Core.List.{List, [], _∷_}
 use mathlib.Core.Option.{Option, none, some, Option·map}
 use Prim.Native.Nat.{ℕ, suc}
 use lib.ListN.{length, replicate, length-replicate}
@@ -12,40 +12,30 @@ use Rattle.lists.specs.Tests.{if_then_else_}
 use Rattle.rules.specs.Ranges
 use Rattle.rules.specs.Draws.{draws}
 use Rattle.rules.specs.Questions
-use Rattle.rules.specs.Questions.{Ask, opening, request, turn, completion, collect, Call, bounds, questions, number}
+use Rattle.rules.specs.Questions.{Ask, opening, request, turn, completion, collect, Call, bounds, questions, number, save, load}
 use Rattle.rules.specs.Completion
 use Rattle.rules.specs.Unfold.{model}
 use Rattle.rules.specs.Collect
 use Rattle.rules.specs.Run
-use Rattle.rules.specs.Run.{Outcome, act, step, run}
+use Rattle.rules.specs.Run.{act, step}
 use Rattle.rules.specs.Setters.{_▷_, setBytes, setRequest}
 use Rattle.rules.specs.State.{State, Request, Command}
-use Rattle.rules.specs.Shape.{Shape}
-use Rattle.rules.specs.Laws.Answers.{opens}
 use Rattle.rules.specs.Turn
 use Rattle.rules.specs.Turn.{Step, idle, noDummy, readForRequest, readForJob, rebuild, writeNext, decide, doStep}
 use Rattle.rules.specs.Blocks
 use Rattle.rules.specs.Rebuild
 use Rattle.rules.specs.Request
-use Rattle.hiding.specs.Claim
-use Rattle.hiding.specs.Claim.{Outline, anOpen, aRequest, aTurn, aCompletion, aCollect, outline, isTurn, used, usedBy, tapeOf, told, Twin, Twins}
+use Rattle.hiding.specs.Claim.{told}
 
--- what is asked, with zeros for bytes
-abbrev pub zeroed : Outline → Ask
-zeroed (anOpen h) = opening h
-zeroed (aRequest k b n) = request k b (replicate n 0)
-zeroed aTurn = turn
-zeroed (aCompletion c n) = completion c (replicate n 0)
-zeroed aCollect = collect
-
--- which asks are an open
-pub open-ask : (h : Shape) (a : Ask) → outline a ≡ anOpen h → a ≡ opening h
-unfolding opens
-open-ask h (opening g) e = ap zeroed e
-open-ask h (request k b bs) e = absurd (true≢false (sym (ap (λ o. opens (zeroed o)) e)))
-open-ask h turn e = absurd (true≢false (sym (ap (λ o. opens (zeroed o)) e)))
-open-ask h (completion c bs) e = absurd (true≢false (sym (ap (λ o. opens (zeroed o)) e)))
-open-ask h collect e = absurd (true≢false (sym (ap (λ o. opens (zeroed o)) e)))
+-- no save and no load: no form is in it
+abbrev pub NoForm : Ask → Type 0
+NoForm (opening h) = Unit {0}
+NoForm (request k b bs) = Unit {0}
+NoForm turn = Unit {0}
+NoForm (completion c bs) = Unit {0}
+NoForm collect = Unit {0}
+NoForm save = ⊥
+NoForm (load form) = ⊥
 
 -- a state without the bytes it keeps: of a request's contents the length stays
 abbrev pub zeroBytes : Request → Request
@@ -60,16 +50,19 @@ bare s = s ▷ setBytes (λ b. []) ▷ setRequest (bareRequest (s .request))
 
 -- a call with zeros for bytes
 abbrev pub bareAsk : Ask → Ask
-bareAsk a = zeroed (outline a)
+bareAsk (opening h) = opening h
+bareAsk (request k b bs) = request k b (replicate (length bs) 0)
+bareAsk turn = turn
+bareAsk (completion c bs) = completion c (replicate (length bs) 0)
+bareAsk collect = collect
+bareAsk save = save
+bareAsk (load form) = load form
 
 abbrev pub bareCall : Call → Call
 bareCall c = record { ask = bareAsk (c .ask); memory = c .memory; words = c .words; buffer = c .buffer }
 
-pub zeros-length : (n : ℕ) → length {A = ℕ} (replicate n 0) ≡ n
-zeros-length n = let z : ℕ = 0 in length-replicate n z
-
-length-zeros : (bs : List ℕ) → length {A = ℕ} (replicate (length bs) 0) ≡ length bs
-length-zeros bs = zeros-length (length bs)
+pub length-zeros : (bs : List ℕ) → length {A = ℕ} (replicate (length bs) 0) ≡ length bs
+length-zeros bs = let z : ℕ = 0 in length-replicate (length bs) z
 
 -- ---- what is asked of a state
 
@@ -104,6 +97,8 @@ module _ (s : State) where
   bounds-bare turn = rw decide-bare
   bounds-bare (completion c bs) = refl
   bounds-bare collect = refl
+  bounds-bare save = refl
+  bounds-bare (load form) = refl
 
   sent-bare : (a : Ask) → Run.sentCommand (bare s) (bareAsk a) ≡ Run.sentCommand s a
   unfolding Run.sentCommand
@@ -112,6 +107,8 @@ module _ (s : State) where
   sent-bare turn = rw decide-bare
   sent-bare (completion c bs) = refl
   sent-bare collect = refl
+  sent-bare save = refl
+  sent-bare (load form) = refl
 
   possible-bare : (x : Step) → Questions.possible (bare s) x ≡ Questions.possible s x
   unfolding model
@@ -132,7 +129,7 @@ module _ (s : State) where
   inHand-bare none = refl
   inHand-bare (some r) = refl
 
-  none-bare : (o : Option Request) → isNone (bareRequest o) ≡ isNone o
+  pub none-bare : (o : Option Request) → isNone (bareRequest o) ≡ isNone o
   unfolding model
   none-bare none = refl
   none-bare (some r) = refl
@@ -156,17 +153,19 @@ module _ (s : State) where
   unfolding Questions.ready Ranges.inRange Ranges.ranges
   ready-bare m = rw (rangeRequest-bare (s .request), queueFits-bare (s .request), cacheFits-bare (s .request))
 
-  questions-bare : (a : Ask) (m : ℕ) (ws : List ℕ) (n : ℕ) → questions (bare s) (bareAsk a) m ws n ≡ questions s a m ws n
+  questions-bare : (a : Ask) → NoForm a → (m : ℕ) (ws : List ℕ) (n : ℕ) → questions (bare s) (bareAsk a) m ws n ≡ questions s a m ws n
   unfolding questions bounds
-  questions-bare (opening h) m ws n = refl
-  questions-bare (request k b bs) m ws n = rw (ready-bare m, none-bare (s .request), length-zeros bs)
-  questions-bare turn m ws n = rw (ready-bare m, decide-bare, possible-bare (decide s))
-  questions-bare (completion c bs) m ws n = rw (ready-bare m, length-zeros bs)
-  questions-bare collect m ws n = rw (ready-bare m, inHand-bare (s .request), finished-bare (s .request))
+  questions-bare (opening h) f m ws n = refl
+  questions-bare (request k b bs) f m ws n = rw (ready-bare m, none-bare (s .request), length-zeros bs)
+  questions-bare turn f m ws n = rw (ready-bare m, decide-bare, possible-bare (decide s))
+  questions-bare (completion c bs) f m ws n = rw (ready-bare m, length-zeros bs)
+  questions-bare collect f m ws n = rw (ready-bare m, inHand-bare (s .request), finished-bare (s .request))
+  questions-bare save f m ws n = absurd f
+  questions-bare (load form) f m ws n = absurd f
 
-  number-bare : (c : Call) → number (bare s) (bareCall c) ≡ number s c
+  number-bare : (c : Call) → NoForm (c .ask) → number (bare s) (bareCall c) ≡ number s c
   unfolding number
-  number-bare c = rw (questions-bare (c .ask) (c .memory) (c .words) (c .buffer))
+  number-bare c f = rw (questions-bare (c .ask) f (c .memory) (c .words) (c .buffer))
 
   -- ---- what it does
 
@@ -226,13 +225,15 @@ module _ (s : State) where
           ap (λ x. bare (Completion.gatherBytes o bs x)) (completed-bare s c) ∙ gatherBytes-bare (Completion.completed c s) o bs cs
       go false = ap (λ x. bare (Completion.finishJob (s .queue) x)) (completed-bare s c) ∙ finishJob-bare (Completion.completed c s) (s .queue)
 
-  perform-bare : (a : Ask) (js : List ℕ) → bare (Run.perform (bare s) (bareAsk a) js) ≡ bare (Run.perform s a js)
+  perform-bare : (a : Ask) → (js : List ℕ) → bare (Run.perform (bare s) (bareAsk a) js) ≡ bare (Run.perform s a js)
   unfolding Run.perform
   perform-bare (opening h) js = refl
   perform-bare (request k b bs) js = unfold Request.accept in (rw (length-zeros bs))
   perform-bare turn js = rw (decide-bare s) (doStep-bare s (decide s) js)
   perform-bare (completion c bs) js = complete-bare c (replicate (length bs) 0) bs
   perform-bare collect js = collected-bare s (s .request)
+  perform-bare save js = rw (same-bare s (s .request))
+  perform-bare (load form) js = refl
 
 -- a request is released by what is not bytes
 release-bare : (s : State) → bare (Request.release (bare s)) ≡ bare (Request.release s)
@@ -252,7 +253,7 @@ release-alike : (s s′ : State) → bare s ≡ bare s′ → bare (Request.rele
 release-alike s s′ e = sym (release-bare s) ∙ ap (λ x. bare (Request.release x)) e ∙ release-bare s′
 
 module _ (s : State) where
-  act-bare : (a : Ask) (js : List ℕ) → bare (act (bare s) (bareAsk a) js) ≡ bare (act s a js)
+  act-bare : (a : Ask) → (js : List ℕ) → bare (act (bare s) (bareAsk a) js) ≡ bare (act s a js)
   unfolding act
   act-bare a js = release-alike (Run.perform (bare s) (bareAsk a) js) (Run.perform s a js) (perform-bare s a js)
 
@@ -263,18 +264,20 @@ module _ (s : State) where
   refuse-bare turn = rw (same-bare s (s .request))
   refuse-bare (completion c bs) = rw (same-bare s (s .request))
   refuse-bare collect = rw (same-bare s (s .request))
+  refuse-bare save = rw (same-bare s (s .request))
+  refuse-bare (load form) = refl
 
   -- a call with zeros, from the state without its bytes
   pub record Bare (c : Call) : Type 0 where
     pub tells : told (step (bare s) (bareCall c) .1) ≡ told (step s c .1)
     pub next : bare (step (bare s) (bareCall c) .0) ≡ bare (step s c .0)
 
-  step-bare : (c : Call) → Bare c
+  pub step-bare : (c : Call) → NoForm (c .ask) → Bare c
   unfolding step Run.accepted Run.refused
-  step-bare c = go (eqb (number s c) 0) refl
+  step-bare c f = go (eqb (number s c) 0) refl
     where
       n : number (bare s) (bareCall c) ≡ number s c
-      n = number-bare s c
+      n = number-bare s c f
 
       js : List ℕ
       js = Run.numbersOf (draws (bounds s (c .ask)) (c .words))
@@ -288,60 +291,3 @@ module _ (s : State) where
         tells = rw (n, e);
         next = rw (n, e) (refuse-bare (c .ask));
       }
-
--- ---- lists of calls
-
-twin-bare : (c d : Call) → Twin c d → bareCall c ≡ bareCall d
-twin-bare c d t = λ i. record { ask = zeroed (t .ask i); memory = t .memory i; words = t .words i; buffer = t .buffer i }
-
-pub turn-bare : (a : Ask) → isTurn (bareAsk a) ≡ isTurn a
-unfolding isTurn
-turn-bare (opening h) = refl
-turn-bare (request k b bs) = refl
-turn-bare turn = refl
-turn-bare (completion c bs) = refl
-turn-bare collect = refl
-
--- two calls, from two states
-module _ (c d : Call) (t : Twin c d) (s s′ : State) (e : bare s ≡ bare s′) where
-  same-step : step (bare s) (bareCall c) ≡ step (bare s′) (bareCall d)
-  same-step = λ i. step (e i) (twin-bare c d t i)
-
-  pub twin-tells : told (step s c .1) ≡ told (step s′ d .1)
-  twin-tells = sym (step-bare s c .tells) ∙ ap (λ (r : State × Outcome). told (r .1)) same-step ∙ step-bare s′ d .tells
-
-  pub twin-next : bare (step s c .0) ≡ bare (step s′ d .0)
-  twin-next = sym (step-bare s c .next) ∙ ap (λ (r : State × Outcome). bare (r .0)) same-step ∙ step-bare s′ d .next
-
-  same-turn : isTurn (c .ask) ≡ isTurn (d .ask)
-  same-turn = sym (turn-bare (c .ask)) ∙ ap (λ (o : Outline). isTurn (zeroed o)) (t .ask) ∙ turn-bare (d .ask)
-
-  pub twin-used : used c (step s c .1) ≡ used d (step s′ d .1)
-  twin-used = λ i. usedBy (same-turn i) (t .words i) (twin-tells i .0) (twin-tells i .1)
-
-pub twins-told : (cs ds : List Call) → Twins cs ds → (s s′ : State) → bare s ≡ bare s′ → map told (run s cs) ≡ map told (run s′ ds)
-unfolding run
-twins-told [] [] Claim.none s s′ e = refl
-twins-told (c ∷ cs) (d ∷ ds) (Claim.more t ts) s s′ e =
-    ap₂ (λ o os. o ∷ os) (twin-tells c d t s s′ e) (twins-told cs ds ts (step s c .0) (step s′ d .0) (twin-next c d t s s′ e))
-
-pub twins-tape : (cs ds : List Call) → Twins cs ds → (s s′ : State) → bare s ≡ bare s′ → tapeOf cs (run s cs) ≡ tapeOf ds (run s′ ds)
-unfolding run tapeOf
-twins-tape [] [] Claim.none s s′ e = refl
-twins-tape (c ∷ cs) (d ∷ ds) (Claim.more t ts) s s′ e =
-    ap₂ _++_ (twin-used c d t s s′ e) (twins-tape cs ds ts (step s c .0) (step s′ d .0) (twin-next c d t s s′ e))
-
--- a call, and the same with zeros
-pub zeros-twin : (c : Call) → Twin c (bareCall c)
-zeros-twin c = record { ask = go (c .ask); memory = refl; words = refl; buffer = refl }
-  where
-    go : (a : Ask) → outline a ≡ outline (bareAsk a)
-    go (opening h) = refl
-    go (request k b bs) = rw (length-zeros bs)
-    go turn = refl
-    go (completion c bs) = rw (length-zeros bs)
-    go collect = refl
-
-pub zeros-twins : (cs : List Call) → Twins cs (map bareCall cs)
-zeros-twins [] = Claim.none
-zeros-twins (c ∷ cs) = Claim.more (zeros-twin c) (zeros-twins cs)

@@ -21,7 +21,7 @@ use Rattle.rules.specs.Laws.Draws
 use Rattle.rules.specs.Laws.Draws.{Settles, drawn, settles-draws, settles-drew, enough}
 use Rattle.rules.specs.Laws.Bounds.{Few, enough-zeros}
 use Rattle.matching.specs.Trades.{none-drew}
-use Rattle.hiding.specs.Machines.Needs.{Able}
+use Rattle.reachable.specs.Reached.{Was}
 use Rattle.hiding.specs.Claim.{ShortWords, isTurn, used, usedBy, told}
 use Rattle.hiding.specs.Lists.Fixed.{Fixed, lend}
 use Rattle.hiding.specs.Machines.Ideal.{Seen, lacking, nothingSent}
@@ -102,7 +102,7 @@ lacking-three : (ms : List ℕ) → lacking 3 ms ≡ ms
 unfolding lacking
 lacking-three ms = refl
 
-module _ (s : State) (v : Able s) (a : Fixed) where
+module _ (s : State) (v : Was s) (a : Fixed) where
   abbrev ms : List ℕ
   ms = bounds s (a .ask)
 

@@ -15,10 +15,11 @@ use Rattle.rules.specs.Run.{Outcome, step, run}
 use Rattle.matching.specs.Machine.{Machine, Tape, Watch}
 use Rattle.matching.specs.TwoLists.{Any}
 use Rattle.matching.specs.Flat.{concat, cut, cut-flat, FlatTape, FlatWatch}
-use Rattle.hiding.specs.Machines.Needs.{Able, able-step}
+use Rattle.reachable.specs.Reached.{Was}
 use Rattle.hiding.specs.Lists.Fixed
 use Rattle.hiding.specs.Claim.{ShortWords, Short, isTurn, used, usedBy, tapeOf, told}
-use Rattle.hiding.specs.Lists.Fixed.{Fixed, lend, Lends, Gives}
+use Rattle.hiding.specs.Lists.Fixed.{Fixed, lend, Listed, at, Lends, Gives}
+use Rattle.hiding.specs.Lists.Saves.{at-was}
 use Rattle.hiding.specs.Lists.Words.{uses, behind}
 
 abbrev pub Told : Type 0
@@ -35,12 +36,12 @@ lentOn a d = lend a (padded (a .words) d)
 abbrev pub words-legal : State → Fixed → List ℕ → Type 0
 words-legal s a d = (length d ≤ a .words) × (ShortWords d × (used (lentOn a d) (step s (lentOn a d) .1) ≡ d))
 
-abbrev pub words : Machine Fixed (List ℕ) Told
+abbrev pub words : Machine Listed (List ℕ) Told
 words = record {
   State = State;
-  Legal = words-legal;
-  next = λ s a d. step s (lentOn a d) .0;
-  seen = λ s a d. told (step s (lentOn a d) .1);
+  Legal = λ s a d. words-legal s (at s a) d;
+  next = λ s a d. step s (lentOn (at s a) d) .0;
+  seen = λ s a d. told (step s (lentOn (at s a) d) .1);
 }
 
 pub padded-length : (w : ℕ) (d : List ℕ) → length d ≤ w → length (padded w d) ≡ w
@@ -76,21 +77,21 @@ offer-front (suc w) (x ∷ d) t l (cons h p) =
     ap₂ (λ y ys. y ∷ ys) (mod-eq-of-lt h) (offer-front w d t (omega arith) p ∙ ap (λ n. d ++ offer n t) k)
 
 -- how many of the words to come a call uses up
-abbrev pub wants : State → Fixed → List ℕ → ℕ
-wants s a t = length (used (lend a (offer (a .words) t)) (step s (lend a (offer (a .words) t)) .1))
+abbrev pub wants : State → Listed → List ℕ → ℕ
+wants s a t = length (used (lend (at s a) (offer (a .words) t)) (step s (lend (at s a) (offer (a .words) t)) .1))
 
-pub size : (s : State) (a : Fixed) (d t : List ℕ) → Able s → words-legal s a d → wants s a (d ++ t) ≡ length d
+pub size : (s : State) (a : Listed) (d t : List ℕ) → Was s → words-legal s (at s a) d → wants s a (d ++ t) ≡ length d
 size s a d t v p =
     let e = offer-front (a .words) d t (p .0) (p .1 .0) in
     let w = a .words - length d in
-    let b = behind s v a d (replicate w 0) (offer w t) (length-replicate w (zeroth d) ∙ sym (offer-length w t)) (padded-short (a .words) d (p .1 .0)) (rw e at (offer-short (a .words) (d ++ t))) (p .1 .1) in
-    ap (λ ws. length (uses s v a ws)) e ∙ ap length (b .1)
+    let b = behind s v (at s a) d (replicate w 0) (offer w t) (length-replicate w (zeroth d) ∙ sym (offer-length w t)) (padded-short (a .words) d (p .1 .0)) (rw e at (offer-short (a .words) (d ++ t))) (p .1 .1) in
+    ap (λ ws. length (uses s v (at s a) ws)) e ∙ ap length (b .1)
   where
     zeroth : List ℕ → ℕ
     zeroth d = 0
 
-pub keep : (s : State) (a : Fixed) (d : List ℕ) → Able s → words-legal s a d → Able (step s (lentOn a d) .0)
-keep s a d v p = able-step s (lentOn a d) v
+pub keep : (s : State) (a : Listed) (d : List ℕ) → Was s → words-legal s (at s a) d → Was (step s (lentOn (at s a) d) .0)
+keep s a d v p = at-was s a (padded (a .words) d) v
 
 -- ---- A call with words has its chunk
 
@@ -121,7 +122,7 @@ pub record Chunk (s : State) (a : Fixed) (ws : List ℕ) : Type 0 where
   pub legal : words-legal s a (used (lend a ws) (step s (lend a ws) .1))
   pub same : step s (lentOn a (used (lend a ws) (step s (lend a ws) .1))) ≡ step s (lend a ws)
 
-pub chunk : (s : State) → Able s → (a : Fixed) (ws : List ℕ) → length ws ≡ a .words → ShortWords ws → Chunk s a ws
+pub chunk : (s : State) → Was s → (a : Fixed) (ws : List ℕ) → length ws ≡ a .words → ShortWords ws → Chunk s a ws
 chunk s v a ws e p = record { legal = (le, (short, b .1)); same = b .0 ∙ ap (λ xs. step s (lend a xs)) front }
   where
     d : List ℕ
@@ -151,26 +152,26 @@ chunk s v a ws e p = record { legal = (le, (short, b .1)); same = b .0 ∙ ap (�
 -- ---- Runs and tapes
 
 -- the outcomes of a list by its chunks
-abbrev pub outcomes : State → List Fixed → List (List ℕ) → List Outcome
+abbrev pub outcomes : State → List Listed → List (List ℕ) → List Outcome
 outcomes s [] ds = []
 outcomes s (a ∷ as′) [] = []
-outcomes s (a ∷ as′) (d ∷ ds) = step s (lentOn a d) .1 ∷ outcomes (step s (lentOn a d) .0) as′ ds
+outcomes s (a ∷ as′) (d ∷ ds) = step s (lentOn (at s a) d) .1 ∷ outcomes (step s (lentOn (at s a) d) .0) as′ ds
 
 -- the chunks of a run are a tape of the machine, and decide the run
-pub record Chunks (s : State) (as′ : List Fixed) (cs : List Call) : Type 0 where
+pub record Chunks (s : State) (as′ : List Listed) (cs : List Call) : Type 0 where
   pub chunks : List (List ℕ)
   pub legal : Tape words Any s as′ chunks
   pub flat : concat chunks ≡ tapeOf cs (run s cs)
   pub runs : outcomes s as′ chunks ≡ run s cs
 
-pub run-chunks : (as′ : List Fixed) (cs : List Call) → Lends as′ cs → Short cs → (s : State) → Able s → Chunks s as′ cs
+pub run-chunks : (as′ : List Listed) (cs : List Call) (s : State) → Lends s as′ cs → Short cs → Was s → Chunks s as′ cs
 unfolding run tapeOf
-run-chunks [] [] Fixed.none p s v = record { chunks = []; legal = tt; flat = refl; runs = refl }
-run-chunks (a ∷ as′) (c ∷ cs) (Fixed.more {ws = ws} e l) (cons p q) s v =
-    let d = used (lend a ws) (step s (lend a ws) .1) in
-    let k = chunk s v a ws e p in
-    let r = run-chunks as′ cs l q (step s (lend a ws) .0) (able-step s (lend a ws) v) in
-    let n : step s (lentOn a d) .0 ≡ step s (lend a ws) .0 = ap (λ (x : State × Outcome). x .0) (k .same) in
+run-chunks [] [] s Fixed.none p v = record { chunks = []; legal = tt; flat = refl; runs = refl }
+run-chunks (a ∷ as′) (c ∷ cs) s (Fixed.more {ws = ws} e l) (cons p q) v =
+    let d = used (lend (at s a) ws) (step s (lend (at s a) ws) .1) in
+    let k = chunk s v (at s a) ws e p in
+    let r = run-chunks as′ cs (step s (lend (at s a) ws) .0) l q (at-was s a ws v) in
+    let n : step s (lentOn (at s a) d) .0 ≡ step s (lend (at s a) ws) .0 = ap (λ (x : State × Outcome). x .0) (k .same) in
     record {
       chunks = d ∷ r .chunks;
       legal = (k .legal, subst (λ s′. Tape words Any s′ as′ (r .chunks)) (sym n) (r .legal));
@@ -179,14 +180,14 @@ run-chunks (a ∷ as′) (c ∷ cs) (Fixed.more {ws = ws} e l) (cons p q) s v =
     }
 
 -- and each tape of the machine is one of a run
-pub chunks-run : (as′ : List Fixed) (s : State) (ds : List (List ℕ)) → Tape words Any s as′ ds → (cs : List Call) × Gives s as′ (concat ds) cs
+pub chunks-run : (as′ : List Listed) (s : State) (ds : List (List ℕ)) → Tape words Any s as′ ds → (cs : List Call) × Gives s as′ (concat ds) cs
 unfolding run tapeOf
 chunks-run [] s [] p = ([], record { calls = Fixed.none; short = nil; tape = refl })
 chunks-run [] s (d ∷ ds) p = absurd p
 chunks-run (a ∷ as′) s [] p = absurd p
 chunks-run (a ∷ as′) s (d ∷ ds) p =
-    let r = chunks-run as′ (step s (lentOn a d) .0) ds (p .1) in (
-      lentOn a d ∷ r .0,
+    let r = chunks-run as′ (step s (lentOn (at s a) d) .0) ds (p .1) in (
+      lentOn (at s a) d ∷ r .0,
       record {
         calls = Fixed.more (padded-length (a .words) d (p .0 .0)) (r .1 .calls);
         short = cons (padded-short (a .words) d (p .0 .1 .0)) (r .1 .short);
@@ -195,26 +196,26 @@ chunks-run (a ∷ as′) s (d ∷ ds) p =
     )
 
 -- a run is known by its tape
-pub run-outcomes : (as′ : List Fixed) (s : State) → Able s → (t : List ℕ) (cs : List Call) → Gives s as′ t cs → run s cs ≡ outcomes s as′ (cut words wants s as′ t)
+pub run-outcomes : (as′ : List Listed) (s : State) → Was s → (t : List ℕ) (cs : List Call) → Gives s as′ t cs → run s cs ≡ outcomes s as′ (cut words wants s as′ t)
 run-outcomes as′ s v t cs g =
-    let r = run-chunks as′ cs (g .calls) (g .short) s v in
-    sym (r .runs) ∙ ap (outcomes s as′) (sym (cut-flat words wants Able keep size s as′ v (r .chunks) (r .legal)) ∙ ap (cut words wants s as′) (r .flat ∙ g .tape))
+    let r = run-chunks as′ cs s (g .calls) (g .short) v in
+    sym (r .runs) ∙ ap (outcomes s as′) (sym (cut-flat words wants Was keep size s as′ v (r .chunks) (r .legal)) ∙ ap (cut words wants s as′) (r .flat ∙ g .tape))
 
-told-outcomes : (as′ : List Fixed) (s : State) (ds : List (List ℕ)) → map told (outcomes s as′ ds) ≡ Watch words s as′ ds
+told-outcomes : (as′ : List Listed) (s : State) (ds : List (List ℕ)) → map told (outcomes s as′ ds) ≡ Watch words s as′ ds
 told-outcomes [] s ds = refl
 told-outcomes (a ∷ as′) s [] = refl
-told-outcomes (a ∷ as′) s (d ∷ ds) = ap (λ os. told (step s (lentOn a d) .1) ∷ os) (told-outcomes as′ (step s (lentOn a d) .0) ds)
+told-outcomes (a ∷ as′) s (d ∷ ds) = ap (λ os. told (step s (lentOn (at s a) d) .1) ∷ os) (told-outcomes as′ (step s (lentOn (at s a) d) .0) ds)
 
-pub run-watch : (as′ : List Fixed) (s : State) → Able s → (t : List ℕ) (cs : List Call) → Gives s as′ t cs → map told (run s cs) ≡ FlatWatch words wants s as′ t
+pub run-watch : (as′ : List Listed) (s : State) → Was s → (t : List ℕ) (cs : List Call) → Gives s as′ t cs → map told (run s cs) ≡ FlatWatch words wants s as′ t
 run-watch as′ s v t cs g = ap (map told) (run-outcomes as′ s v t cs g) ∙ told-outcomes as′ s (cut words wants s as′ t)
 
 -- The flat tapes of the machine are the list's
-pub tape-flat : (as′ : List Fixed) (s : State) → Able s → (t : List ℕ) → Fixed.Tape s as′ t → FlatTape words wants s as′ t
+pub tape-flat : (as′ : List Listed) (s : State) → Was s → (t : List ℕ) → Fixed.Tape s as′ t → FlatTape words wants s as′ t
 tape-flat as′ s v t g =
-    let r = run-chunks as′ (g .0) (g .1 .calls) (g .1 .short) s v in
+    let r = run-chunks as′ (g .0) s (g .1 .calls) (g .1 .short) v in
     (r .chunks, (r .legal, r .flat ∙ g .1 .tape))
 
-pub flat-tape : (as′ : List Fixed) (s : State) (t : List ℕ) → FlatTape words wants s as′ t → Fixed.Tape s as′ t
+pub flat-tape : (as′ : List Listed) (s : State) (t : List ℕ) → FlatTape words wants s as′ t → Fixed.Tape s as′ t
 flat-tape as′ s t p =
     let r = chunks-run as′ s (p .0) (p .1 .0) in
     (r .0, record { calls = r .1 .calls; short = r .1 .short; tape = r .1 .tape ∙ p .1 .1 })

@@ -20,7 +20,7 @@ use Rattle.rules.specs.Laws.Answers.{step-accepted, step-refused}
 use Rattle.rules.specs.Laws.Draws
 use Rattle.rules.specs.Laws.Draws.{Settles, drawn, settles-draws, enough}
 use Rattle.rules.specs.Laws.Bounds.{Few}
-use Rattle.hiding.specs.Machines.Needs.{Able}
+use Rattle.reachable.specs.Reached.{Was}
 use Rattle.hiding.specs.Claim.{ShortWords, isTurn, used, usedBy}
 use Rattle.hiding.specs.Lists.Fixed.{Fixed, lend}
 use Rattle.hiding.specs.Lists.Asks.{Asks, asks-draws, asks-no, asks, settled, Even}
@@ -61,7 +61,7 @@ pub data Does (s : State) (a : Fixed) : Type 0 where
   refusing : (j : ℕ) → eqb j 0 ≡ false → eqb j 3 ≡ false → ((ws : List ℕ) → number s (lend a ws) ≡ j) →
       ((ws : List ℕ) → step s (lend a ws) ≡ (refuse s (a .ask), refused j)) → Does s a
 
-pub does : (s : State) → Able s → (a : Fixed) → Does s a
+pub does : (s : State) → Was s → (a : Fixed) → Does s a
 does s v a = go (asks s v (a .ask) (a .memory) (a .buffer))
   where
     go : Asks s (a .ask) (a .memory) (a .buffer) → Does s a
@@ -88,7 +88,7 @@ empty : (xs : List ℕ) → length xs ≡ 0 → xs ≡ []
 empty [] e = refl
 empty (x ∷ xs) e = absurd (omega arith)
 
-module _ (s : State) (v : Able s) (a : Fixed) where
+module _ (s : State) (v : Was s) (a : Fixed) where
   -- what it uses up of these words
   abbrev pub uses : List ℕ → List ℕ
   uses ws = used (lend a ws) (step s (lend a ws) .1)

@@ -4,6 +4,7 @@ use mathlib.Core.Option.{Option, none, some}
 use Prim.Native.Nat.{ℕ, zero, suc}
 use lib.ListN.{length, getD, replicate}
 use lib.Dec.{eqb}
+use mathlib.Core.Bool.{Bool, true, false}
 use Rattle.lists.specs.Tests.{if_then_else_}
 use Rattle.lists.specs.Tables.{putAll}
 use Rattle.rules.specs.Completion.{complete}
@@ -17,7 +18,7 @@ use Rattle.rules.specs.Shape.{Shape, slots, cell}
 use Rattle.matching.specs.Trades.{None}
 use Rattle.matching.specs.Machine.{Machine}
 use Rattle.matching.specs.Reads.{Arranges, Pick}
-use Rattle.hiding.specs.Machines.Public.{Later, later-request, later-turn, later-completion, later-collect, Entry, first, later, hide, publicRequest, unreadIn, decideP, boundsP, numberP, numberOpen}
+use Rattle.hiding.specs.Machines.Public.{Later, later-request, later-turn, later-completion, later-collect, later-save, later-reload, Entry, first, later, hide, publicRequest, unreadIn, decideP, boundsP, numberP, numberOpen}
 
 -- ---- What is seen: the number, the bounds of the draws if the call is accepted or lacks words for them, the command
 
@@ -44,6 +45,8 @@ commandP i (later-request k b bs) e = nothingSent
 commandP i later-turn e = command (slotted (decideP i) e)
 commandP i (later-completion c bs) e = nothingSent
 commandP i later-collect e = nothingSent
+commandP i later-save e = nothingSent
+commandP i (later-reload m n) e = nothingSent
 
 abbrev pub seenIf : ℕ → State → Later → List ℕ → Seen
 seenIf zero i l e = (0, boundsP i l, commandP i l e)
@@ -69,6 +72,8 @@ legalIf zero i (later-request k b bs) e = Drew (i .shape .P ∷ i .shape .P ∷ 
 legalIf zero i later-turn e = legalStep i (decideP i) e
 legalIf zero i (later-completion c bs) e = None e
 legalIf zero i later-collect e = None e
+legalIf zero i later-save e = None e
+legalIf zero i (later-reload m n) e = None e
 
 -- ---- The state after an accepted call, by its public part
 
@@ -101,17 +106,44 @@ performI i (later-request k b bs) e = i ▷ setPartition (λ b. getD e 0 0) ▷ 
 performI i later-turn e = nextStepI i (decideP i) e
 performI i (later-completion c bs) e = complete c bs i
 performI i later-collect e = collectedI (i .request) i
+performI i later-save e = i
+performI i (later-reload m n) e = i
 
 abbrev pub nextI : ℕ → State → Later → List ℕ → State
 nextI (suc n) i l e = i
 nextI zero i l e = release (performI i l e)
 
+-- what is seen of a closed state: a load of nothing has the number 17, any other call 2
+abbrev pub seenShut : Entry → Seen
+seenShut (first m w) = (2, [], nothingSent)
+seenShut (later (later-request k b bs) m w n) = (2, [], nothingSent)
+seenShut (later later-turn m w n) = (2, [], nothingSent)
+seenShut (later (later-completion c bs) m w n) = (2, [], nothingSent)
+seenShut (later later-collect m w n) = (2, [], nothingSent)
+seenShut (later later-save m w n) = (2, [], nothingSent)
+seenShut (later (later-reload m₀ n₀) m w n) = (17, [], nothingSent)
+
+-- a refused load closes the state, a refused call of another kind leaves it
+abbrev pub closes : Later → Bool
+closes (later-request k b bs) = false
+closes later-turn = false
+closes (later-completion c bs) = false
+closes later-collect = false
+closes later-save = false
+closes (later-reload m n) = true
+
 -- ---- The machine
 
--- before the open; after a refused one, closed; after an accepted one
+-- before the open; after a refused one, closed; after an accepted one; after a refused load, closed, with the state that was before
 pub data Ideal : Type 0 where
   unopened shut : Ideal
   on : State → Ideal
+  off : State → Ideal
+
+-- the state after a call with this number
+abbrev pub onI : ℕ → State → Later → List ℕ → Ideal
+onI zero i l e = on (nextI zero i l e)
+onI (suc n) i l e = if closes l then off i else on i
 
 module _ (h : Shape) where
   abbrev pub openI : ℕ → Ideal
@@ -121,6 +153,7 @@ module _ (h : Shape) where
   abbrev pub ideal-legal : Ideal → Entry → List ℕ → Type 0
   ideal-legal unopened c e = None e
   ideal-legal shut c e = None e
+  ideal-legal (off i) c e = None e
   ideal-legal (on i) (first m w) e = None e
   ideal-legal (on i) (later l m w n) e = legalIf (numberP i l m w n) i l e
 
@@ -128,13 +161,15 @@ module _ (h : Shape) where
   ideal-next unopened (first m w) e = openI (numberOpen h m w)
   ideal-next unopened (later l m w n) e = unopened
   ideal-next shut c e = shut
+  ideal-next (off i) c e = off i
   ideal-next (on i) (first m w) e = on i
-  ideal-next (on i) (later l m w n) e = on (nextI (numberP i l m w n) i l e)
+  ideal-next (on i) (later l m w n) e = onI (numberP i l m w n) i l e
 
   abbrev pub ideal-seen : Ideal → Entry → List ℕ → Seen
   ideal-seen unopened (first m w) e = seenOpen h (numberOpen h m w)
   ideal-seen unopened (later l m w n) e = (2, [], nothingSent)
-  ideal-seen shut c e = (2, [], nothingSent)
+  ideal-seen shut c e = seenShut c
+  ideal-seen (off i) c e = seenShut c
   ideal-seen (on i) (first m w) e = (2, [], nothingSent)
   ideal-seen (on i) (later l m w n) e = seenIf (numberP i l m w n) i l e
 

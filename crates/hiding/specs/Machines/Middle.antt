@@ -25,8 +25,8 @@ use Rattle.matching.specs.Machine.{Machine}
 use Rattle.matching.specs.Trades.{None}
 use Rattle.matching.specs.Keyed.{Key, update}
 use Rattle.reachable.specs.Live.{isBelow, storedIn}
-use Rattle.hiding.specs.Machines.Ideal.{Seen, nothingSent, seenOpen, seenIf, legalIf, rebuildP}
-use Rattle.hiding.specs.Machines.Public.{Later, later-request, later-turn, later-completion, later-collect, Entry, first, later, publicLater, hide, unreadIn, decideP, numberP, numberOpen}
+use Rattle.hiding.specs.Machines.Ideal.{Seen, nothingSent, seenShut, closes, seenOpen, seenIf, legalIf, rebuildP}
+use Rattle.hiding.specs.Machines.Public.{Later, later-request, later-turn, later-completion, later-collect, later-save, later-reload, Entry, first, later, publicLater, hide, unreadIn, decideP, numberP, numberOpen}
 
 -- what is kept of a state: of a block's place the level, and no slot, no bytes
 abbrev pub levelOnly : Place → Place
@@ -91,6 +91,8 @@ performM s (later-request k b bs) e = accept k b bs e s
 performM s later-turn e = nextStepM s (decideP (hide s)) e
 performM s (later-completion c bs) e = complete c bs s
 performM s later-collect e = collectedM (s .request) s
+performM s later-save e = s
+performM s (later-reload m n) e = s
 
 abbrev pub nextM : ℕ → State → Later → List ℕ → State
 nextM (suc n) s l e = s
@@ -110,13 +112,21 @@ itemsM zero s it (later-request k b bs) e = it
 itemsM zero s it later-turn e = itemsStep s it (decideP (hide s)) e
 itemsM zero s it (later-completion c bs) e = it
 itemsM zero s it later-collect e = it
+itemsM zero s it later-save e = it
+itemsM zero s it (later-reload m n) e = it
 
 -- ---- The machine
 
--- before the open; after a refused one, closed; after an accepted one
+-- before the open; after a refused one, closed; after an accepted one; after a refused load, closed, with the state that was before
 pub data Mid : Type 0 where
   unopened shut : Mid
   on : State → Items → Mid
+  off : State → Items → Mid
+
+-- the state after a call with this number
+abbrev pub onM : ℕ → State → Items → Later → List ℕ → Mid
+onM zero s it l e = on (nextM zero s l e) (itemsM zero s it l e)
+onM (suc n) s it l e = if closes l then off s it else on s it
 
 module _ (h : Shape) where
   abbrev pub openM : ℕ → List ℕ → Mid
@@ -132,6 +142,7 @@ module _ (h : Shape) where
   mid-legal unopened (first m w) e = Drew (boundsOpen (numberOpen h m w)) e
   mid-legal unopened (later l m w n) e = None e
   mid-legal shut c e = None e
+  mid-legal (off s it) c e = None e
   mid-legal (on s it) (first m w) e = None e
   mid-legal (on s it) (later l m w n) e = legalIf (numberP (hide s) (publicLater h l) m w n) (hide s) l e
 
@@ -139,15 +150,15 @@ module _ (h : Shape) where
   mid-next unopened (first m w) e = openM (numberOpen h m w) e
   mid-next unopened (later l m w n) e = unopened
   mid-next shut c e = shut
+  mid-next (off s it) c e = off s it
   mid-next (on s it) (first m w) e = on s it
-  mid-next (on s it) (later l m w n) e =
-      let k = numberP (hide s) (publicLater h l) m w n in
-      on (nextM k s l e) (itemsM k s it l e)
+  mid-next (on s it) (later l m w n) e = onM (numberP (hide s) (publicLater h l) m w n) s it l e
 
   abbrev pub mid-seen : Mid → Entry → List ℕ → Seen
   mid-seen unopened (first m w) e = seenOpen h (numberOpen h m w)
   mid-seen unopened (later l m w n) e = (2, [], nothingSent)
-  mid-seen shut c e = (2, [], nothingSent)
+  mid-seen shut c e = seenShut c
+  mid-seen (off s it) c e = seenShut c
   mid-seen (on s it) (first m w) e = (2, [], nothingSent)
   mid-seen (on s it) (later l m w n) e = seenIf (numberP (hide s) (publicLater h l) m w n) (hide s) l e
 

@@ -1,16 +1,20 @@
--- What the stages need of every state that calls left, where E is N, and what the lists need whatever E is. `Reached` has it from the crate
--- `reachable`; nothing else of this crate speaks of that invariant.
+-- What the stages need of every state that calls left, where E is N. `Reached` has it from the crate `reachable`.
 use mathlib.Core.Path.{_≡_}
 use mathlib.Core.Bool.{true, _||_}
-use mathlib.Core.List.{List, [], _∷_}
+use mathlib.Core.List.{List}
 use mathlib.Core.Option.{some}
-use Prim.Native.Nat.{ℕ, suc, _<_}
+use Prim.Native.Nat.{ℕ, suc, _<_, _≤_}
 use lib.ListN.{length, replicate}
 use lib.Dec.{ltb}
+use Rattle.rules.specs.Laws.Form.Saveable.{over}
+use Rattle.rules.specs.Form.Loading.{loads, loadedForm}
+use Rattle.rules.specs.Form.Sums.{summed}
+use Rattle.rules.specs.Form.Longest.{longest}
+use Rattle.rules.specs.Form.Payload.{savedForm}
 use Rattle.lists.specs.Search.{member}
 use Rattle.rules.specs.Draws.{Drew}
 use Rattle.rules.specs.Rebuild.{gathered, chosen}
-use Rattle.rules.specs.Run.{act, step, after}
+use Rattle.rules.specs.Run.{act}
 use Rattle.rules.specs.State.{stored, Request, State}
 use Rattle.rules.specs.Shape.{Shape, within, slots, cell}
 use Rattle.rules.specs.Open.{fresh}
@@ -18,18 +22,23 @@ use Rattle.rules.specs.Collect.{finished}
 use Rattle.rules.specs.Turn.{readForRequest, rebuild, decide}
 use Rattle.rules.specs.Levels.{sources}
 use Rattle.rules.specs.Request.{slotIn}
-use Rattle.rules.specs.Questions.{Call, bounds, ready, possible}
+use Rattle.rules.specs.Questions.{bounds, possible, atRest}
 use Rattle.rules.specs.Ranges.{inRange}
 use Rattle.hiding.specs.Machines.Middle.{chosenM, gatheredM}
 use Rattle.hiding.specs.Machines.Public.{Later, ask}
-use Rattle.hiding.specs.Machines.Rules.{numberR}
+use Rattle.hiding.specs.Machines.Rules.{numberR, slotsIn}
 
 pub record Reachable (h : Shape) : Type 1 where
   pub Holds : State → Type 0
   pub start : (js : List ℕ) → within h ≡ true → Drew (replicate (h .N) (h .P)) js → Holds (fresh h js)
-  pub kept : (s : State) (l : Later) (m w n : ℕ) (js : List ℕ) → Holds s → numberR s l m w n ≡ 0 → Drew (bounds s (ask l)) js → Holds (act s (ask l) js)
+  pub kept : (s : State) (l : Later) (m w n : ℕ) (js : List ℕ) → Holds s → numberR s l m w n ≡ 0 → Drew (bounds s (ask s l)) js → Holds (act s (ask s l) js)
   pub shape : (s : State) → Holds s → s .shape ≡ h
   pub range : (s : State) → Holds s → inRange s ≡ true
+  -- a state at rest is brought back by its form, with its unread slots in their order
+  pub fits : (s : State) → Holds s → length (savedForm s) ≤ longest (s .shape)
+  pub loadable : (s : State) → Holds s → atRest s ≡ true → (summed (savedForm s) ≡ true) × (loads (savedForm s) ≡ true)
+  pub reloads : (s : State) → Holds s → atRest s ≡ true
+      → (y : ℕ → List ℕ) × (o : ℕ → ℕ) × ((loadedForm (savedForm s) ≡ over y o s) × (slotsIn (s .shape) (s .mark) o ≡ slotsIn (s .shape) (s .mark) (s .order)))
   -- no step lacks a dummy or gathers too much
   pub able : (s : State) → Holds s → possible s (decide s) ≡ true
   -- the cache has room for every block
@@ -48,15 +57,3 @@ pub record Reachable (h : Shape) : Type 1 where
   -- when a request is finished its block's slot has been read
   pub left : (s : State) (r : Request) (ℓ i : ℕ) → Holds s → s .request ≡ some r → finished s r ≡ true →
       s .place (r .block) ≡ stored ℓ i → ¬ (s .mark (cell (s .shape) (s .partition (r .block)) ℓ i) ≡ 1)
-
--- Whatever calls come, no turn lacks a dummy or gathers too much. Every list starts from the closed state
-abbrev pub Able : State → Type 0
-Able s = (cs : List Call) (m : ℕ) → ready (after s cs) m ≡ true → possible (after s cs) (decide (after s cs)) ≡ true
-
-pub able-now : (s : State) (m : ℕ) → Able s → ready s m ≡ true → possible s (decide s) ≡ true
-unfolding after
-able-now s m v = v [] m
-
-pub able-step : (s : State) (c : Call) → Able s → Able (step s c .0)
-unfolding after
-able-step s c v = λ cs. v (c ∷ cs)

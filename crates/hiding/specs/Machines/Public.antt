@@ -11,7 +11,9 @@ use Rattle.rules.specs.Memory.{needed}
 use Rattle.rules.specs.Completion.{isCommand}
 use Rattle.rules.specs.Turn.{Step, idle, noDummy, readForRequest, readForJob, rebuild, writeNext, firstRead, jobStep, command, stepBounds}
 use Rattle.rules.specs.Questions
-use Rattle.rules.specs.Questions.{Ask, inHand, sends, firstNo}
+use Rattle.rules.specs.Questions.{Ask, Call, inHand, sends, firstNo, number, atRest}
+use Rattle.rules.specs.Form.Payload.{savedForm}
+use Rattle.rules.specs.Form.Longest.{longest}
 use Rattle.rules.specs.Ranges.{isKind, bytesOf}
 use Rattle.rules.specs.Shape.{Shape, within, slots, cell}
 use Rattle.rules.specs.Setters.{setPartition, setPlace, setBytes, setWaiting, setOrder, setHolds, setRequest, _▷_}
@@ -28,17 +30,28 @@ pub data Later : Type 0 where
   later-turn : Later
   later-completion : Command → List ℕ → Later
   later-collect : Later
+  later-save : Later
+  later-reload : ℕ → ℕ → Later  -- the load of what a save just before it has written; memory and buffer of that save
 
 -- memory and words; memory, words and buffer
 pub data Entry : Type 0 where
   first : ℕ → ℕ → Entry
   later : Later → ℕ → ℕ → ℕ → Entry
 
-abbrev pub ask : Later → Ask
-ask (later-request k b bs) = Questions.request k b bs
-ask later-turn = Questions.turn
-ask (later-completion c bs) = Questions.completion c bs
-ask later-collect = Questions.collect
+abbrev pub saving : ℕ → ℕ → Call
+saving m n = record { ask = Questions.save; memory = m; words = []; buffer = n }
+
+-- what a save puts into its buffer
+unfoldable pub saved : State → ℕ → ℕ → List ℕ
+saved s m n = if eqb (number s (saving m n)) 0 then savedForm s else []
+
+abbrev pub ask : State → Later → Ask
+ask s (later-request k b bs) = Questions.request k b bs
+ask s later-turn = Questions.turn
+ask s (later-completion c bs) = Questions.completion c bs
+ask s later-collect = Questions.collect
+ask s later-save = Questions.save
+ask s (later-reload m n) = Questions.load (saved s m n)
 
 -- the public part of a call: all well-formed requests are one, and contents are but a length
 unfoldable pub formed : Shape → ℕ → ℕ → ℕ → Bool
@@ -53,6 +66,8 @@ publicLater h (later-request k b bs) = publicAsk (formed h k b (length bs)) k b 
 publicLater h later-turn = later-turn
 publicLater h (later-completion c bs) = later-completion c (replicate (length bs) 0)
 publicLater h later-collect = later-collect
+publicLater h later-save = later-save
+publicLater h (later-reload m n) = later-reload m n
 
 abbrev pub publicEntry : Shape → Entry → Entry
 publicEntry h (first m w) = first m w
@@ -124,6 +139,12 @@ boundsP i (later-request k b bs) = i .shape .P ∷ i .shape .P ∷ []
 boundsP i later-turn = stepBounds (decideP i)
 boundsP i (later-completion c bs) = []
 boundsP i later-collect = []
+boundsP i later-save = []
+boundsP i (later-reload m n) = []
+
+-- the number of a save
+unfoldable pub saveP : State → ℕ → ℕ → ℕ
+saveP i m n = firstNo ((leb (needed (i .shape)) m && leb (longest (i .shape)) n, 2) ∷ (atRest i, 16) ∷ [])
 
 unfoldable pub questionsP : State → Later → ℕ → ℕ → ℕ → List (Bool × ℕ)
 questionsP i (later-request k b bs) m w n =
@@ -148,6 +169,8 @@ questionsP i later-collect m w n =
     ∷ (inHand (λ r. true) (i .request), 13)
     ∷ (inHand (finished i) (i .request), 14)
     ∷ (eqb n (i .shape .B), 15) ∷ []
+questionsP i later-save m w n = (leb (needed (i .shape)) m && leb (longest (i .shape)) n, 2) ∷ (atRest i, 16) ∷ []
+questionsP i (later-reload m₀ n₀) m w n = (eqb (saveP i m₀ n₀) 0, 17) ∷ (leb (needed (i .shape)) m, 2) ∷ []
 
 unfoldable pub numberP : State → Later → ℕ → ℕ → ℕ → ℕ
 numberP i l m w n = firstNo (questionsP i l m w n)

@@ -2,6 +2,7 @@
 use mathlib.Core.List.{List, [], map}
 use Prim.Native.Nat.{ℕ, zero, suc}
 use lib.ListN.{replicate}
+use Rattle.lists.specs.Tests.{if_then_else_}
 use Rattle.lists.specs.Search.{below}
 use Rattle.rules.specs.Open.{fresh}
 use Rattle.rules.specs.Questions
@@ -14,37 +15,43 @@ use Rattle.matching.specs.Keyed.{Key}
 use Rattle.matching.specs.Trades.{None}
 use Rattle.matching.specs.Machine.{Machine}
 use Rattle.hiding.specs.Machines.Public.{Later, Entry, first, later, ask, openIn}
-use Rattle.hiding.specs.Machines.Ideal.{Seen, lacking, nothingSent, seenOpen}
+use Rattle.hiding.specs.Machines.Ideal.{Seen, lacking, nothingSent, seenOpen, seenShut, closes}
 use Rattle.hiding.specs.Machines.Middle
 use Rattle.hiding.specs.Machines.Middle.{Items, Mid, forget, boundsOpen}
 
 -- ---- The machine
 
-abbrev pub called : Later → ℕ → ℕ → ℕ → Call
-called l m w n = record { ask = ask l; memory = m; words = replicate w 0; buffer = n }
+abbrev pub called : State → Later → ℕ → ℕ → ℕ → Call
+called s l m w n = record { ask = ask s l; memory = m; words = replicate w 0; buffer = n }
 
 abbrev pub numberR : State → Later → ℕ → ℕ → ℕ → ℕ
-numberR s l m w n = number s (called l m w n)
+numberR s l m w n = number s (called s l m w n)
 
 abbrev pub openCall : Shape → ℕ → ℕ → Call
 openCall h m w = record { ask = Questions.opening h; memory = m; words = replicate w 0; buffer = 0 }
 
 abbrev pub boundsR : ℕ → State → Later → List ℕ
-boundsR zero s l = bounds s (ask l)
+boundsR zero s l = bounds s (ask s l)
 boundsR (suc n) s l = []
 
 abbrev pub nextR : ℕ → State → Later → List ℕ → State
-nextR zero s l d = act s (ask l) d
+nextR zero s l d = act s (ask s l) d
 nextR (suc n) s l d = s
 
 abbrev pub seenR : ℕ → State → Later → Seen
-seenR zero s l = (0, bounds s (ask l), sentCommand s (ask l))
-seenR (suc n) s l = (suc n, lacking (suc n) (bounds s (ask l)), nothingSent)
+seenR zero s l = (0, bounds s (ask s l), sentCommand s (ask s l))
+seenR (suc n) s l = (suc n, lacking (suc n) (bounds s (ask s l)), nothingSent)
 
--- before the open; after a refused one, closed; after an accepted one
+-- before the open; after a refused one, closed; after an accepted one; after a refused load, closed, with the state that was before
 pub data Real : Type 0 where
   unopened shut : Real
   on : State → Real
+  off : State → Real
+
+-- the state after a call with this number
+abbrev pub onR : ℕ → State → Later → List ℕ → Real
+onR zero s l d = on (nextR zero s l d)
+onR (suc n) s l d = if closes l then off s else on s
 
 module _ (h : Shape) where
   abbrev pub openR : ℕ → List ℕ → Real
@@ -55,6 +62,7 @@ module _ (h : Shape) where
   real-legal unopened (first m w) d = Drew (boundsOpen h (number closed (openCall h m w))) d
   real-legal unopened (later l m w n) d = None d
   real-legal shut c d = None d
+  real-legal (off s) c d = None d
   real-legal (on s) (first m w) d = None d
   real-legal (on s) (later l m w n) d = Drew (boundsR (numberR s l m w n) s l) d
 
@@ -62,13 +70,15 @@ module _ (h : Shape) where
   real-next unopened (first m w) d = openR (number closed (openCall h m w)) d
   real-next unopened (later l m w n) d = unopened
   real-next shut c d = shut
+  real-next (off s) c d = off s
   real-next (on s) (first m w) d = on s
-  real-next (on s) (later l m w n) d = on (nextR (numberR s l m w n) s l d)
+  real-next (on s) (later l m w n) d = onR (numberR s l m w n) s l d
 
   abbrev pub real-seen : Real → Entry → List ℕ → Seen
   real-seen unopened (first m w) d = seenOpen h (number closed (openCall h m w))
   real-seen unopened (later l m w n) d = (2, [], nothingSent)
-  real-seen shut c d = (2, [], nothingSent)
+  real-seen shut c d = seenShut c
+  real-seen (off s) c d = seenShut c
   real-seen (on s) (first m w) d = (2, [], nothingSent)
   real-seen (on s) (later l m w n) d = seenR (numberR s l m w n) s l
 
@@ -101,3 +111,4 @@ abbrev pub view : Real → Mid × Orders
 view unopened = (Middle.unopened, λ k. [])
 view shut = (Middle.shut, λ k. [])
 view (on s) = (Middle.on (forget s) (itemsOf s), ordersOf s)
+view (off s) = (Middle.off (forget s) (itemsOf s), ordersOf s)

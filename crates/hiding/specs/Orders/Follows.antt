@@ -1,11 +1,18 @@
 -- The rules' state after a call, as the middle machine has it: the state without its slots, what its unread items hold, and their slots.
-use mathlib.Core.Path.{_≡_, refl, ap, _∙_, fun-ext, subst}
+use mathlib.Core.Path.{_≡_, refl, ap, _∙_, fun-ext, subst, sym}
 use mathlib.Core.Bool.{Bool, true, false}
-use mathlib.Core.List.{List, [], _∷_}
+use mathlib.Core.List.{List, [], _∷_, map}
 use mathlib.Core.Option.{Option, none, some}
 use Prim.Native.Nat.{ℕ, zero, suc, _+_}
-use lib.Dec.{eqb}
+use lib.Dec.{eqb, leb}
 use lib.Pow.{pow-pos}
+use native.Mathlib.Omega.{arith}
+use native.Mathlib.Decide.{ℕ-discrete}
+use borrow.Author.Tests.{ne-eqb}
+use Rattle.matching.specs.Keyed.{Key}
+use Rattle.rules.specs.Laws.Form.Saveable.{over}
+use Rattle.rules.specs.Form.Loading.{loadedForm}
+use Rattle.rules.specs.Memory.{needed}
 use Rattle.lists.specs.Tables.{put}
 use Rattle.lists.specs.Members.{keep-same}
 use Rattle.lists.specs.Tests.{if_then_else_}
@@ -13,12 +20,12 @@ use Rattle.lists.specs.Search.{below, indexOf}
 use Rattle.lists.specs.Distinct.{index-mem}
 use Rattle.rules.specs.Laws.Answers.{accepted-passed}
 use Rattle.rules.specs.Request.{accept, release, isSource}
-use Rattle.rules.specs.Questions.{bounds, questions, inHand}
+use Rattle.rules.specs.Questions.{bounds, questions, inHand, firstNo}
 use Rattle.rules.specs.Completion
 use Rattle.rules.specs.Completion.{complete}
 use Rattle.rules.specs.Laws.Levels.{sources-le}
 use Rattle.rules.specs.Levels
-use Rattle.rules.specs.Shape.{Shape, slots}
+use Rattle.rules.specs.Shape.{Shape, slots, cell}
 use Rattle.rules.specs.Draws.{newOrder, Drew}
 use Rattle.rules.specs.Collect
 use Rattle.rules.specs.Collect.{collected, finished}
@@ -37,11 +44,11 @@ use Rattle.hiding.specs.Machines.Ideal.{slotted, lacking, nothingSent, s
 use Rattle.hiding.specs.Machines.Middle
 use Rattle.hiding.specs.Machines.Middle.{levelOnly, forget, chosenM, gatheredM, Items, nextStepM, performM, nextM, itemsStep, itemsM, collectedM}
 use Rattle.hiding.specs.Orders.Trades.{HiddenOn, OpenP, rebuild-step, decideP-open, tradeStep, tradeIf}
-use Rattle.hiding.specs.Orders.Number.{slotless, step-hide, bounds-hide}
+use Rattle.hiding.specs.Orders.Number.{slotless, step-hide, bounds-hide, number-reload, save-rests, saved-yes}
 use Rattle.hiding.specs.Orders.Rank.{rank-is, in-order}
 use Rattle.hiding.specs.Machines.Rules.{on, numberR, called, boundsR, nextR, seenR, Orders, itemsIn, slotsIn, itemsOf, ordersOf, view}
 use Rattle.hiding.specs.Orders.Items.{orders-read, items-read, orders-written, items-written, items-left}
-use Rattle.hiding.specs.Machines.Public.{Later, later-request, later-turn, later-completion, later-collect, ask, hide, unreadIn, decideP}
+use Rattle.hiding.specs.Machines.Public.{Later, later-request, later-turn, later-completion, later-collect, ask, hide, unreadIn, decideP, later-save, later-reload, saved, saveP, numberP, questionsP}
 use Rattle.hiding.specs.Unchanged.{Rest, complete-rest}
 use Rattle.hiding.specs.Machines.Release.{forget-release}
 use Rattle.hiding.specs.Machines.Needs.{Reachable}
@@ -209,6 +216,24 @@ module _ (h : Shape) (reach : Reachable h) (s : State) (k : reach .Holds s) (hid
     orders = refl;
   }
 
+  -- a load of what was saved
+  accepted-load : (m₀ n₀ m w j : ℕ) → numberR s (later-reload m₀ n₀) m w j ≡ 0 → saveP (hide s) m₀ n₀ ≡ 0
+  unfolding numberP questionsP firstNo
+  accepted-load m₀ n₀ m w j e = go (ℕ-discrete (saveP (hide s) m₀ n₀) 0) (sym (number-reload h reach s k m₀ n₀ m w j) ∙ e)
+    where
+      go : Dec (saveP (hide s) m₀ n₀ ≡ 0) → firstNo ((eqb (saveP (hide s) m₀ n₀) 0, 17) ∷ (leb (needed (s .shape)) m, 2) ∷ []) ≡ 0 → saveP (hide s) m₀ n₀ ≡ 0
+      go (yes z) e = z
+      go (no z) e = absurd (omega (arith, rw (ne-eqb (saveP (hide s) m₀ n₀) 0 z) at e))
+
+  over-follows : (y : ℕ → List ℕ) (o : ℕ → ℕ) → slotsIn (s .shape) (s .mark) o ≡ slotsIn (s .shape) (s .mark) (s .order) → Follows (over y o s) (forget s) (itemsOf s) (ordersOf s)
+  unfolding itemsIn
+  over-follows y o e = record { state = refl; items = ap (λ (f : Key → List ℕ). λ (x : Key). map (λ i. s .holds (cell (s .shape) (x .0) (x .1) i)) (f x)) e; orders = e }
+
+  reload-follows : (m₀ n₀ : ℕ) → saveP (hide s) m₀ n₀ ≡ 0 → Follows (loadedForm (saved s m₀ n₀)) (forget s) (itemsOf s) (ordersOf s)
+  reload-follows m₀ n₀ e =
+      let r = reach .reloads s k (save-rests h reach s k m₀ n₀ e) in
+      rw (saved-yes h reach s k m₀ n₀ e, r .2 .0) (over-follows (r .0) (r .1) (r .2 .1))
+
   -- what a call has to show
   abbrev pub CallFollows : ℕ → Later → Type 0
   CallFollows n l =
@@ -230,7 +255,7 @@ module _ (h : Shape) (reach : Reachable h) (s : State) (k : reach .Holds s) (hid
   PerformFollows l =
       let y = tradeIf 0 (forget s) (itemsOf s) l .f (ordersOf s, d) in
       (seenR 0 s l ≡ seenIf 0 (hide s) l (y .0))
-      × Follows (perform s (ask l) d) (performM (forget s) l (y .0)) (itemsM 0 (forget s) (itemsOf s) l (y .0)) (y .1)
+      × Follows (perform s (ask s l) d) (performM (forget s) l (y .0)) (itemsM 0 (forget s) (itemsOf s) l (y .0)) (y .1)
 
   perform-follows : (l : Later) (m w j : ℕ) → numberR s l m w j ≡ 0 → Drew (boundsR 0 s l) d → PerformFollows l
   unfolding perform bounds sentCommand accept questions
@@ -239,7 +264,9 @@ module _ (h : Shape) (reach : Reachable h) (s : State) (k : reach .Holds s) (hid
       let r = turn-follows b in
       (λ i. (0, bounds-hide h reach s k later-turn i, r .0 i), r .1)
   perform-follows (later-completion c bs) m w j e b = (refl, complete-follows c bs)
-  perform-follows later-collect m w j e b = (refl, collect-follows (s .request) refl (accepted-passed s (called later-collect m w j) e .1 .1 .0))
+  perform-follows later-collect m w j e b = (refl, collect-follows (s .request) refl (accepted-passed s (called s later-collect m w j) e .1 .1 .0))
+  perform-follows later-save m w j e b = (refl, record { state = refl; items = refl; orders = refl })
+  perform-follows (later-reload m₀ n₀) m w j e b = (refl, reload-follows m₀ n₀ (accepted-load m₀ n₀ m w j e))
 
   pub call-follows : (n : ℕ) (l : Later) (m w j : ℕ) → numberR s l m w j ≡ n → Drew (boundsR n s l) d → CallFollows n l
   unfolding act

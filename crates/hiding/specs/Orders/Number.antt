@@ -4,9 +4,15 @@ use mathlib.Core.Bool.{Bool, true, false, _&&_, _||_, true≢false}
 use mathlib.Core.List.{List, [], _∷_}
 use mathlib.Core.Option.{Option, none, some, Option·getD}
 use Prim.Native.Nat.{ℕ}
-use lib.ListN.{length, length-replicate}
+use lib.ListN.{length, length-replicate, replicate}
 use lib.Dec.{eqb, leb, ltb}
-use borrow.Author.Tests.{leb-true, ltb-true, lt-ltb}
+use borrow.Author.Tests.{leb-true, ltb-true, lt-ltb, le-leb, eq-eqb, ne-eqb}
+use native.Mathlib.Omega.{arith}
+use native.Mathlib.Decide.{ℕ-discrete}
+use Rattle.rules.specs.Form.Loading.{loads, loadedForm}
+use Rattle.rules.specs.Form.Sums.{summed}
+use Rattle.rules.specs.Form.Longest.{longest}
+use Rattle.rules.specs.Form.Payload.{savedForm}
 use Rattle.lists.specs.Members.{mem-member}
 use Rattle.lists.specs.All.{nil, cons}
 use Rattle.lists.specs.Search.{isNone, any, member}
@@ -24,14 +30,14 @@ use Rattle.rules.specs.State.{State, Request, read}
 use Rattle.rules.specs.Collect.{finished}
 use Rattle.rules.specs.Turn
 use Rattle.rules.specs.Turn.{Step, idle, noDummy, readForRequest, readForJob, rebuild, writeNext, firstRead, readStep, requestStep, jobStep, decide, command, stepBounds}
-use Rattle.rules.specs.Questions.{possible, inHand, sends, bounds, ready, questions, firstNo, number}
+use Rattle.rules.specs.Questions.{possible, inHand, sends, bounds, ready, questions, firstNo, number, atRest, save, load}
 use Rattle.rules.specs.Ranges.{isKind, bytesOf, inRange}
 use Rattle.rules.specs.Laws.Bounds.{Few, enough-zeros, partitions-few, turn-few}
 use Rattle.hiding.specs.Machines.Rules.{numberR}
 use Rattle.hiding.specs.Orders.Decides.{OpenStep, decide-open}
 use Rattle.hiding.specs.Machines.Needs.{Reachable}
 use Rattle.hiding.specs.Machines.Release.{held-public}
-use Rattle.hiding.specs.Machines.Public.{Later, later-request, later-turn, later-completion, later-collect, ask, formed, publicAsk, publicLater, publicRequest, blank, hide, requestStepP, plannedP, checked, isNil, decideP, boundsP, questionsP, numberP}
+use Rattle.hiding.specs.Machines.Public.{Later, later-request, later-turn, later-completion, later-collect, ask, formed, publicAsk, publicLater, publicRequest, blank, hide, requestStepP, plannedP, checked, isNil, decideP, boundsP, questionsP, numberP, later-save, later-reload, saving, saved, saveP}
 
 -- ---- the step
 
@@ -177,6 +183,22 @@ formed-facts h k b n e =
     let r = and-r (isKind k) (ltb b (h .N) && eqb n (bytesOf h k)) e in
     (and-l (isKind k) (ltb b (h .N) && eqb n (bytesOf h k)) e, and-l (ltb b (h .N)) (eqb n (bytesOf h k)) r, and-r (ltb b (h .N)) (eqb n (bytesOf h k)) r)
 
+-- where the buffer is long enough, the form fits
+pub no-last-two : (a b c : Bool) → (a ≡ true → c ≡ true) → firstNo ((a, 2) ∷ (b, 16) ∷ (c, 2) ∷ []) ≡ firstNo ((a, 2) ∷ (b, 16) ∷ [])
+unfolding firstNo
+no-last-two true b c f = rw (f refl)
+no-last-two false b c f = refl
+
+sixteen : (a b : Bool) → firstNo ((a, 2) ∷ (b, 16) ∷ []) ≡ 0 → b ≡ true
+unfolding firstNo
+sixteen true true e = refl
+sixteen true false e = absurd (omega arith)
+sixteen false b e = absurd (omega arith)
+
+nothing-summed : summed [] ≡ false
+unfolding summed
+nothing-summed = refl
+
 bytes-read : (h : Shape) → eqb 0 (bytesOf h read) ≡ true
 unfolding bytesOf
 bytes-read h = refl
@@ -195,12 +217,14 @@ module _ (h : Shape) (reach : Reachable h) (s : State) (k : reach .Holds s) wher
       fits : (x : Step) → OpenStep (s .shape) (s .mark) x → checked (hide s) (slotless x) ≡ slotless x
       fits x o = checked-open s x o
 
-  pub bounds-hide : (l : Later) → bounds s (ask l) ≡ boundsP (hide s) l
+  pub bounds-hide : (l : Later) → bounds s (ask s l) ≡ boundsP (hide s) l
   unfolding bounds
   bounds-hide (later-request j b bs) = refl
   bounds-hide later-turn = sym (slotless-bounds (decide s)) ∙ ap stepBounds step-hide
   bounds-hide (later-completion c bs) = refl
   bounds-hide later-collect = refl
+  bounds-hide later-save = refl
+  bounds-hide (later-reload m n) = refl
 
   number-request : (j b : ℕ) (bs : List ℕ) (m w n : ℕ) → numberR s (later-request j b bs) m w n ≡ numberP (hide s) (publicLater h (later-request j b bs)) m w n
   unfolding number questions bounds numberP questionsP
@@ -236,6 +260,52 @@ module _ (h : Shape) (reach : Reachable h) (s : State) (k : reach .Holds s) wher
   inHand-true none = refl
   inHand-true (some r) = refl
 
+  -- a save
+  rest-hide : atRest (hide s) ≡ atRest s
+  unfolding atRest
+  rest-hide = rw (none-blank (s .request))
+
+  pub number-save : (m : ℕ) (ws : List ℕ) (n : ℕ) → number s (record { ask = save; memory = m; words = ws; buffer = n }) ≡ saveP (hide s) m n
+  unfolding number questions saveP
+  number-save m ws n = rw (ready-in s m (reach .range s k), rest-hide) (no-last-two _ _ _ room)
+    where
+      room : (leb (needed (s .shape)) m && leb (longest (s .shape)) n) ≡ true → leb (length (savedForm s)) n ≡ true
+      room e = le-leb (length (savedForm s)) n (omega (arith, reach .fits s k, leb-true (longest (s .shape)) n (and-r (leb (needed (s .shape)) m) (leb (longest (s .shape)) n) e)))
+
+  -- a save that is accepted is of a state at rest
+  pub save-rests : (m n : ℕ) → saveP (hide s) m n ≡ 0 → atRest s ≡ true
+  unfolding saveP
+  save-rests m n e = sym rest-hide ∙ sixteen _ _ e
+
+  -- ..and what it writes
+  pub saved-yes : (m n : ℕ) → saveP (hide s) m n ≡ 0 → saved s m n ≡ savedForm s
+  unfolding saved
+  saved-yes m n e = rw (eq-eqb (number s (saving m n)) 0 (number-save m [] n ∙ e))
+
+  pub saved-no : (m n : ℕ) → ¬ (saveP (hide s) m n ≡ 0) → saved s m n ≡ []
+  unfolding saved
+  saved-no m n e = rw (ne-eqb (number s (saving m n)) 0 (λ z. e (sym (number-save m [] n) ∙ z)))
+
+  -- the load of it
+  reload-shape : atRest s ≡ true → loadedForm (savedForm s) .shape ≡ s .shape
+  reload-shape e = let r = reach .reloads s k e in ap (λ (x : State). x .shape) (r .2 .0)
+
+  number-load : (form : List ℕ) (m w n : ℕ) → number s (record { ask = load form; memory = m; words = replicate w 0; buffer = n }) ≡ firstNo ((summed form, 17) ∷ (loads form, 18) ∷ (leb (needed (loadedForm form .shape)) m, 2) ∷ [])
+  unfolding number questions
+  number-load form m w n = refl
+
+  pub number-reload : (m₀ n₀ m w n : ℕ) → numberR s (later-reload m₀ n₀) m w n ≡ numberP (hide s) (later-reload m₀ n₀) m w n
+  unfolding numberP questionsP firstNo
+  number-reload m₀ n₀ m w n = number-load (saved s m₀ n₀) m w n ∙ go (ℕ-discrete (saveP (hide s) m₀ n₀) 0)
+    where
+      go : Dec (saveP (hide s) m₀ n₀ ≡ 0) → firstNo ((summed (saved s m₀ n₀), 17) ∷ (loads (saved s m₀ n₀), 18) ∷ (leb (needed (loadedForm (saved s m₀ n₀) .shape)) m, 2) ∷ [])
+          ≡ firstNo ((eqb (saveP (hide s) m₀ n₀) 0, 17) ∷ (leb (needed (s .shape)) m, 2) ∷ [])
+      go (yes e) =
+          let r = save-rests m₀ n₀ e in
+          let l = reach .loadable s k r in
+          rw (saved-yes m₀ n₀ e, eq-eqb (saveP (hide s) m₀ n₀) 0 e, l .0, l .1, reload-shape r)
+      go (no e) = rw (saved-no m₀ n₀ e, ne-eqb (saveP (hide s) m₀ n₀) 0 e, nothing-summed)
+
   -- The number is that of the public parts
   pub number-hide : (l : Later) (m w n : ℕ) → numberR s l m w n ≡ numberP (hide s) (publicLater h l) m w n
   unfolding number questions numberP questionsP
@@ -243,3 +313,5 @@ module _ (h : Shape) (reach : Reachable h) (s : State) (k : reach .Holds s) wher
   number-hide later-turn m w n = number-turn m w n
   number-hide (later-completion c bs) m w n = rw (ready-in s m (reach .range s k)) (simp length-replicate)
   number-hide later-collect m w n = rw (ready-in s m (reach .range s k), inHand-hide (s .request) refl, inHand-true (s .request))
+  number-hide later-save m w n = number-save m (replicate w 0) n ∙ (unfold saveP in refl)
+  number-hide (later-reload m₀ n₀) m w n = number-reload m₀ n₀ m w n

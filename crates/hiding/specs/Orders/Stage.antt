@@ -22,13 +22,13 @@ use Rattle.matching.specs.Reads.{Arranges}
 use Rattle.matching.specs.Machine.{Machine}
 use Rattle.matching.specs.Keyed.{Key}
 use Rattle.matching.specs.TwoLists.{Stage, Any}
-use Rattle.matching.specs.Trades.{None, Trades, stays, telling}
-use Rattle.hiding.specs.Machines.Ideal.{seenIf, Seen}
+use Rattle.matching.specs.Trades.{None, Trades, stays, telling, none-drew}
+use Rattle.hiding.specs.Machines.Ideal.{seenIf, Seen, legalIf, closes, lacking, nothingSent}
 use Rattle.hiding.specs.Machines.Middle
-use Rattle.hiding.specs.Machines.Middle.{forget, Mid, nextM, itemsM, boundsOpen, mid, mid-legal, mid-next, mid-seen}
+use Rattle.hiding.specs.Machines.Middle.{forget, Mid, Items, onM, boundsOpen, mid, mid-legal, mid-next, mid-seen}
 use Rattle.hiding.specs.Orders.Trades.{HiddenOn, boundsIf, tradeIf}
 use Rattle.hiding.specs.Orders.Number.{bounds-hide, number-hide}
-use Rattle.hiding.specs.Machines.Rules.{Real, unopened, shut, on, real, real-legal, real-next, real-seen, numberR, boundsR, nextR, seenR, openCall, Orders, itemsIn, itemsOf, ordersOf, view, openR}
+use Rattle.hiding.specs.Machines.Rules.{Real, unopened, shut, on, real, real-legal, real-next, real-seen, numberR, boundsR, seenR, openCall, Orders, itemsIn, itemsOf, ordersOf, view, openR, off, onR}
 use Rattle.hiding.specs.Machines.Public.{Later, Entry, first, later, publicLater, hide, openIn, numberP, numberOpen}
 use Rattle.hiding.specs.Orders.Follows.{call-follows, follows-view}
 use Rattle.hiding.specs.Machines.Needs.{Reachable}
@@ -77,11 +77,13 @@ module _ (h : Shape) (reach : Reachable h) where
   Hidden₁ Middle.unopened o = Empty o
   Hidden₁ Middle.shut o = Empty o
   Hidden₁ (Middle.on s it) o = HiddenOn s o
+  Hidden₁ (Middle.off s it) o = HiddenOn s o
 
   abbrev pub Drawn₁ : Mid → Entry → List ℕ → Type 0
   Drawn₁ Middle.unopened (first m w) d = Drew (boundsOpen h (numberOpen h m w)) d
   Drawn₁ Middle.unopened (later l m w n) d = None d
   Drawn₁ Middle.shut c d = None d
+  Drawn₁ (Middle.off s it) c d = None d
   Drawn₁ (Middle.on s it) (first m w) d = None d
   Drawn₁ (Middle.on s it) (later l m w n) d = Drew (boundsIf (numberP (hide s) (publicLater h l) m w n) (hide s) l) d
 
@@ -92,12 +94,23 @@ module _ (h : Shape) (reach : Reachable h) where
   start₁ zero = stays (λ d. Iff·rfl) (λ d o p. fresh-hidden h d o)
   start₁ (suc n) = stays (λ d. Iff·rfl) (λ d o p. Iff·rfl)
 
+  -- a refused load hides what was hidden
+  pub closed-hidden : (t : Bool) (s : State) (it : Items) (o : Orders) → HiddenOn s o ↔ Hidden₁ (if t then Middle.off s it else Middle.on s it) o
+  closed-hidden true s it o = Iff·rfl
+  closed-hidden false s it o = Iff·rfl
+
+  abbrev pub baseIf : (n : ℕ) (s : State) (it : Items) (l : Later) →
+      Trades {D = List ℕ} {E = List ℕ} {H = Orders} (HiddenOn s) (Drew (boundsIf n (hide s) l)) (legalIf n (hide s) l) (λ e. Hidden₁ (onM n s it l e))
+  baseIf zero s it l = tradeIf zero s it l
+  baseIf (suc n) s it l = stays none-drew (λ e o p. closed-hidden (closes l) s it o)
+
   abbrev pub base₁ : (m : Mid) (c : Entry) → Base₁ m c
   base₁ Middle.unopened (first m w) = start₁ (numberOpen h m w)
   base₁ Middle.unopened (later l m w n) = stays (λ d. Iff·rfl) (λ d o p. Iff·rfl)
   base₁ Middle.shut c = stays (λ d. Iff·rfl) (λ d o p. Iff·rfl)
+  base₁ (Middle.off s it) c = stays (λ d. Iff·rfl) (λ d o p. Iff·rfl)
   base₁ (Middle.on s it) (first m w) = stays (λ d. Iff·rfl) (λ d o p. Iff·rfl)
-  base₁ (Middle.on s it) (later l m w n) = tradeIf (numberP (hide s) (publicLater h l) m w n) s it l
+  base₁ (Middle.on s it) (later l m w n) = baseIf (numberP (hide s) (publicLater h l) m w n) s it l
 
   abbrev pub shown₁ : Mid → Orders → Entry → List ℕ → Seen
   shown₁ m o c d = mid-seen h m c (base₁ m c .f (o, d) .0)
@@ -109,6 +122,7 @@ module _ (h : Shape) (reach : Reachable h) where
   Reach unopened = Unit
   Reach shut = Unit
   Reach (on s) = reach .Holds s
+  Reach (off s) = Unit
 
   abbrev pub Rel₁ : Real → Mid × Orders → Type 0
   Rel₁ r q = (q ≡ view r) × Reach r
@@ -117,6 +131,7 @@ module _ (h : Shape) (reach : Reachable h) where
   legal₁ unopened (first m w) d k = rw (open-number h m w) Iff·rfl
   legal₁ unopened (later l m w n) d k = Iff·rfl
   legal₁ shut c d k = Iff·rfl
+  legal₁ (off s) c d k = Iff·rfl
   legal₁ (on s) (first m w) d k = Iff·rfl
   legal₁ (on s) (later l m w n) d k = rw (number-hide h reach s k l m w n) (go (numberP (hide s) (publicLater h l) m w n))
     where
@@ -128,16 +143,17 @@ module _ (h : Shape) (reach : Reachable h) where
   full₁ = full (mid h) Any Hidden₁ Drawn₁ shown₁ (λ m c e i p. tt) trade₁
 
   step-on : (s : State) (l : Later) (m w n : ℕ) (d : List ℕ) (k : reach .Holds s) → HiddenOn (forget s) (ordersOf s) → (j : ℕ) → numberR s l m w n ≡ j → Drew (boundsR j s l) d →
-      let y = tradeIf j (forget s) (itemsOf s) l .f (ordersOf s, d) in
+      let y = baseIf j (forget s) (itemsOf s) l .f (ordersOf s, d) in
       (seenR j s l ≡ seenIf j (hide s) l (y .0))
-      × (((Middle.on (nextM j (forget s) l (y .0)) (itemsM j (forget s) (itemsOf s) l (y .0)), y .1) ≡ view (on (nextR j s l d))) × reach .Holds (nextR j s l d))
-  step-on s l m w n d k hid j e b =
-      let f = call-follows h reach s k hid d j l m w n e b in
-      (f .0, (sym (follows-view _ _ _ _ (f .1)), go j e b))
+      × (((onM j (forget s) (itemsOf s) l (y .0), y .1) ≡ view (onR j s l d)) × Reach (onR j s l d))
+  step-on s l m w n d k hid zero e b =
+      let f = call-follows h reach s k hid d zero l m w n e b in
+      (f .0, (sym (follows-view _ _ _ _ (f .1)), reach .kept s l m w n d k e b))
+  step-on s l m w n d k hid (suc j) e b = (λ i. (suc j, lacking (suc j) (bounds-hide h reach s k l i), nothingSent), go (closes l))
     where
-      go : (j : ℕ) → numberR s l m w n ≡ j → Drew (boundsR j s l) d → reach .Holds (nextR j s l d)
-      go zero e b = reach .kept s l m w n d k e b
-      go (suc j) e b = k
+      go : (t : Bool) → (((if t then Middle.off (forget s) (itemsOf s) else Middle.on (forget s) (itemsOf s)), ordersOf s) ≡ view (if t then off s else on s)) × Reach (if t then off s else on s)
+      go true = (refl, tt)
+      go false = (refl, k)
 
   step-open : (d : List ℕ) (j : ℕ) → (j ≡ 0 → within h ≡ true) → Drew (boundsOpen h j) d →
       let y = start₁ j .f (λ (k : Key). [], d) in
@@ -159,6 +175,7 @@ module _ (h : Shape) (reach : Reachable h) where
       rw e (refl, step-open d (numberOpen h m w) (λ z. opened m w (e ∙ z)) (rw e at p))
   step₁ unopened (later l m w n) d k hid p = (refl, (refl, tt))
   step₁ shut c d k hid p = (refl, (refl, tt))
+  step₁ (off s) c d k hid p = (refl, (refl, tt))
   step₁ (on s) (first m w) d k hid p = (refl, (refl, k))
   step₁ (on s) (later l m w n) d k hid p =
       let e = number-hide h reach s k l m w n in

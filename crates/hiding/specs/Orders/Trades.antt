@@ -4,7 +4,7 @@ use mathlib.Core.Bool.{Bool, true, false, _&&_}
 use mathlib.Core.Logic.{_↔_, Iff·rfl}
 use mathlib.Core.List.{List, [], _∷_}
 use mathlib.Core.Option.{Option, none, some}
-use Prim.Native.Nat.{ℕ, zero, suc, _+_, _-_, _<_}
+use Prim.Native.Nat.{ℕ, zero, suc, _+_, _<_}
 use native.Mathlib.Omega.{arith}
 use lib.ListN.{length, getD, replicate}
 use lib.Dec.{ltb}
@@ -30,7 +30,7 @@ use Rattle.matching.specs.Keyed.{Key, update-same, update-other, tradeAt}
 use Rattle.matching.specs.Order.{renew}
 use Rattle.hiding.specs.Machines.Ideal.{legalStep, legalIf, rebuildP}
 use Rattle.hiding.specs.Unchanged.{Rest, restOf, complete-rest}
-use Rattle.hiding.specs.Machines.Public.{Later, later-request, later-turn, later-completion, later-collect, hide, unreadIn, plannedP, checked, isNil, decideP, boundsP}
+use Rattle.hiding.specs.Machines.Public.{Later, later-request, later-turn, later-completion, later-collect, later-save, later-reload, hide, unreadIn, plannedP, checked, isNil, decideP, boundsP}
 use Rattle.hiding.specs.Orders.Unread.{unread-read, unread-written, nodup-unread}
 use Rattle.hiding.specs.Machines.Middle.{Items, wanted, clamp, nextStepM, nextM, collectedM, gatheredM, chosenM}
 use Rattle.hiding.specs.Machines.Rules.{Orders}
@@ -228,3 +228,5 @@ tradeIf zero s it (later-request k b bs) = stays (λ d. Iff·rfl) (λ e o p. acc
 tradeIf zero s it later-turn = tradeStep s it (decideP (hide s)) (decideP-open (hide s))
 tradeIf zero s it (later-completion c bs) = stays none-drew (λ e o p. complete-state s c bs o)
 tradeIf zero s it later-collect = stays none-drew (λ e o p. collect-state s (s .request) o)
+tradeIf zero s it later-save = stays none-drew (λ e o p. Iff·rfl)
+tradeIf zero s it (later-reload m n) = stays none-drew (λ e o p. Iff·rfl)

@@ -30,12 +30,12 @@ use Rattle.matching.specs.Positions.{Positions, Zero, settled, show}
 use Rattle.matching.specs.Machine.{Machine, along}
 use Rattle.matching.specs.TwoLists.{Stage}
 use Rattle.hiding.specs.Orders.Number.{formed-facts}
-use Rattle.hiding.specs.Machines.Middle.{Mid, unopened, shut, on, nextStepM, collectedM, nextM, boundsOpen, openM, mid, mid-legal, mid-next, mid-seen}
+use Rattle.hiding.specs.Machines.Middle.{off, onM, Mid, unopened, shut, on, nextStepM, collectedM, nextM, boundsOpen, openM, mid, mid-legal, mid-next, mid-seen}
 use Rattle.hiding.specs.Positions.Trades.{PlacedIn, askP, tradeP, next-shape, fresh-placed}
 use Rattle.hiding.specs.Machines.Release.{hide-release, hide-completed}
 use Rattle.hiding.specs.Machines.Ideal
-use Rattle.hiding.specs.Machines.Ideal.{lacking, nothingSent, seenIf, Seen, legalIf, rebuildP, nextStepI, collectedI, performI, nextI, Ideal, openI, ideal, ideal-legal, ideal-next, ideal-seen}
-use Rattle.hiding.specs.Machines.Public.{Later, later-request, later-turn, later-completion, later-collect, Entry, first, later, formed, publicAsk, publicLater, publicEntry, present, blank, hide, decideP, boundsP, questionsP, numberP, numberOpen}
+use Rattle.hiding.specs.Machines.Ideal.{lacking, nothingSent, seenIf, Seen, legalIf, rebuildP, nextStepI, collectedI, performI, nextI, Ideal, openI, ideal, ideal-legal, ideal-next, ideal-seen, onI, closes, seenShut}
+use Rattle.hiding.specs.Machines.Public.{Later, later-request, later-turn, later-completion, later-collect, Entry, first, later, formed, publicAsk, publicLater, publicEntry, present, blank, hide, decideP, boundsP, questionsP, numberP, numberOpen, later-save, later-reload}
 
 -- ---- the public part of the next state is the ideal machine's next state
 
@@ -159,6 +159,8 @@ bounds-public h i (later-request k b bs) = go (formed h k b (length bs))
 bounds-public h i later-turn = refl
 bounds-public h i (later-completion c bs) = refl
 bounds-public h i later-collect = refl
+bounds-public h i later-save = refl
+bounds-public h i (later-reload m n) = refl
 
 module _ (h : Shape) where
   abbrev pub outside : Machine Entry (List ℕ) Seen
@@ -168,16 +170,19 @@ module _ (h : Shape) where
   Inv₂ Ideal.unopened = Unit
   Inv₂ Ideal.shut = Unit
   Inv₂ (Ideal.on i) = i .shape ≡ h
+  Inv₂ (Ideal.off i) = Unit
 
   abbrev pub Hidden₂ : Ideal → Positions → Type 0
   Hidden₂ Ideal.unopened pos = Zero pos
   Hidden₂ Ideal.shut pos = Zero pos
   Hidden₂ (Ideal.on i) pos = PlacedIn (i .shape) pos
+  Hidden₂ (Ideal.off i) pos = PlacedIn (i .shape) pos
 
   abbrev pub Drawn₂ : Ideal → Entry → List ℕ → Type 0
   Drawn₂ Ideal.unopened (first m w) e = Drew (boundsOpen h (numberOpen h m w)) e
   Drawn₂ Ideal.unopened (later l m w n) e = None e
   Drawn₂ Ideal.shut c e = None e
+  Drawn₂ (Ideal.off i) c e = None e
   Drawn₂ (Ideal.on i) (first m w) e = None e
   Drawn₂ (Ideal.on i) (later l m w n) e = legalIf (numberP i (publicLater h l) m w n) i l e
 
@@ -185,13 +190,24 @@ module _ (h : Shape) where
   start₂ zero = renamed Zero None (λ d. Iff·rfl) (fresh-placed h) (settled (h .N) (h .P))
   start₂ (suc n) = stays none-drew (λ d o p. Iff·rfl)
 
+  -- a refused load hides what was hidden
+  pub closed-placed : (t : Bool) (i : State) (pos : Positions) → PlacedIn (i .shape) pos ↔ Hidden₂ (if t then Ideal.off i else Ideal.on i) pos
+  closed-placed true i pos = Iff·rfl
+  closed-placed false i pos = Iff·rfl
+
+  abbrev pub baseP : (n : ℕ) (i : State) (l : Later) →
+      Trades {D = List ℕ} {E = List ℕ} {H = Positions} (PlacedIn (i .shape)) (legalIf n i l) (legalIf n i (publicLater h l)) (λ e. Hidden₂ (onI n i (publicLater h l) e))
+  baseP zero i l = tradeP h i zero l
+  baseP (suc n) i l = stays (λ d. Iff·rfl) (λ e pos p. closed-placed (closes (publicLater h l)) i pos)
+
   abbrev pub base₂ : (i : Ideal) (c : Entry) →
       Trades {D = List ℕ} {E = List ℕ} {H = Positions} (Hidden₂ i) (Drawn₂ i c) (ideal-legal h i (publicEntry h c)) (λ e. Hidden₂ (ideal-next h i (publicEntry h c) e))
   base₂ Ideal.unopened (first m w) = start₂ (numberOpen h m w)
   base₂ Ideal.unopened (later l m w n) = stays (λ d. Iff·rfl) (λ d o p. Iff·rfl)
   base₂ Ideal.shut c = stays (λ d. Iff·rfl) (λ d o p. Iff·rfl)
+  base₂ (Ideal.off i) c = stays (λ d. Iff·rfl) (λ d o p. Iff·rfl)
   base₂ (Ideal.on i) (first m w) = stays (λ d. Iff·rfl) (λ d o p. Iff·rfl)
-  base₂ (Ideal.on i) (later l m w n) = tradeP h i (numberP i (publicLater h l) m w n) l
+  base₂ (Ideal.on i) (later l m w n) = baseP (numberP i (publicLater h l) m w n) i l
 
   abbrev pub shown₂ : Ideal → Positions → Entry → List ℕ → Seen
   shown₂ i pos c e = ideal-seen h i (publicEntry h c) (base₂ i c .f (pos, e) .0)
@@ -210,18 +226,29 @@ module _ (h : Shape) where
   keep₂ Ideal.unopened (first m w) e k p = open-inv (numberOpen h m w)
   keep₂ Ideal.unopened (later l m w n) e k p = tt
   keep₂ Ideal.shut c e k p = tt
+  keep₂ (Ideal.off i) c e k p = tt
   keep₂ (Ideal.on i) (first m w) e k p = k
-  keep₂ (Ideal.on i) (later l m w n) e k p = next-shape h i (numberP i (publicLater h l) m w n) (publicLater h l) e ∙ k
+  keep₂ (Ideal.on i) (later l m w n) e k p = go (numberP i (publicLater h l) m w n)
+    where
+      shut-inv : (t : Bool) → Inv₂ (if t then Ideal.off i else Ideal.on i)
+      shut-inv true = tt
+      shut-inv false = k
+
+      go : (j : ℕ) → Inv₂ (onI j i (publicLater h l) e)
+      go zero = next-shape h i zero (publicLater h l) e ∙ k
+      go (suc j) = shut-inv (closes (publicLater h l))
 
   abbrev pub publicView : Mid → Ideal × Positions
   publicView unopened = (Ideal.unopened, λ b. 0)
   publicView shut = (Ideal.shut, λ b. 0)
   publicView (on s it) = (Ideal.on (hide s), positions s)
+  publicView (off s it) = (Ideal.off (hide s), positions s)
 
   pub legal₂ : (m : Mid) (c : Entry) (e : List ℕ) → mid-legal h m c e ↔ Drawn₂ (publicView m .0) c e
   legal₂ unopened (first m w) e = Iff·rfl
   legal₂ unopened (later l m w n) e = Iff·rfl
   legal₂ shut c e = Iff·rfl
+  legal₂ (off s it) c e = Iff·rfl
   legal₂ (on s it) (first m w) e = Iff·rfl
   legal₂ (on s it) (later l m w n) e = Iff·rfl
 
@@ -254,6 +281,34 @@ module _ (h : Shape) where
     call-shows later-turn m w n zero q p = (refl, released _ (nextStepM s (decideP (hide s)) e) _ (step-leads s (decideP (hide s)) e))
     call-shows (later-completion c bs) m w n zero q p = (refl, released _ (complete c bs s) _ (complete-leads s c bs (replicate (length bs) 0)))
     call-shows later-collect m w n zero q p = (refl, released _ (collectedM (s .request) s) _ (collect-leads s (s .request) refl))
+    call-shows later-save m w n zero q p = (refl, released _ s _ (refl, refl))
+    call-shows (later-reload m₀ n₀) m w n zero q p = (refl, released _ s _ (refl, refl))
+
+  closes-public : (l : Later) → closes (publicLater h l) ≡ closes l
+  closes-public (later-request k b bs) = go (formed h k b (length bs))
+    where
+      go : (t : Bool) → closes (publicAsk t k b (length bs)) ≡ false
+      go true = refl
+      go false = refl
+  closes-public later-turn = refl
+  closes-public (later-completion c bs) = refl
+  closes-public later-collect = refl
+  closes-public later-save = refl
+  closes-public (later-reload m n) = refl
+
+  -- a closed state shows the same of the public part of a call
+  shut-public : (c : Entry) → seenShut c ≡ seenShut (publicEntry h c)
+  shut-public (first m w) = refl
+  shut-public (later (later-request k b bs) m w n) = go (formed h k b (length bs))
+    where
+      go : (t : Bool) → seenShut (later (later-request k b bs) m w n) ≡ seenShut (later (publicAsk t k b (length bs)) m w n)
+      go true = refl
+      go false = refl
+  shut-public (later later-turn m w n) = refl
+  shut-public (later (later-completion c bs) m w n) = refl
+  shut-public (later later-collect m w n) = refl
+  shut-public (later later-save m w n) = refl
+  shut-public (later (later-reload m₀ n₀) m w n) = refl
 
   start-shows : (e : List ℕ) (j : ℕ) → Drew (boundsOpen h j) e → (openI h j, start₂ j .f (λ b. 0, e) .1) ≡ publicView (openM h j e)
   unfolding fresh
@@ -264,11 +319,23 @@ module _ (h : Shape) where
       (mid-seen h m c e ≡ shown₂ (publicView m .0) (publicView m .1) c e) × (full₂ .next (publicView m) c e ≡ publicView (mid-next h m c e))
   step₂ unopened (first m w) e k p = (refl, start-shows e (numberOpen h m w) p)
   step₂ unopened (later l m w n) e k p = (refl, refl)
-  step₂ shut c e k p = (refl, refl)
+  step₂ shut c e k p = (shut-public c, refl)
+  step₂ (off s it) c e k p = (shut-public c, refl)
   step₂ (on s it) (first m w) e k p = (refl, refl)
   step₂ (on s it) (later l m w n) e k p =
-      let r = call-shows s k e l m w n (numberP (hide s) (publicLater h l) m w n) refl p in
-      (r .0, λ i. (Ideal.on (r .1 .0 i), r .1 .1 i))
+      go (numberP (hide s) (publicLater h l) m w n) refl p
+    where
+      shut-view : (t u : Bool) → t ≡ u → ((if t then Ideal.off (hide s) else Ideal.on (hide s)), positions s) ≡ publicView (if u then off s it else on s it)
+      shut-view true true q = refl
+      shut-view false false q = refl
+      shut-view true false q = absurd (true≢false q)
+      shut-view false true q = absurd (true≢false (sym q))
+
+      go : (j : ℕ) → numberP (hide s) (publicLater h l) m w n ≡ j → legalIf j (hide s) l e
+          → (seenIf j (hide s) l e ≡ seenIf j (hide s) (publicLater h l) (baseP j (hide s) l .f (positions s, e) .0))
+          × ((onI j (hide s) (publicLater h l) (baseP j (hide s) l .f (positions s, e) .0), baseP j (hide s) l .f (positions s, e) .1) ≡ publicView (onM j s it l e))
+      go zero q p = let r = call-shows s k e l m w n zero q p in (r .0, λ i. (Ideal.on (r .1 .0 i), r .1 .1 i))
+      go (suc j) q p = (λ i. (suc j, lacking (suc j) (bounds-public h (hide s) l i), nothingSent), shut-view (closes (publicLater h l)) (closes l) (closes-public l))
 
   -- The second stage
   abbrev pub second-stage : Stage (mid h) outside Positions

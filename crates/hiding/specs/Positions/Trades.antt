@@ -17,7 +17,7 @@ use Rattle.matching.specs.Positions.{Positions, Placed, position}
 use Rattle.matching.specs.Match.{join, rename}
 use Rattle.matching.specs.Trades.{Trades, stays}
 use Rattle.hiding.specs.Machines.Ideal.{legalIf, rebuildP, nextStepI, collectedI, nextI}
-use Rattle.hiding.specs.Machines.Public.{Later, later-request, later-turn, later-completion, later-collect, formed, publicAsk, publicLater, hide, decideP}
+use Rattle.hiding.specs.Machines.Public.{Later, later-request, later-turn, later-completion, later-collect, later-save, later-reload, formed, publicAsk, publicLater, hide, decideP}
 use Rattle.hiding.specs.Unchanged.{Rest, complete-rest}
 
 -- one position below P for each of N blocks
@@ -36,6 +36,8 @@ module _ (h : Shape) (i : State) where
   legal-public zero later-turn e = Iff·rfl
   legal-public zero (later-completion c bs) e = Iff·rfl
   legal-public zero later-collect e = Iff·rfl
+  legal-public zero later-save e = Iff·rfl
+  legal-public zero (later-reload m n) e = Iff·rfl
 
   step-shape : (x : Step) (e : List ℕ) → (nextStepI i x e) .shape ≡ i .shape
   unfolding doStep Turn.markRead Turn.send rebuildP
@@ -57,6 +59,8 @@ module _ (h : Shape) (i : State) where
   next-shape zero later-turn e = step-shape (decideP i) e
   next-shape zero (later-completion c bs) e = ap (λ (x : Rest). x .shape) (complete-rest i c bs)
   next-shape zero later-collect e = collect-shape (i .request)
+  next-shape zero later-save e = refl
+  next-shape zero (later-reload m n) e = refl
 
   pub placed-next : (n : ℕ) (l : Later) (e : List ℕ) (pos : Positions) → PlacedIn (i .shape) pos ↔ PlacedIn ((nextI n i l e) .shape) pos
   placed-next n l e pos = rw (next-shape n l e) Iff·rfl
@@ -84,6 +88,8 @@ module _ (h : Shape) (i : State) where
   tradeP zero later-turn = stayP zero later-turn
   tradeP zero (later-completion c bs) = stayP zero (later-completion c bs)
   tradeP zero later-collect = stayP zero later-collect
+  tradeP zero later-save = stayP zero later-save
+  tradeP zero (later-reload m n) = stayP zero (later-reload m n)
 
 pub fresh-placed : (h : Shape) (e : List ℕ) (pos : Positions) → PlacedIn h pos ↔ PlacedIn ((hide (fresh h [])) .shape) pos
 unfolding fresh

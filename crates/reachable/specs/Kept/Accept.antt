@@ -1,17 +1,18 @@
 -- A request that is accepted keeps the invariant.
 use mathlib.Core.Path.{_≡_, ap, sym, _∙_}
-use mathlib.Core.Logic.{_⊎_, inl, inr, ⊎-elim}
+use mathlib.Core.Logic.{inl, inr, ⊎-elim}
 use mathlib.Core.Bool.{true≢false}
 use mathlib.Core.List.{List}
 use mathlib.Core.Option.{none, some}
-use Prim.Native.Nat.{ℕ, _≤_, _-_}
+use Prim.Native.Nat.{ℕ, _≤_}
 use native.Mathlib.Omega.{arith}
 use Rattle.lists.specs.All.{all-map}
 use Rattle.lists.specs.Search
 use Rattle.rules.specs.Laws.Range.{InRange}
 use Rattle.rules.specs.Request
 use Rattle.rules.specs.State.{State, Request}
-use Rattle.reachable.specs.Invariant.{Reached, storedAt}
+use Rattle.rules.specs.Form.Loading.{storedAt}
+use Rattle.reachable.specs.Invariant.{Reached}
 use Rattle.reachable.specs.Live
 use Rattle.reachable.specs.Live.{counted, drawn, pending}
 use Rattle.reachable.specs.Pending.{passed-none, pending-more}
@@ -43,6 +44,7 @@ accept-kept s f e k b bs js range = record {
   commands = all-map (λ c n. ⊎-elim
       (λ a. inl (record { kind = a .kind; isRead = a .isRead; full = a .full; whose = ⊎-elim (λ p. absurd (true≢false (sym p ∙ passed-none (s .partition) (s .request) (c .partition) (c .level) e))) inr (a .whose) }))
       inr n) (f .commands);
+  tidy = record { partitions = f .tidy .partitions; places = f .tidy .places; counters = f .tidy .counters; marked = f .tidy .marked; held = f .tidy .held; whole = f .tidy .whole; untouched = λ x m j hx y c a. ⊎-elim inl (λ o. absurd (no-request (o .0) (o .1 .0))) (f .tidy .untouched x m j hx y c a) };
 }
   where
     more : (p m : ℕ) → pending s p m ≤ pending (Request.accept k b bs js s) p m

@@ -17,7 +17,8 @@ use Rattle.rules.specs.Request.{held}
 use Rattle.rules.specs.Setters.{setRequest, setOutstanding}
 use Rattle.rules.specs.Shape.{cell}
 use Rattle.rules.specs.State.{State, Command, Request, Found, stored}
-use Rattle.reachable.specs.Invariant.{Reached, Reading, Writing, Own, Aside, storedAt}
+use Rattle.rules.specs.Form.Loading.{storedAt}
+use Rattle.reachable.specs.Invariant.{Reached, Reading, Writing, Own, Aside}
 use Rattle.reachable.specs.Live
 use Rattle.reachable.specs.Live.{counted, drawn, pending, passedBy, undrawn, times, Gathers, Alone}
 use Rattle.reachable.specs.Terms.{Apart}
@@ -80,4 +81,13 @@ module _ (s : State) (f : Reached s) (r : Request) (inHand : s .request ≡ some
     spent = f .spent;
     apart = apart;
     commands = all-map (λ c k. ⊎-elim (λ a. inl (reading-same c a)) inr k) commands;
+    tidy = record {
+      partitions = f .tidy .partitions;
+      places = f .tidy .places;
+      counters = f .tidy .counters;
+      marked = f .tidy .marked;
+      held = f .tidy .held;
+      whole = f .tidy .whole;
+      untouched = λ b m j hx e c a. ⊎-elim inl (λ o. inr (own-same b m o)) (f .tidy .untouched b m j hx e c a);
+    };
   }

@@ -1,30 +1,35 @@
 -- A collect keeps the invariant.
 use mathlib.Core.Path.{_≡_, refl, ap, sym, _∙_, fun-ext}
 use mathlib.Core.Logic.{_⊎_, inl, inr, ⊎-elim}
-use mathlib.Core.Bool.{Bool, true, false, not, true≢false}
+use mathlib.Core.Bool.{Bool, true, false, not, true≢false, _&&_}
 use mathlib.Core.List.{List, [], _∷_, _++_}
-use mathlib.Core.Option.{some}
-use Prim.Native.Nat.{ℕ, suc, _+_, _%_, _^_, _≤_, _<_, zero, _-_}
+use mathlib.Core.Option.{some, Option}
+use Prim.Native.Nat.{ℕ, suc, _%_, _^_, _≤_, _<_, zero, _+_}
 use native.Mathlib.Omega.{arith}
 use native.Mathlib.Decide.{ℕ-discrete}
 use lib.Dec.{eqb}
 use borrow.Author.Tests.{eq-eqb}
-use Rattle.lists.specs.All.{all-map, all-both, keep-passes}
+use Rattle.lists.specs.All.{all-map, all-both, keep-passes, IfSome}
 use Rattle.lists.specs.Distinct.{Mem}
 use Rattle.lists.specs.Members.{all-mem, keep-mem, nodup-keep, nodup-snoc, nodup-sub, append-mem}
 use Rattle.lists.specs.Lengths.{bit}
-use Rattle.lists.specs.Tables.{put, put-same, put-other}
+use Rattle.lists.specs.Tables.{put, put-same, put-other, put-has}
+use lib.ListN.{length, length-replicate}
+use Rattle.rules.specs.Blocks
+use Rattle.lists.specs.Search.{member}
+use Rattle.lists.specs.Tests.{if_then_else_}
 use Rattle.lists.specs.Totals.{total-le}
 use Rattle.rules.specs.Collect
 use Rattle.rules.specs.Collect.{finish, emptied}
-use Rattle.rules.specs.Laws.Range.{InRange}
+use Rattle.rules.specs.Laws.Range.{InRange, RequestIn}
 use Rattle.rules.specs.Levels.{filled, sources}
-use Rattle.rules.specs.Ranges.{others}
+use Rattle.rules.specs.Ranges.{others, bytesOf}
 use Rattle.rules.specs.Shape.{slots, Shape, cell, offset}
-use Rattle.rules.specs.State.{State, Request, Place, nowhere, stored}
+use Rattle.rules.specs.State.{State, Request, Place, nowhere, stored, write}
 use Rattle.reachable.specs.Blocks.{not-nowhere, stored-inj, at-why, why-at, in-why, why-in, nodup-at, nodup-in}
 use Rattle.reachable.specs.Consequences.{block-lt, finished-read, finished-aside}
-use Rattle.reachable.specs.Invariant.{Reached, Waiting, Items, Agree, storedAt, isIn, Room, Full, taken, Taken, holdsOf, Reads, Unread, Commands}
+use Rattle.reachable.specs.Invariant.{Reached, Waiting, Items, Agree, Room, Full, taken, Taken, holdsOf, Reads, Unread, Commands, Tidy, SlotCell, Own}
+use Rattle.rules.specs.Form.Loading.{storedAt, isIn}
 use Rattle.reachable.specs.Live
 use Rattle.rules.specs.Request.{isFront}
 use Rattle.reachable.specs.Live.{counted, counted-calm, drawn, pending, undrawn, Gathers, times, passedBy}
@@ -49,7 +54,7 @@ module _ (s : State) (f : Reached s) (r : Request) (inHand : s .request ≡ some
   filled-queue : Filled (s .queue) (s .sent)
   filled-queue n = let x = f .begun n in (x .0, x .1, x .2 .0)
 
-  counted-kept : counted s′ ≡ counted s
+  pub counted-kept : counted s′ ≡ counted s
   counted-kept = fun-ext (λ p. go p (ℕ-discrete (s .sent) 0))
     where
       go : (p : ℕ) → Dec (s .sent ≡ 0) → counted s′ p ≡ counted s p
@@ -247,6 +252,49 @@ module _ (s : State) (f : Reached s) (r : Request) (inHand : s .request ≡ some
       (λ a. inr (record { kind = a .kind; front = front-append (s .queue) more (c .partition) (a .front); busy = a .busy; goal = a .goal; slot = a .slot })) (k .0))
       (all-both (f .commands) (finished-aside s f r inHand done))
 
+  whole-kept : (x : ℕ) → length (s′ .bytes x) ≡ h .B
+  unfolding finish Blocks.contents Blocks.isNowhere
+  whole-kept x = put-has (λ v. length v ≡ h .B) b _ (s .bytes) x (go (eqb (r .kind) write) refl) (f .tidy .whole x)
+    where
+      asked : (o : Option Request) → o ≡ some r → IfSome (RequestIn h) o → length (r .bytes) ≡ bytesOf h (r .kind)
+      asked o e k = let k′ : RequestIn h r = rw e at k in k′ .bytes
+
+      contents-whole : length (Blocks.contents s b) ≡ h .B
+      contents-whole = by (Blocks.isNowhere (s .place b) && not (member b (s .waiting)))
+        where
+          by : (t : Bool) → length (if t then Blocks.zeros s else s .bytes b) ≡ h .B
+          by true = unfold Blocks.zeros in (length-replicate (h .B) 0)
+          by false = f .tidy .whole b
+
+      go : (t : Bool) → eqb (r .kind) write ≡ t → length (if t then r .bytes else Blocks.contents s b) ≡ h .B
+      go true e = asked (s .request) inHand (f .range .request) ∙ (unfold bytesOf in (rw e))
+      go false e = contents-whole
+
+  held-kept : (c : ℕ) → ¬ (s′ .holds c ≡ 0) → SlotCell h c
+  held-kept c n = go (s′ .holds c) refl
+    where
+      go : (v : ℕ) → s′ .holds c ≡ v → SlotCell h c
+      go zero e = absurd (n e)
+      go (suc x) e = f .tidy .held c (λ z. omega (arith, sym (holds-before c x e .0) ∙ z))
+
+  tidy-kept : Tidy s′
+  unfolding finish
+  tidy-kept = record {
+    partitions = λ x l. partition-other x (λ w. omega (arith, w, hb)) ∙ f .tidy .partitions x l;
+    places = λ x l. place-other x (λ w. omega (arith, w, hb)) ∙ f .tidy .places x l;
+    counters = f .tidy .counters;
+    marked = rw counted-kept (f .tidy .marked);
+    held = held-kept;
+    whole = whole-kept;
+    untouched = λ x m j hx e c a.
+        let n = other-block x m j e in
+        let v = partition-other x n in
+        let y : s .place x ≡ stored m j = sym (place-other x n) ∙ e in
+        let not-own : Own s x m → ⊥ = λ o. let w : o .0 ≡ r = cc (o .1 .0, inHand) in n (sym (o .1 .1) ∙ ap (λ (y : Request). y .block) w) in
+        inl (ap (λ p. s .mark (cell (s .shape) p m j)) v
+        ∙ ⊎-elim (λ k. k) (λ k. ⊎-elim (λ o. absurd (not-own o)) (λ g. ⊎-elim (λ k. k) (λ o. absurd (not-own o)) (f .tidy .untouched x m j hx y c (g .0))) k) (f .unread x m j hx y));
+  }
+
   pub collect-kept : InRange s′ → Reached s′
   unfolding finish
   collect-kept range = record {
@@ -272,4 +320,5 @@ module _ (s : State) (f : Reached s) (r : Request) (inHand : s .request ≡ some
     spent = λ p ℓ i a n l hi. let x = f .begun n in f .spent p ℓ i (sym (front-more (s .queue) more p (x .0) (x .1) (x .2 .0)) ∙ a) n l hi;
     apart = f .apart;
     commands = commands-kept;
+    tidy = tidy-kept;
   }

@@ -4,7 +4,7 @@ use mathlib.Core.Logic.{_⊎_, inl, inr, ⊎-elim}
 use mathlib.Core.Bool.{Bool, true, false, not, true≢false}
 use mathlib.Core.List.{List, [], _∷_}
 use mathlib.Core.Option.{Option, none, some, Option·map}
-use Prim.Native.Nat.{ℕ, _+_, _%_, _^_, _≤_, _-_}
+use Prim.Native.Nat.{ℕ, _+_, _%_, _^_, _≤_}
 use native.Mathlib.Omega.{arith}
 use native.Mathlib.Decide.{ℕ-discrete}
 use lib.Dec.{eqb}
@@ -12,7 +12,9 @@ use lib.Pow.{pow-pos}
 use borrow.Author.Tests.{eqb-true, eq-eqb, not-true}
 use Rattle.lists.specs.All.{All, all-map, all-without, all-both, any-none, drop-without}
 use Rattle.lists.specs.Search.{without, firstLeft, any}
-use Rattle.lists.specs.Tables.{put, put-same, put-other}
+use Rattle.lists.specs.Tables.{put, put-same, put-other, put-has}
+use lib.ListN.{length}
+use Rattle.lists.specs.Members.{all-mem}
 use Rattle.lists.specs.Tests.{if_then_else_, and-l, and-r}
 use Rattle.rules.specs.Completion
 use Rattle.rules.specs.Laws.Range.{InRange}
@@ -22,20 +24,21 @@ use Rattle.rules.specs.Setters.{setBytes, setOutstanding, setRequest}
 use Rattle.rules.specs.Shape.{slots}
 use Rattle.rules.specs.State.{State, Command, write, Request}
 use Rattle.reachable.specs.Consequences.{reading-away}
-use Rattle.reachable.specs.Invariant.{Reached, Reading, Writing, Unawaited, storedAt, Reads, Commands}
+use Rattle.reachable.specs.Invariant.{Reached, Reading, Writing, Unawaited, Reads, Commands, Tidy}
 use Rattle.reachable.specs.Live
 use Rattle.rules.specs.Request.{isFront}
 use Rattle.reachable.specs.Live.{counted, drawn, pending, counted-calm, counted-drawn, front-is, counted-other, front-eq, times, undrawn}
 use Rattle.reachable.specs.Kept.Carry.{carry-kept}
+use Rattle.rules.specs.Form.Loading.{storedAt}
 use Rattle.reachable.specs.Outstanding.{apart-without}
 use Rattle.reachable.specs.Pending.{pending-more, undrawn-rest}
 use Rattle.reachable.specs.Terms.{Apart}
 
 -- A state that differs in its outstanding commands and in the contents of blocks: no other fact reads them
-outside-kept : (s : State) → Reached s → (y : ℕ → List ℕ) (os : List Command) → Apart os → All (λ c. Reading s c ⊎ Writing s c) os → Unawaited (setOutstanding os s)
+outside-kept : (s : State) → Reached s → (y : ℕ → List ℕ) → ((b : ℕ) → length (y b) ≡ s .shape .B) → (os : List Command) → Apart os → All (λ c. Reading s c ⊎ Writing s c) os → Unawaited (setOutstanding os s)
     → InRange (setBytes y (setOutstanding os s)) → Reached (setBytes y (setOutstanding os s))
 unfolding counted drawn storedAt Live.storedIn pending Request.held
-outside-kept s f y os apart commands unawaited range = record {
+outside-kept s f y whole os apart commands unawaited range = record {
   range = range;
   waiting = f .waiting;
   orders = f .orders;
@@ -58,6 +61,7 @@ outside-kept s f y os apart commands unawaited range = record {
   spent = f .spent;
   apart = apart;
   commands = commands;
+  tidy = record { partitions = f .tidy .partitions; places = f .tidy .places; counters = f .tidy .counters; marked = f .tidy .marked; held = f .tidy .held; whole = whole; untouched = f .tidy .untouched };
 }
 
 -- A command completed: it is awaited no more
@@ -76,16 +80,16 @@ completed-kept s f c range = go (s .request) refl range
 
     go : (o : Option Request) → s .request ≡ o → InRange (setOutstanding os (setRequest (Option·map (Completion.awaitsLess c (s .outstanding)) o) s))
         → Reached (setOutstanding os (setRequest (Option·map (Completion.awaitsLess c (s .outstanding)) o) s))
-    go none e range = (subst (λ (o : Option Request). InRange (setOutstanding os (setRequest o s)) → Reached (setOutstanding os (setRequest o s))) e
-        (outside-kept s f (s .bytes) os apart commands (λ r w. let z : _≡_ {A = ℕ} 0 1 = cc in absurd (omega arith))) (range))
-    go (some r) e range = (carry-kept s f r e (r .found) (firstLeft (Completion.isCommand c) (r .awaits) (s .outstanding)) os apart commands (f .unheld r e)
-        (λ k. (f .released r e k, (f .unworn r e k, drop-without (Completion.isCommand c) (r .awaits) (s .outstanding) (f .unawaited r e k)))) (range))
+    go none e range = subst (λ (o : Option Request). InRange (setOutstanding os (setRequest o s)) → Reached (setOutstanding os (setRequest o s))) e
+        (outside-kept s f (s .bytes) (f .tidy .whole) os apart commands (λ r w. let z : _≡_ {A = ℕ} 0 1 = cc in absurd (omega arith))) range
+    go (some r) e range = carry-kept s f r e (r .found) (firstLeft (Completion.isCommand c) (r .awaits) (s .outstanding)) os apart commands (f .unheld r e)
+        (λ k. (f .released r e k, (f .unworn r e k, drop-without (Completion.isCommand c) (r .awaits) (s .outstanding) (f .unawaited r e k)))) range
 
 -- ..with the bytes that a read brings
-pub bytes-kept : (s : State) → Reached s → (o : Option ℕ) (bs : List ℕ) → InRange (Completion.gatherBytes o bs s) → Reached (Completion.gatherBytes o bs s)
+pub bytes-kept : (s : State) → Reached s → (o : Option ℕ) (bs : List ℕ) → length bs ≡ s .shape .B → InRange (Completion.gatherBytes o bs s) → Reached (Completion.gatherBytes o bs s)
 unfolding Completion.gatherBytes
-bytes-kept s f none bs range = f
-bytes-kept s f (some b) bs range = outside-kept s f _ (s .outstanding) (f .apart) (f .commands) (f .unawaited) range
+bytes-kept s f none bs l range = f
+bytes-kept s f (some b) bs l range = outside-kept s f (put b bs (s .bytes)) (λ x. put-has (λ v. length v ≡ s .shape .B) b bs (s .bytes) x l (f .tidy .whole x)) (s .outstanding) (f .apart) (f .commands) (f .unawaited) range
 
 -- The end of a job
 module _ (s : State) (f : Reached s) (q : ℕ) (rest : List ℕ) (front : s .queue ≡ q ∷ rest) (busy : s .sent ≡ 0 → ⊥)
@@ -93,7 +97,7 @@ module _ (s : State) (f : Reached s) (q : ℕ) (rest : List ℕ) (front : s .que
   abbrev e′ : State
   e′ = Completion.endJob q rest s
 
-  counted-kept : counted e′ ≡ counted s
+  pub counted-kept : counted e′ ≡ counted s
   counted-kept = fun-ext (λ p. go p (ℕ-discrete p q))
     where
       go : (p : ℕ) → Dec (p ≡ q) → counted e′ p ≡ counted s p
@@ -139,6 +143,18 @@ module _ (s : State) (f : Reached s) (q : ℕ) (rest : List ℕ) (front : s .que
   other : (x : Request) → s .request ≡ some x → Request.held x ≡ false → ¬ (s .partition (x .block) ≡ q)
   other x e k w = ⊎-elim (λ n. n (rw (front, w) (inl refl))) (λ a. busy (a .2)) (f .released x e k)
 
+  tidy-kept : Tidy e′
+  unfolding Completion.endJob Request.held
+  tidy-kept = record {
+    partitions = f .tidy .partitions;
+    places = f .tidy .places;
+    counters = λ p l. put-other q (grown (s .shape) (s .counter q)) (s .counter) p (λ w. omega (arith, w, all-mem (f .range .queue) q (rw front (inl refl)))) ∙ f .tidy .counters p l;
+    marked = rw counted-kept (f .tidy .marked);
+    held = f .tidy .held;
+    whole = f .tidy .whole;
+    untouched = λ b m j hx e c a. ⊎-elim inl (λ k. ⊎-elim inr (λ g. absurd (busy (g .1))) k) (f .unread b m j hx e);
+  }
+
   end-kept : InRange e′ → Reached e′
   unfolding Completion.endJob storedAt Live.storedIn
   end-kept range = record {
@@ -164,6 +180,7 @@ module _ (s : State) (f : Reached s) (q : ℕ) (rest : List ℕ) (front : s .que
     spent = λ p m j a n l hj. absurd (n refl);
     apart = f .apart;
     commands = commands-kept;
+    tidy = tidy-kept;
   }
 
 pub finishJob-kept : (s : State) → Reached s → (l : List ℕ) → s .queue ≡ l → InRange (Completion.finishJob l s) → Reached (Completion.finishJob l s)

@@ -4,7 +4,7 @@ use mathlib.Core.Logic.{_⊎_, inl, inr, ⊎-elim}
 use mathlib.Core.Bool.{false}
 use mathlib.Core.List.{List, [], _∷_}
 use mathlib.Core.Option.{none, some}
-use Prim.Native.Nat.{ℕ, _+_, _%_, _^_, _≤_, _<_, _-_}
+use Prim.Native.Nat.{ℕ, _+_, _%_, _^_, _≤_, _<_}
 use native.Mathlib.Omega.{arith}
 use native.Mathlib.Decide.{ℕ-discrete, decLt}
 use borrow.Author.Tests.{eqb-false}
@@ -24,7 +24,8 @@ use Rattle.reachable.specs.Blocks.{place-lt}
 use Rattle.reachable.specs.Cells.{offset-cell}
 use Rattle.reachable.specs.Consequences.{behind-read, job-gathers, still-read, read-apart, job-unread, job-full, read-items}
 use Rattle.reachable.specs.Decided.{JobReads}
-use Rattle.reachable.specs.Invariant.{Reached, Reads, Unread, Own, Scanned, Commands, storedAt}
+use Rattle.rules.specs.Form.Loading.{storedAt}
+use Rattle.reachable.specs.Invariant.{Reached, Reads, Unread, Own, Scanned, Commands}
 use Rattle.reachable.specs.Live
 use Rattle.rules.specs.Blocks.{readsOf}
 use Rattle.reachable.specs.Live.{counted, drawn, pending, Gathers, front-is, front-eq, front-mem}
@@ -135,4 +136,13 @@ module _ (s : State) (f : Reached s) (q ℓ i : ℕ) (d : JobReads s q ℓ i) (h
     spent = λ p m j a n l hj. absurd (n (d .calm));
     apart = apart-kept;
     commands = commands-kept;
+    tidy = record {
+      partitions = f .tidy .partitions;
+      places = f .tidy .places;
+      counters = f .tidy .counters;
+      marked = λ c n. f .tidy .marked c (λ z. n (still-read (cell (s .shape) q ℓ i) c (s .mark) z));
+      held = f .tidy .held;
+      whole = f .tidy .whole;
+      untouched = λ b m j hx e c. absurd (omega arith);
+    };
   }

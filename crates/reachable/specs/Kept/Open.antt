@@ -2,8 +2,9 @@
 use mathlib.Core.Path.{_≡_, refl, ap, sym, _∙_}
 use mathlib.Core.Bool.{true, false, true≢false}
 use mathlib.Core.List.{List, []}
-use Prim.Native.Nat.{ℕ, suc, _^_, _≤_, zero, _-_}
+use Prim.Native.Nat.{ℕ, suc, _^_, _≤_, zero}
 use native.Mathlib.Omega.{arith}
+use lib.ListN.{length, length-replicate, List·getD-eq-default}
 use Rattle.lists.specs.All.{nil}
 use Rattle.lists.specs.Members.{nodup-sub}
 use Rattle.lists.specs.Totals.{total-none}
@@ -13,7 +14,8 @@ use Rattle.rules.specs.Open.{fresh}
 use Rattle.rules.specs.Shape.{slots, Shape, cell}
 use Rattle.reachable.specs.Bits.{filled-suc}
 use Rattle.reachable.specs.Blocks.{not-nowhere, nodup-at, at-why, nodup-in, in-why}
-use Rattle.reachable.specs.Invariant.{taken, holdsOf, Reached, isIn, storedAt}
+use Rattle.rules.specs.Form.Loading.{isIn, storedAt}
+use Rattle.reachable.specs.Invariant.{taken, holdsOf, Reached}
 use Rattle.reachable.specs.Live
 use Rattle.reachable.specs.Live.{counted, counted-calm}
 use Rattle.reachable.specs.Terms.{none-apart}
@@ -35,9 +37,9 @@ module _ (h : Shape) (js : List ℕ) where
   unfolding holdsOf fresh taken
   none-taken q ℓ = let z = total-none (slots ℓ) (λ i. taken (fresh h js .holds (cell h q ℓ i))) (λ i l. refl) in omega arith
 
-  pub fresh-kept : InRange (fresh h js) → Reached (fresh h js)
+  pub fresh-kept : length js ≡ h .N → InRange (fresh h js) → Reached (fresh h js)
   unfolding fresh isIn Live.isBelow
-  fresh-kept range = record {
+  fresh-kept many range = record {
     range = range;
     waiting = record { once = tt; absent = λ b m. refl };
     orders = record { one = λ q ℓ j k hq hℓ e. absurd (no-level q ℓ e); each = λ q ℓ i hq hℓ e. absurd (no-level q ℓ e) };
@@ -60,4 +62,13 @@ module _ (h : Shape) (js : List ℕ) where
     spent = λ q ℓ i a n l hi. absurd (n refl);
     apart = none-apart;
     commands = nil;
+    tidy = record {
+      partitions = λ b l. List·getD-eq-default js 0 (omega arith);
+      places = λ b l. refl;
+      counters = λ q l. refl;
+      marked = λ c n. absurd (n refl);
+      held = λ c n. absurd (n refl);
+      whole = λ b. length-replicate (h .B) 0;
+      untouched = λ b ℓ i hb e. absurd (not-nowhere ℓ i e);
+    };
   }

@@ -1,10 +1,10 @@
 -- A request's read keeps the invariant.
 use mathlib.Core.Path.{_≡_, refl, ap, sym, _∙_, subst}
 use mathlib.Core.Logic.{_⊎_, inl, inr, ⊎-elim}
-use mathlib.Core.Bool.{Bool, true, false}
+use mathlib.Core.Bool.{Bool, true, false, true≢false}
 use mathlib.Core.List.{List, [], _∷_, _++_}
 use mathlib.Core.Option.{none, some}
-use Prim.Native.Nat.{ℕ, suc, _+_, _%_, _^_, _≤_, _<_, _-_}
+use Prim.Native.Nat.{ℕ, suc, _+_, _%_, _^_, _≤_, _<_}
 use native.Mathlib.Omega.{arith}
 use native.Mathlib.Decide.{ℕ-discrete, decLt}
 use lib.ListN.{length, drop, length-append, drop-of-length-le}
@@ -23,12 +23,13 @@ use Rattle.rules.specs.Turn.{readForRequest, doStep}
 use Rattle.reachable.specs.Blocks.{place-lt, stored-inj}
 use Rattle.reachable.specs.Consequences.{front-calm, released-count, reads-source, costless-read, read-mark, block-lt, slot-own, dummy-free, own-slot, still-read, read-apart, request-unread, read-items}
 use Rattle.reachable.specs.Decided.{OwnSlot, DummySlot, ItemSlot, RequestReads, slot-here, if-unread}
-use Rattle.reachable.specs.Invariant.{Reached, Reads, Unheld, Released, Unworn, Aside, Unawaited, Unread, Own, Reading, Commands, Fetched, Jobless, Unbegun, storedAt}
+use Rattle.reachable.specs.Invariant.{Reached, Reads, Unheld, Released, Unworn, Aside, Unawaited, Unread, Own, Reading, Commands, Fetched, Jobless, Unbegun, Tidy, Untouched}
+use Rattle.rules.specs.Form.Loading.{storedAt}
 use Rattle.reachable.specs.Live
 use Rattle.rules.specs.Blocks
 use Rattle.rules.specs.Blocks.{readsOf}
 use Rattle.rules.specs.Request.{isFront}
-use Rattle.reachable.specs.Live.{counted, drawn, pending, passedBy, Gathers, Alone, front-mem}
+use Rattle.reachable.specs.Live.{counted, drawn, pending, passedBy, Gathers, Alone, front-mem, gathers-source}
 use Rattle.reachable.specs.Outstanding.{apart-snoc}
 use Rattle.reachable.specs.Pending.{pending-more, bit-no, bit-yes, passed-why, passed-level, mark-same, mark-more}
 use Rattle.reachable.specs.Terms.{Apart}
@@ -115,6 +116,12 @@ module _ (s : State) (f : Reached s) (q ℓ i : ℕ) (d : RequestReads s q ℓ i
       let w : x ≡ r′ = cc (passed, e) in
       inr (rw w (unfold doStep Turn.markRead Turn.send in (d .unheld)))
 
+  own-still : (b m : ℕ) → Own s b m → Own s′ b m
+  unfolding doStep Turn.markRead Turn.send
+  own-still b m o =
+      let w : o .0 ≡ r = cc (o .1 .0, d .inHand) in
+      (r′, (passed, sym (ap (λ (x : Request). x .block) w) ∙ o .1 .1, omega (arith, o .1 .2, d .left, ap (λ (x : Request). x .level) w)))
+
   unread-kept : Unread s′
   unfolding doStep Turn.markRead Turn.send
   unread-kept b m j hx e = go (ℕ-discrete (cell h p m j) (cell h q ℓ i))
@@ -130,9 +137,7 @@ module _ (s : State) (f : Reached s) (q ℓ i : ℕ) (d : RequestReads s q ℓ i
         where
           old : (s .mark (cell h p m j) ≡ 1) ⊎ (Own s b m ⊎ Gathers s p m) → (s′ .mark (cell h p m j) ≡ 1) ⊎ (Own s′ b m ⊎ Gathers s p m)
           old (inl k) = inl (marks (cell h p m j) ∙ put-other (cell h q ℓ i) 0 (s .mark) (cell h p m j) n ∙ k)
-          old (inr (inl o)) =
-              let w : o .0 ≡ r = cc (o .1 .0, d .inHand) in
-              inr (inl (r′, (passed, sym (ap (λ (x : Request). x .block) w) ∙ o .1 .1, omega (arith, o .1 .2, d .left, ap (λ (x : Request). x .level) w))))
+          old (inr (inl o)) = inr (inl (own-still b m o))
           old (inr (inr k)) = inr (inr k)
       go (yes n) =
           let z = cell-inj h p q m ℓ j i (y .0) hℓ (y .1) hi n in
@@ -235,6 +240,35 @@ module _ (s : State) (f : Reached s) (q ℓ i : ℕ) (d : RequestReads s q ℓ i
       go true e = absurd (omega arith)
       go false e = f .unbegun e
 
+  untouched-kept : Untouched s′
+  unfolding doStep Turn.markRead Turn.send
+  untouched-kept b m j hx e c a = go (Request.isSource s q ℓ) refl c
+    where
+      -- the slot read is in no level that the job gathers
+      go : (t : Bool) → Request.isSource s q ℓ ≡ t → _≡_ {A = ℕ} (if t then 1 else s .begun) 0 → (s′ .mark (cell h (s .partition b) m j) ≡ 1) ⊎ Own s′ b m
+      go true u c = absurd (omega arith)
+      go false u c = ⊎-elim inl (λ k. ⊎-elim inr gathered k) (unread-kept b m j hx e)
+        where
+          gathered : Gathers s (s .partition b) m → (s′ .mark (cell h (s .partition b) m j) ≡ 1) ⊎ Own s′ b m
+          gathered g =
+              let y = place-lt (h .L) m j (s .place b) (f .range .places b hx) e in
+              let other : ¬ (cell h (s .partition b) m j ≡ cell h q ℓ i) = λ w.
+              let x = cell-inj h (s .partition b) q m ℓ j i (y .0) hℓ (y .1) hi w in
+              true≢false (sym (gathers-source s q ℓ (rw (x .0, x .1) at g)) ∙ u) in
+              ⊎-elim (λ z. inl (put-other (cell h q ℓ i) 0 (s .mark) (cell h (s .partition b) m j) other ∙ z)) (λ o. inr (own-still b m o)) (f .tidy .untouched b m j hx e c a)
+
+  tidy-kept : Tidy s′
+  unfolding doStep Turn.markRead Turn.send counted drawn
+  tidy-kept = record {
+    partitions = f .tidy .partitions;
+    places = f .tidy .places;
+    counters = f .tidy .counters;
+    marked = λ c n. f .tidy .marked c (λ z. n (still-read (cell h q ℓ i) c (s .mark) z));
+    held = f .tidy .held;
+    whole = f .tidy .whole;
+    untouched = untouched-kept;
+  }
+
   pub request-read-kept : InRange s′ → Reached s′
   unfolding doStep Turn.markRead Turn.send counted drawn storedAt Live.storedIn
   request-read-kept range = record {
@@ -260,4 +294,5 @@ module _ (s : State) (f : Reached s) (q ℓ i : ℕ) (d : RequestReads s q ℓ i
     spent = λ p m j a n l hj. still-read (cell h q ℓ i) (cell h p m j) (s .mark) (f .spent p m j a n l hj);
     apart = apart-kept;
     commands = commands-kept;
+    tidy = tidy-kept;
   }

@@ -1,8 +1,8 @@
 -- A job's further write keeps the invariant.
 use mathlib.Core.Path.{_≡_, refl, ap, fun-ext}
-use mathlib.Core.Logic.{_⊎_, inl, inr, ⊎-elim}
+use mathlib.Core.Logic.{inl, inr, ⊎-elim}
 use mathlib.Core.List.{List}
-use Prim.Native.Nat.{ℕ, suc, _%_, _^_, _≤_, _-_}
+use Prim.Native.Nat.{ℕ, suc, _%_, _^_, _≤_}
 use native.Mathlib.Omega.{arith}
 use borrow.Author.Tests.{ne-eqb}
 use Rattle.lists.specs.All.{nil, cons, all-append, all-map, drop-snoc}
@@ -13,7 +13,8 @@ use Rattle.rules.specs.Turn
 use Rattle.rules.specs.Turn.{writeNext, doStep}
 use Rattle.reachable.specs.Consequences.{reading-away}
 use Rattle.reachable.specs.Decided.{Writes}
-use Rattle.reachable.specs.Invariant.{Reached, Reads, Commands, storedAt}
+use Rattle.rules.specs.Form.Loading.{storedAt}
+use Rattle.reachable.specs.Invariant.{Reached, Reads, Commands}
 use Rattle.reachable.specs.Live
 use Rattle.reachable.specs.Live.{counted, drawn, pending, front-is, times}
 use Rattle.reachable.specs.Outstanding.{apart-snoc}
@@ -24,7 +25,7 @@ module _ (s : State) (f : Reached s) (q t i : ℕ) (d : Writes s q t i) (js : Li
   abbrev s′ : State
   s′ = doStep (writeNext q t i) js s
 
-  counted-kept : counted s′ ≡ counted s
+  pub counted-kept : counted s′ ≡ counted s
   unfolding doStep Turn.send counted drawn
   counted-kept = fun-ext (λ p. rw (ne-eqb (s .sent) 0 (d .busy), ne-eqb (suc i) 0 (omega arith)))
 
@@ -75,4 +76,13 @@ module _ (s : State) (f : Reached s) (q t i : ℕ) (d : Writes s q t i) (js : Li
     spent = λ p m j a n l hj. f .spent p m j a (d .busy) l hj;
     apart = apart-kept;
     commands = commands-kept;
+    tidy = record {
+      partitions = f .tidy .partitions;
+      places = f .tidy .places;
+      counters = f .tidy .counters;
+      marked = rw counted-kept (f .tidy .marked);
+      held = f .tidy .held;
+      whole = f .tidy .whole;
+      untouched = λ b m j hx e c. absurd (d .busy (f .unbegun c .1));
+    };
   }

@@ -1,5 +1,5 @@
 -- A read for a request is decided with one in hand only. Until it is released, a turn and a completion change no more of it than the level from which its
--- reads go on, and what it awaits.
+-- reads go on, and what it awaits. A load brings none.
 use mathlib.Core.Path.{_≡_, refl, ap, sym, _∙_}
 use mathlib.Core.Bool.{Bool, true, false, true≢false, _||_}
 use mathlib.Core.List.{List, [], _∷_}
@@ -10,6 +10,9 @@ use lib.Dec.{eqb, ltb}
 use Rattle.lists.specs.Search.{any}
 use Rattle.lists.specs.Tests.{if_then_else_}
 use Rattle.rules.specs.Completion.{complete}
+use Rattle.rules.specs.Form.Loading.{loaded, stateIn, loadedForm}
+use Rattle.rules.specs.Form.Reading.{Form, getForm}
+use Rattle.rules.specs.Form.Sums.{outOfBlocks}
 use Rattle.rules.specs.Laws.Shapes.{unawaited, complete-keeps}
 use Rattle.rules.specs.Questions.{turn, completion}
 use Rattle.rules.specs.Levels.{target}
@@ -17,7 +20,7 @@ use Rattle.rules.specs.Rebuild.{unread, doRebuild}
 use Rattle.rules.specs.Request.{passLevel, releasedFor}
 use Rattle.rules.specs.Run.{perform}
 use Rattle.rules.specs.Shape.{Shape, slots}
-use Rattle.rules.specs.State.{State, Command, Request}
+use Rattle.rules.specs.State.{State, closed, Command, Request}
 use Rattle.rules.specs.Turn.{Step, idle, noDummy, readForRequest, readForJob, rebuild, writeNext, gatherStep, rebuildStep, writeStep, jobStep, requestStep, decide, doStep, markRead, send}
 
 -- a read for a request
@@ -79,3 +82,11 @@ completion-asked s c bs js = sym (less (complete c bs s .request)) ∙ ap (λ (x
     less : (o : Option Request) → asked (unawaited o) ≡ asked o
     less none = refl
     less (some r) = refl
+
+pub loaded-idle : (form : List ℕ) → loadedForm form .request ≡ none
+unfolding loadedForm stateIn loaded
+loaded-idle form = go (getForm (outOfBlocks form))
+  where
+    go : (o : Option (Form × List ℕ)) → stateIn o .request ≡ none
+    go none = unfold closed in refl
+    go (some x) = refl

@@ -17,10 +17,11 @@ use Rattle.rules.specs.Completion
 use Rattle.rules.specs.Completion.{isCommand, awaitsLess, completed, complete}
 use Rattle.rules.specs.Draws.{draws}
 use Rattle.rules.specs.Laws.Answers.{Passed, opens, accepted-passed, accepted-leaves, refused-keeps}
+use Rattle.rules.specs.Laws.Asked.{loaded-idle}
 use Rattle.rules.specs.Laws.Found.{Between}
 use Rattle.rules.specs.Blocks.{holder, lookUp}
 use Rattle.rules.specs.Open.{fresh}
-use Rattle.rules.specs.Questions.{Ask, opening, request, turn, completion, collect, Call, bounds, questions, number, inHand}
+use Rattle.rules.specs.Questions.{Ask, opening, request, turn, completion, collect, save, load, Call, bounds, questions, number, inHand}
 use Rattle.rules.specs.Rebuild.{doRebuild}
 use Rattle.rules.specs.Request.{accept, blocked, held, levelsLeft, withFound, releasedIn, release, passLevel}
 use Rattle.rules.specs.Run
@@ -35,6 +36,8 @@ completes (request k b bs) xs = xs
 completes turn xs = xs
 completes (completion c bs) xs = without (isCommand c) xs
 completes collect xs = xs
+completes save xs = xs
+completes (load form) xs = xs
 
 unfoldable pub uncompleted : State → List Call → List Command → List Command
 uncompleted s [] xs = xs
@@ -194,6 +197,8 @@ module _ {b q : ℕ} where
   perform-awaits s turn m ws n js f o k y = turn-awaits s (decide s) js f
   perform-awaits s (completion c bs) m ws n js f o k y = completion-awaits s c bs f
   perform-awaits s collect m ws n js f o k y = absurd (k refl)
+  perform-awaits s save m ws n js f o k y = f
+  perform-awaits s (load form) m ws n js f o k y = absurd (true≢false o)
 
   step-awaits : {xs : List Command} (s : State) (c : Call) → Awaits xs b q s → opens (c .ask) ≡ false → (c .ask ≡ collect → number s c ≡ 0 → ⊥)
       → Awaits (if eqb (number s c) 0 then completes (c .ask) xs else xs) b q (step s c .0)
@@ -265,6 +270,8 @@ perform-held s collect js k = collected-held (s .request) k
     collected-held : (o : Option Request) → Holds o → Holds (collected o s .request)
     collected-held none h = unfold collected in k
     collected-held (some r) h = unfold collected finish in no-hand
+perform-held s save js k = k
+perform-held s (load form) js k = subst Holds (sym (loaded-idle form)) no-hand
 
 -- at its release a request awaits all that is outstanding
 release-all : (s : State) → Holds (s .request) → (r : Request) → release s .request ≡ some r → held r ≡ false → r .awaits ≡ length (s .outstanding)

@@ -16,7 +16,7 @@ use Rattle.rules.specs.Completion.{complete}
 use Rattle.rules.specs.Draws.{draws}
 use Rattle.rules.specs.Laws.Answers.{Passed, opens, accepted-passed, step-accepted, refused-keeps, accepted-leaves}
 use Rattle.rules.specs.Laws.Shapes.{unawaited, complete-keeps}
-use Rattle.rules.specs.Questions.{Ask, opening, request, turn, completion, collect, Call, bounds, questions, number, inHand}
+use Rattle.rules.specs.Questions.{Ask, opening, request, turn, completion, collect, save, load, Call, bounds, questions, number, inHand}
 use Rattle.rules.specs.Rebuild.{doRebuild}
 use Rattle.rules.specs.Request.{accept, undrawnOnly, isSource, worn, heldFor, blocked, held, withFound, releasedIn, release, passLevel}
 use Rattle.rules.specs.Run
@@ -30,7 +30,7 @@ unfoldable pub firstFound : State → ℕ → List Call → Found
 firstFound s b [] = lookUp s b
 firstFound s b (c ∷ cs) = if heldFor s (s .partition b) then firstFound (step s c .0) b cs else lookUp s b
 
--- Calls between a request and its collect: none is an open, and no collect is accepted
+-- Calls between a request and its collect: none is an open or a load, and no collect is accepted
 abbrev pub Between : State → List Call → Type 0
 Between s [] = Unit {0}
 Between s (c ∷ cs) = (opens (c .ask) ≡ false) × (c .ask ≡ collect → number s c ≡ 0 → ⊥) × Between (step s c .0) cs
@@ -102,6 +102,8 @@ perform-hand s (request j b bs) m ws n js p e o k y = absurd (busy s p e (y .1 .
 perform-hand s turn m ws n js p e o k y = turn-hand s (decide s) js ∙ e
 perform-hand s (completion c bs) m ws n js p e o k y = sym (hand-unawaited (complete c bs s .request)) ∙ ap (λ (x : Shape × Option Request). hand (x .1)) (complete-keeps s c bs) ∙ hand-unawaited (s .request) ∙ e
 perform-hand s collect m ws n js p e o k y = absurd (k refl)
+perform-hand s save m ws n js p e o k y = e
+perform-hand s (load form) m ws n js p e o k y = absurd (true≢false o)
 
 -- what one of these calls leaves: the state, or what it found
 module _ (s : State) (c : Call) (b : ℕ) (x : Option Found) (e : hand (s .request) ≡ some (b, x)) (o : opens (c .ask) ≡ false) (k : c .ask ≡ collect → number s c ≡ 0 → ⊥) where

@@ -1,6 +1,6 @@
 -- Every accepted call leaves each number of the state in its range.
-use mathlib.Core.Path.{_≡_, refl}
-use mathlib.Core.Bool.{Bool, true, false, not, _&&_}
+use mathlib.Core.Path.{_≡_, refl, sym}
+use mathlib.Core.Bool.{Bool, true, false, true≢false, not, _&&_}
 use mathlib.Core.List.{List, [], _∷_, _++_, map}
 use mathlib.Core.Option.{Option, none, some, Option·map}
 use Prim.Native.Nat.{ℕ, suc, _+_, _-_, _^_, _≤_, _<_}
@@ -13,7 +13,7 @@ use Rattle.lists.specs.Search
 use Rattle.lists.specs.Search.{indexOf}
 use Rattle.lists.specs.Lengths.{without-length, firstLeft-le}
 use Rattle.lists.specs.Tests
-use Rattle.lists.specs.Tests.{if_then_else_, and-l, and-r}
+use Rattle.lists.specs.Tests.{if_then_else_, and-l, and-r, every-yes}
 use Rattle.lists.specs.All.{All, nil, cons, IfSome, all-append, all-keep, all-without, all-getD, map-below, all-replicate, below-below}
 use Rattle.lists.specs.Tables.{put, putAll-has, put-has}
 use Rattle.rules.specs.Memory
@@ -37,10 +37,13 @@ use Rattle.rules.specs.Collect
 use Rattle.rules.specs.Laws.Answers.{Passed, settled-taken, accepted-passed, step-accepted, step-refused}
 use Rattle.rules.specs.Laws.Waiting.{Waits, leave-waits, pass-waits, others-room, waits-le}
 use Rattle.rules.specs.Questions
-use Rattle.rules.specs.Questions.{Ask, opening, request, turn, completion, collect, Call, bounds, questions, number}
+use Rattle.rules.specs.Questions.{Ask, opening, request, turn, completion, collect, save, load, Call, bounds, questions, number}
 use Rattle.rules.specs.Turn
 use Rattle.rules.specs.Turn.{Step, idle, noDummy, readForRequest, readForJob, rebuild, writeNext, decide, doStep}
 use Rattle.rules.specs.Completion
+use Rattle.rules.specs.Form.Sums.{outOfBlocks}
+use Rattle.rules.specs.Form.Reading.{Form, getForm}
+use Rattle.rules.specs.Form.Loading.{checks, sound, isSound, loads, stateIn, loadedForm}
 use Rattle.rules.specs.Ranges.{inRange, others, isKind}
 use Rattle.rules.specs.Draws.{newOrder, draws, Drew}
 use Rattle.rules.specs.Laws.Draws.{settles-drew}
@@ -275,6 +278,15 @@ fresh-in h js w d = record {
   cache = omega arith;
 }
 
+-- A form that loads brings a state in range, whoever made it
+pub loaded-in : (form : List ℕ) → loads form ≡ true → InRange (loadedForm form)
+unfolding loads loadedForm stateIn isSound sound checks
+loaded-in form e = go (getForm (outOfBlocks form)) e
+  where
+    go : (o : Option (Form × List ℕ)) → isSound o ≡ true → InRange (stateIn o)
+    go none e = absurd (true≢false (sym e))
+    go (some x) e = range-facts _ (every-yes (checks x) e .1 .0)
+
 module _ (s : State) (f : InRange s) where
   pub complete-in : (c : Command) (bs : List ℕ) → InRange (Completion.complete c bs s)
   unfolding Completion.complete Completion.completeRead Completion.completeWrite Completion.completed
@@ -294,6 +306,8 @@ module _ (s : State) (f : InRange s) where
   perform-in turn m ws k js p d = doStep-in s f (decide s) js (decide-in s f) (ltb-true (length (s .outstanding)) (s .shape .W) (p .1 .0))
   perform-in (completion c bs) m ws k js p d = complete-in c bs
   perform-in collect m ws k js p d = collected-in s f (s .request) (f .request) (f .jobs) (f .cache)
+  perform-in save m ws k js p d = f
+  perform-in (load form) m ws k js p d = loaded-in form (p .1 .0)
 
   -- Every accepted call leaves a state in range
   pub act-in : (a : Ask) (m : ℕ) (ws : List ℕ) (k : ℕ) (js : List ℕ) → Passed (questions s a m ws k) → Drew (bounds s a) js → InRange (act s a js)
@@ -320,6 +334,8 @@ accepted-in s (request j b bs) m ws k p =
 accepted-in s turn m ws k p = act-in s (given-in s m (p .0)) turn m ws k _ p (drew-of _ ws (stepBounds-pos (decide s)) (p .1 .1 .1 .1 .0))
 accepted-in s (completion c bs) m ws k p = act-in s (given-in s m (and-l (Questions.ready s m) (isKind (c .kind)) (p .0))) (completion c bs) m ws k _ p (unfold draws Run.numbersOf in tt)
 accepted-in s collect m ws k p = act-in s (given-in s m (p .0)) collect m ws k _ p (unfold draws Run.numbersOf in tt)
+accepted-in s save m ws k p = unfold act Run.perform in (release-in _ (given-in s m (and-l (Questions.ready s m) _ (p .0))))
+accepted-in s (load form) m ws k p = unfold act Run.perform in (release-in _ (loaded-in form (p .1 .0)))
 
 -- A state that calls left is closed or in range
 pub data Left (s : State) : Type 0 where
@@ -333,6 +349,8 @@ refuse-left s (request k b bs) l = l
 refuse-left s turn l = l
 refuse-left s (completion c bs) l = l
 refuse-left s collect l = l
+refuse-left s save l = l
+refuse-left s (load form) l = shut refl
 
 pub step-left : (s : State) (c : Call) → Left s → Left (step s c .0)
 step-left s c l = go (eqb (number s c) 0) refl

@@ -1,5 +1,5 @@
 -- What a release leaves as it was.
-use mathlib.Core.Path.{_≡_, refl, ap}
+use mathlib.Core.Path.{_≡_, refl, ap, sym, _∙_}
 use mathlib.Core.Bool.{Bool, true, false, not, _&&_}
 use mathlib.Core.List.{[]}
 use mathlib.Core.Option.{Option, none, some, Option·map}
@@ -11,7 +11,7 @@ use Rattle.lists.specs.Tests.{if_then_else_}
 use Rattle.rules.specs.Blocks.{holder, slotBytes, zeros, lookUp}
 use Rattle.rules.specs.Request.{blocked, held, withFound, releasedIn, release}
 use Rattle.rules.specs.Silent.{heldOnly, withoutFound, unseenIn, releaseUnseen}
-use Rattle.rules.specs.Questions.{Ask, opening, request, turn, completion, collect}
+use Rattle.rules.specs.Questions.{Ask, opening, request, turn, completion, collect, save, load}
 use Rattle.rules.specs.Run.{written, handed}
 use Rattle.rules.specs.Turn.{decide, command}
 use Rattle.rules.specs.Setters.{setRequest}
@@ -53,6 +53,8 @@ handed-release s (request k b bs) s′ = refl
 handed-release s turn s′ = written-release s′ (command (decide s))
 handed-release s (completion c bs) s′ = refl
 handed-release s collect s′ = refl
+handed-release s save s′ = refl
+handed-release s (load form) s′ = refl
 
 -- a release that looks nothing up leaves the same but for what was found
 pub unseen-release : (s : State) → withoutFound (releaseUnseen s) ≡ withoutFound (release s)
@@ -75,3 +77,9 @@ handed-unseen s (request k b bs) s′ = refl
 handed-unseen s turn s′ = written-same s′ (Option·map (unseenIn s′) (s′ .request)) (command (decide s))
 handed-unseen s (completion c bs) s′ = refl
 handed-unseen s collect s′ = refl
+handed-unseen s save s′ = refl
+handed-unseen s (load form) s′ = refl
+
+-- without a request none is released
+pub release-none : (s : State) → s .request ≡ none → release s ≡ s
+release-none s e = ap (λ (o : Option Request). setRequest o s) (ap (Option·map (releasedIn s)) e ∙ sym e)

@@ -10,7 +10,7 @@ use Rattle.rules.specs.Blocks.{holder}
 use Rattle.rules.specs.Collect.{collected, finish}
 use Rattle.rules.specs.Completion.{complete, completeRead, completeWrite, completed, gatherBytes, finishJob, endJob, jobDone, awaitsLess}
 use Rattle.rules.specs.Laws.Answers.{opens}
-use Rattle.rules.specs.Questions.{Ask, opening, request, turn, completion, collect}
+use Rattle.rules.specs.Questions.{Ask, opening, request, turn, completion, collect, save, load}
 use Rattle.rules.specs.Rebuild.{doRebuild}
 use Rattle.rules.specs.Request.{accept}
 use Rattle.rules.specs.Run.{act, perform}
@@ -72,3 +72,5 @@ act-shape s (request k b bs) js o = refl
 act-shape s turn js o = turn-shape s (decide s) js
 act-shape s (completion c bs) js o = ap (λ (x : Shape × Option Request). x .0) (complete-keeps s c bs)
 act-shape s collect js o = collect-shape s (s .request)
+act-shape s save js o = refl
+act-shape s (load form) js o = absurd (true≢false o)

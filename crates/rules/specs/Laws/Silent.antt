@@ -16,6 +16,7 @@ use Rattle.rules.specs.Blocks
 use Rattle.rules.specs.Collect
 use Rattle.rules.specs.Completion
 use Rattle.rules.specs.Draws.{draws}
+use Rattle.rules.specs.Form.Payload.{savedForm}
 use Rattle.rules.specs.Laws.Answers.{step-accepted, step-refused, open-first}
 use Rattle.rules.specs.Laws.Kept.{Left, shut, live, step-left}
 use Rattle.rules.specs.Laws.Range.{InRange, FoundIn, RequestIn, JobsIn, facts-range}
@@ -25,7 +26,7 @@ use Rattle.rules.specs.Laws.Waiting.{Waits}
 use Rattle.rules.specs.Memory.{needed}
 use Rattle.rules.specs.Rebuild
 use Rattle.rules.specs.Questions
-use Rattle.rules.specs.Questions.{Ask, opening, request, turn, completion, collect, Call, bounds, questions, number}
+use Rattle.rules.specs.Questions.{Ask, opening, request, turn, completion, collect, save, load, Call, bounds, questions, number}
 use Rattle.rules.specs.Request
 use Rattle.rules.specs.Request.{held, release}
 use Rattle.rules.specs.Run
@@ -169,6 +170,8 @@ module _ (s : State) where
   bounds-without turn = rw decide-without
   bounds-without (completion c bs) = refl
   bounds-without collect = refl
+  bounds-without save = refl
+  bounds-without (load form) = refl
 
   command-without : (a : Ask) → Run.sentCommand (withoutFound s) a ≡ Run.sentCommand s a
   unfolding Run.sentCommand
@@ -177,6 +180,8 @@ module _ (s : State) where
   command-without turn = rw decide-without
   command-without (completion c bs) = refl
   command-without collect = refl
+  command-without save = refl
+  command-without (load form) = refl
 
   perform-without : (a : Ask) (js : List ℕ) → withoutFound (perform (withoutFound s) a js) ≡ withoutFound (perform s a js)
   unfolding perform
@@ -185,6 +190,13 @@ module _ (s : State) where
   perform-without turn js = rw decide-without (step-without s (decide s) js)
   perform-without (completion c bs) js = complete-without s c bs
   perform-without collect js = collected-without s (s .request) refl
+  perform-without save js = rw (without-twice (s .request))
+  perform-without (load form) js = refl
+
+  -- a form says nothing of the request in hand
+  form-without : savedForm (withoutFound s) ≡ savedForm s
+  unfolding model
+  form-without = refl
 
   act-without : (a : Ask) (js : List ℕ) → withoutFound (act (withoutFound s) a js) ≡ withoutFound (act s a js)
   unfolding act
@@ -208,6 +220,8 @@ module _ (s : State) where
   handed-without turn js = rw (decide-without s) (written-without (act (withoutFound s) turn js) (act s turn js) (Turn.command (decide s)) (act-without s turn js))
   handed-without (completion c bs) js = refl
   handed-without collect js = answer-without s (s .request)
+  handed-without save js = form-without s
+  handed-without (load form) js = refl
 
   module _ (f : InRange s) where
     without-in : InRange (withoutFound s)
@@ -243,6 +257,8 @@ module _ (s : State) where
         go turn = unfold questions bounds in (rw (ready-without (c .memory), decide-without s, possible-without s (decide s)))
         go (completion d bs) = unfold questions in (rw (ready-without (c .memory)))
         go collect = unfold questions in (rw (ready-without (c .memory), inHand-without (s .request), finished-without s (s .request)))
+        go save = unfold questions Questions.atRest in (rw (ready-without (c .memory), none-without (s .request), form-without s))
+        go (load form) = unfold questions in refl
 
     accepted-without : (c : Call) → number s c ≡ 0
         → (untold (step (withoutFound s) c .1) ≡ untold (step s c .1)) × (withoutFound (step (withoutFound s) c .0) ≡ withoutFound (step s c .0))
@@ -269,6 +285,8 @@ module _ (s : State) where
         kept turn = unfold refuse in (rw (without-twice (s .request)))
         kept (completion d bs) = unfold refuse in (rw (without-twice (s .request)))
         kept collect = unfold refuse in (rw (without-twice (s .request)))
+        kept save = unfold refuse in (rw (without-twice (s .request)))
+        kept (load form) = unfold refuse in refl
 
 -- The state without where the block was found is answered the same number, words, command and bytes, and the call leaves the same but for that
 pub step-silent : (s : State) → Left s → (c : Call)

@@ -58,7 +58,6 @@ returns c =
     let a = c .before .before .before .before .before .before .before .before .before .before .before .before .before .before .before .before .before .before in
     let r = a .args in
     let p = a .pre in
-    let some : 1 ≤ r .c .shape .b = p .0 .usable .room .someBytes in
     let long : length (r .buffer .now) ≡ r .c .shape .b = p .7 in
     rw (c .sent .ensures) (write-performs (r .c) (r .m .now) (r .tape .now) (r .buffer .now) (rebuild (r .q) (r .t)) (p .0) (r .q) (r .t) 0 refl refl _ _ _ (r .words) (room-yes (stateOf (r .c) (r .m .now)) (r .q) (r .t) (r .k) (r .list .now) (p .2) (p .3)) long (p .5) (p .6) (sent-length (c .before .before .before .before .before .before .before .before))
     (rebuild-sent (r .c) (k .result) (s .result) (r .m .now) (k .last .1 .0) (s .last .1 .0) (r .q) (r .t) _ (k .ensures .0) (k .ensures .3) (k .ensures .2) (s .ensures .0) (s .ensures .1)) (omega arith) (o .ensures))

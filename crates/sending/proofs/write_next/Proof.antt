@@ -75,7 +75,6 @@ returns-2 c =
     let f = c .before .before .before .before .before .before .before .before .before .before .before in
     let a = f .before .before .before .before in
     let r = a .args in
-    let some : 1 ≤ r .c .shape .b = a .pre .usable .room .someBytes in
     rw (c .sent .ensures) (λ tape. write-performs (r .c) (r .m .now) tape (r .buffer .now) (writeNext (r .q) (r .t) (r .i)) (a .pre) (r .q) (r .t) (r .i) refl refl _ _ _ 0 refl (f .if1 .left) refl refl (sent-length (c .before .before .before .before .before .before .before .before))
     (write-sent (r .c) (p .result) (s .result) (r .m .now) (s .last .1 .0) [] (r .q) (r .t) (r .i) (p .ensures) (s .ensures .0) (s .ensures .1) _) (omega arith) (o .ensures))
 

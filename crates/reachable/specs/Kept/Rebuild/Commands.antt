@@ -4,17 +4,24 @@ use mathlib.Core.Logic.{_⊎_, inl, inr, ⊎-elim}
 use mathlib.Core.Bool.{true, false}
 use mathlib.Core.Option.{some}
 use mathlib.Core.List.{List, [], _∷_}
-use Prim.Native.Nat.{ℕ, _<_, _-_}
+use Prim.Native.Nat.{ℕ, _<_, _-_, _+_, _≤_}
 use native.Mathlib.Omega.{arith}
 use lib.Dec.{eqb}
-use lib.ListN.{getD}
+use lib.ListN.{getD, length, replicate, length-replicate, length-map}
 use borrow.Author.Tests.{eqb-false}
-use Rattle.lists.specs.All.{nil, cons, all-append, all-map, all-both, drop-snoc}
+use Rattle.lists.specs.All.{nil, cons, all-append, all-map, all-both, drop-snoc, all-getD, all-replicate}
 use Rattle.lists.specs.Totals.{total-same}
+use native.Mathlib.Decide.{decLt}
+use Rattle.rules.specs.Rebuild
+use Rattle.reachable.specs.Bits.{grown-at}
+use Rattle.lists.specs.Search.{below}
+use Rattle.lists.specs.Lengths.{length-below}
+use Rattle.lists.specs.Tables.{putAll-before, putAll-behind, putAll-has}
+use Rattle.rules.specs.Laws.Form.Saveable.{FilledCell}
 use Rattle.lists.specs.Distinct.{Mem, index}
 use Rattle.lists.specs.Members.{all-mem, decMem}
 use Rattle.rules.specs.Laws.Range.{InRange, CommandIn}
-use Rattle.rules.specs.Levels.{sources}
+use Rattle.rules.specs.Levels.{sources, filled}
 use Rattle.rules.specs.Rebuild.{gathered, doRebuild}
 use Rattle.rules.specs.Blocks.{readsOf}
 use Rattle.rules.specs.Request
@@ -22,11 +29,12 @@ use Rattle.rules.specs.Request.{isFront}
 use Rattle.rules.specs.Shape.{slots, Shape, cell}
 use Rattle.rules.specs.State.{State, Command, write, Request, cmd, stored}
 use Rattle.rules.specs.Turn
-use Rattle.reachable.specs.Blocks.{place-lt, stored-inj, target-min, chosen-waits}
+use Rattle.reachable.specs.Blocks.{place-lt, stored-inj, target-min, chosen-waits, gathered-lt}
 use Rattle.reachable.specs.Consequences.{sources-read, block-lt}
-use Rattle.reachable.specs.Invariant.{Reached, Unworn, Unread, Own, Spent, Fetched, Reading, Commands, storedAt}
+use Rattle.reachable.specs.Invariant.{Reached, Unworn, Unread, Own, Spent, Fetched, Reading, Commands, Tidy, SlotCell}
+use Rattle.rules.specs.Form.Loading.{storedAt}
 use Rattle.reachable.specs.Kept.Rebuild.Counts.{room-kept, full-kept}
-use Rattle.reachable.specs.Kept.Rebuild.Drawing.{Drawing, place-in, partition-in, place-out, above-target, top-lt, waiting-kept, orders-kept}
+use Rattle.reachable.specs.Kept.Rebuild.Drawing.{Drawing, place-in, partition-in, place-out, above-target, top-lt, waiting-kept, orders-kept, stays, front-lt, count-q, levels-some, counter-lt}
 use Rattle.reachable.specs.Kept.Rebuild.Holds.{agree-kept, taken-kept}
 use Rattle.reachable.specs.Kept.Rebuild.Marks.{mark-here, mark-else, items-kept, begun-kept, reads-kept}
 use Rattle.reachable.specs.Live
@@ -116,6 +124,97 @@ module _ (s : State) (f : Reached s) (q t : ℕ) (o : List ℕ) (d : Drawing s q
       (λ j hj. ap (λ v. 1 - v) (mark-else s f q t o d (s .partition (x .block)) ℓ j hℓ hj (λ w. d .step .apart x e k (sym (w .0))))) in
       omega (arith, same, f .unworn x e k ℓ l hℓ full (λ g. other x e k (g .0)))
 
+  abbrev start : ℕ
+  start = cell h q t 0
+
+  -- the cells that are written are the target's
+  written-cell : (c : ℕ) → start ≤ c → c < start + slots t → c ≡ cell h q t (c - start)
+  unfolding cell
+  written-cell c l u = omega arith
+
+  target-cell : (i : ℕ) {c : ℕ} → c ≡ cell h q t i → i < slots t → (start ≤ c) × (c < start + slots t)
+  unfolding cell
+  target-cell i e l = omega arith
+
+  sent-mark : (c : ℕ) → s′ .mark c ≡ doRebuild q t o s .mark c
+  unfolding Turn.send
+  sent-mark c = refl
+
+  marked-kept : (c : ℕ) → ¬ (s′ .mark c ≡ 0) → FilledCell h (counted s′) c
+  unfolding Turn.send counted drawn
+  marked-kept c n = go (decLt c start) (decLt c (start + slots t))
+    where
+      many : start + length {A = ℕ} (replicate (slots t) 1) ≡ start + slots t
+      many = ap (λ x. start + x) (length-replicate (slots t) 1)
+
+      old : doRebuild q t o s .mark c ≡ s .mark c → ¬ ((start ≤ c) × (c < start + slots t)) → FilledCell h (counted s′) c
+      old e out =
+          let d′ = f .tidy .marked c (λ z. n (sent-mark c ∙ e ∙ z)) in
+          record {
+            part = d′ .part;
+            level = d′ .level;
+            slot = d′ .slot;
+            inParts = d′ .inParts;
+            inLevels = d′ .inLevels;
+            isFilled = stays s f q t o d (d′ .part) (d′ .level) (d′ .inLevels) (above d′) (d′ .isFilled);
+            inSlots = d′ .inSlots;
+            isCell = d′ .isCell;
+          }
+        where
+          above : (d′ : FilledCell h (counted s) c) → d′ .part ≡ q → t < d′ .level
+          above d′ w = by (decLt t (d′ .level)) (decLt (d′ .level) t)
+            where
+              same : d′ .level ≡ t → c ≡ cell h q t (d′ .slot)
+              same z = d′ .isCell ∙ ap (λ p. cell h p (d′ .level) (d′ .slot)) w ∙ ap (λ m. cell h q m (d′ .slot)) z
+
+              by : Dec (t < d′ .level) → Dec (d′ .level < t) → t < d′ .level
+              by (yes l) g = l
+              by (no l) (yes g) =
+                  let u = sources-read s f q t (d .step) (d′ .level) (d′ .slot) (omega (arith, d .step .goal, target-min h (s .counter q))) (d′ .inSlots) in
+                  absurd (n (sent-mark c ∙ e ∙ ap (s .mark) (d′ .isCell ∙ ap (λ p. cell h p (d′ .level) (d′ .slot)) w) ∙ u))
+              by (no l) (no g) =
+                  let z : d′ .level ≡ t = omega arith in
+                  absurd (out (target-cell (d′ .slot) (same z) (rw (← z) (d′ .inSlots))))
+
+      go : Dec (c < start) → Dec (c < start + slots t) → FilledCell h (counted s′) c
+      go (yes l) u = old (unfold doRebuild in (putAll-before start (replicate (slots t) 1) (s .mark) c l)) (λ z. omega (arith, z .0))
+      go (no l) (no u) = old (unfold doRebuild in (putAll-behind start (replicate (slots t) 1) (s .mark) c (omega (arith, many)))) (λ z. omega (arith, z .1))
+      go (no l) (yes u) = record {
+        part = q;
+        level = t;
+        slot = c - start;
+        inParts = front-lt s f q t o d;
+        inLevels = top-lt s f q t o d;
+        isFilled = ap (λ g. filled g t) (count-q s f q t o d) ∙ rw (d .step .goal) (grown-at h (s .counter q) (levels-some s f q t o d) (counter-lt s f q t o d));
+        inSlots = omega arith;
+        isCell = written-cell c (omega arith) u;
+      }
+
+  held-kept : (c : ℕ) → ¬ (s′ .holds c ≡ 0) → SlotCell h c
+  unfolding Turn.send doRebuild Rebuild.cleared
+  held-kept c = putAll-has (λ v. ¬ (v ≡ 0) → SlotCell h c) start (Rebuild.newHolds (slots t) (gathered s q) o) _ c
+      (λ l u n. record { part = q; level = t; slot = c - start; inParts = front-lt s f q t o d; inLevels = top-lt s f q t o d; inSlots = omega (arith, many); isCell = written-cell c l (omega (arith, many)) })
+      (putAll-has (λ v. ¬ (v ≡ 0) → SlotCell h c) (cell h q 0 0) (replicate (slots (sources h (s .counter q)) - 2) 0) (s .holds) c
+      (λ l u n. absurd (n (zeros (slots (sources h (s .counter q)) - 2) (c - cell h q 0 0)))) (f .tidy .held c))
+    where
+      many : length (Rebuild.newHolds (slots t) (gathered s q) o) ≡ slots t
+      many = unfold Rebuild.newHolds in (length-map (below (slots t)) _ ∙ length-below (slots t))
+
+      zeros : (n i : ℕ) → _≡_ {A = ℕ} (getD (replicate n 0) i 0) 0
+      zeros n i = let z : _≡_ {A = ℕ} 0 0 = refl in all-getD i (all-replicate (λ x. x ≡ 0) n 0 z) z
+
+  tidy-kept : Tidy s′
+  unfolding Turn.send doRebuild
+  tidy-kept = record {
+    partitions = f .tidy .partitions;
+    places = λ b l. place-out s f q t o d b (λ m. omega (arith, gathered-lt s q b m)) ∙ f .tidy .places b l;
+    counters = f .tidy .counters;
+    marked = marked-kept;
+    held = held-kept;
+    whole = f .tidy .whole;
+    untouched = λ b m j hx e c. absurd (omega arith);
+  }
+
   pub rebuild-kept : Reached s′
   unfolding Turn.send doRebuild counted drawn storedAt Live.storedIn pending Request.held
   rebuild-kept = record {
@@ -141,4 +240,5 @@ module _ (s : State) (f : Reached s) (q t : ℕ) (o : List ℕ) (d : Drawing s q
     spent = spent-kept;
     apart = apart-kept;
     commands = commands-kept;
+    tidy = tidy-kept;
   }

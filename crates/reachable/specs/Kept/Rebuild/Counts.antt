@@ -15,7 +15,8 @@ use Rattle.rules.specs.Rebuild.{gathered, doRebuild, chosen}
 use Rattle.rules.specs.Shape.{Shape}
 use Rattle.rules.specs.State.{State, stored}
 use Rattle.reachable.specs.Blocks.{at-why, is-in, why-at, in-is, stored-inj, nodup-at, in-why, why-in, is-below, place-lt, lt-below, nodup-in}
-use Rattle.reachable.specs.Invariant.{Reached, storedAt, isIn, Room, Full}
+use Rattle.rules.specs.Form.Loading.{storedAt, isIn}
+use Rattle.reachable.specs.Invariant.{Reached, Room, Full}
 use Rattle.reachable.specs.Kept.Rebuild.Drawing.{Drawing, place-out, above-target, place-in, partition-in, front-lt}
 use Rattle.reachable.specs.Live
 use Rattle.reachable.specs.Slots.{gathered-why, chosen-room}
