@@ -5,7 +5,7 @@ use memory::tables::Table;
 ghost use mathlib.Core.Path.{_≡_};
 ghost use mathlib.Core.List.{_∷_, [], _++_};
 ghost use Prim.Native.Nat.{_+_, _-_, _<_, _≤_};
-ghost use lib.ListN.{length};
+ghost use lib.ListN.{length, replicate};
 ghost use Rattle.lists.specs.Search.{member};
 ghost use Rattle.rules.specs.Ranges.{others};
 ghost use Rattle.rules.specs.Setters.{setWaiting};
@@ -13,7 +13,11 @@ ghost use Rattle.client.specs.View.{stateOf};
 ghost use Rattle.client.specs.Rows.{dropAt};
 ghost use Rattle.client.specs.Moves.{withWaiting, Room, Stands};
 ghost use Rattle.cache.specs.Longest.{Longest};
+ghost use Rattle.cache.specs.Marks.{marksRoom, Marked};
 ghost use Rattle.cache.specs.Waiting.{blocksIn, FirstAt, Joined};
+
+// A byte for each block of the largest store.
+pub const BLOCKS: usize = 4096;
 
 // The first place of block b in the cache, or the number of those that wait.
 fn place(c: Client, m: &[u8], b: usize) -> usize
@@ -53,6 +57,20 @@ fn waits(c: Client, m: &[u8], b: usize) -> bool
         i += 1;
     }
     k != 0
+}
+
+// Marks the blocks of the cache's list, so that a pass over all blocks asks one byte of each.
+pub fn mark_waiting(c: Client, m: &[u8], marks: &mut [u8; BLOCKS])
+    requires { ⌜ Room c (now m) × (c .waiting ≤ c .shape .n) × (now marks ≡ replicate marksRoom 0) ⌝ }
+    ensures { λ _. ⌜ Marked (stateOf c (now (m .entry)) .waiting) (now (marks .exit)) ⌝ }
+{
+    let n = c.waiting;
+    let mut i = 0;
+    while i < n {
+        let b = memory::tables::waiting(c.shape, m, i);
+        marks[b] = 1;
+        i += 1;
+    }
 }
 
 // The place in the cache of the block that has waited longest for partition q.

@@ -7,7 +7,6 @@ use lib.ListN.{length, getD, set}
 use lib.Dec.{eqb}
 use Rattle.lists.specs.Tests.{if_then_else_}
 use Rattle.lists.specs.Search.{keep, below, member}
-use Rattle.lists.specs.Lengths.{bit}
 use Rattle.rules.specs.State.{State}
 use Rattle.rules.specs.Blocks.{isNowhere}
 use Rattle.rules.specs.Figures.{nowhereBlocks, storedBlocks, waitingBlocks}
@@ -19,10 +18,6 @@ mostPartitions = 64
 -- four rows of 65 entries
 abbrev pub tableRoom : ℕ
 tableRoom = 260
-
--- a byte for each block of the largest store
-abbrev pub marksRoom : ℕ
-marksRoom = 4096
 
 -- where a row's entry lies
 abbrev pub entryAt : ℕ → ℕ → ℕ
@@ -47,10 +42,6 @@ pub record Counted (s : State) (table : List ℕ) : Type 0 where
   pub stored : Row (s .partition) (storedBlocks s) 1 table
   pub waiting : Row (s .partition) (waitingBlocks s) 2 table
   pub queued : Row (λ j. j) (s .queue) 3 table
-
--- A byte for each block says whether it is in a list
-abbrev pub Marked : List ℕ → List ℕ → Type 0
-Marked xs marks = (b : ℕ) → b < marksRoom → getD marks b 0 ≡ bit (member b xs)
 
 -- the row of a block, by its place: 0 nowhere, 1 stored, 2 waiting
 unfoldable pub rowOf : Bool → Bool → ℕ

@@ -5,18 +5,15 @@ use mathlib.Core.List.{List, [], _∷_, _++_}
 use Prim.Native.Nat.{ℕ, _+_, _≤_, _<_}
 use native.Mathlib.Omega.{arith}
 use native.Mathlib.Decide.{ℕ-discrete}
-use lib.ListN.{length, getD, set, replicate, length-set, length-append, getD-replicate}
+use lib.ListN.{length, getD, replicate, length-set, length-append, getD-replicate}
 use lib.Seq.{getD-set-same, getD-set-other}
 use lib.Dec.{eqb}
 use borrow.Author.Tests.{eq-eqb, ne-eqb}
-use Rattle.lists.specs.Search.{keep, any, below, count, member}
-use Rattle.lists.specs.Lengths.{bit, keep-le, length-below, below-last, keep-end-yes, keep-end-no}
-use Rattle.lists.specs.Members.{member-end-same, member-end-other}
+use Rattle.lists.specs.Search.{keep, below, count, member}
+use Rattle.lists.specs.Lengths.{keep-le, length-below, below-last, keep-end-yes, keep-end-no}
 use Rattle.rules.specs.State.{State}
 use Rattle.rules.specs.Blocks.{isNowhere}
-use Rattle.client.specs.View.{rows}
-use Rattle.client.specs.Rows.{rows-snoc}
-use Rattle.counting.specs.Counts.{marksRoom, tableRoom, mostPartitions, entryAt, Row, more, added, Marked, rowOf, CountedTo}
+use Rattle.counting.specs.Counts.{tableRoom, mostPartitions, entryAt, Row, more, added, rowOf, CountedTo}
 
 -- ---- One entry of a table
 
@@ -131,27 +128,3 @@ counted-beside s n q t short size r = record {
   stored = row-other (s .partition) _ 3 q t short (omega arith) size 1 (λ z. omega arith) (r .stored);
   waiting = row-other (s .partition) _ 3 q t short (omega arith) size 2 (λ z. omega arith) (r .waiting);
 }
-
--- ---- One block of the cache's list
-
-pub bit-yes : (t : Bool) → bit t ≡ 1 → t ≡ true
-unfolding bit
-bit-yes true e = refl
-bit-yes false e = absurd (omega arith)
-
-pub bit-no : (t : Bool) → (bit t ≡ 1 → ⊥) → t ≡ false
-unfolding bit
-bit-no true n = absurd (n refl)
-bit-no false n = refl
-
-pub marked-none : Marked [] (replicate marksRoom 0)
-unfolding member any bit
-marked-none b l = getD-replicate marksRoom b 0 0 l
-
-pub marked-more : (g : ℕ → ℕ) (i : ℕ) (marks : List ℕ) → length marks ≡ marksRoom → g i < marksRoom → Marked (rows g i) marks → Marked (rows g (i + 1)) (set marks (g i) 1)
-unfolding bit
-marked-more g i marks size l r b h = rw (rows-snoc g i) (go (ℕ-discrete b (g i)))
-  where
-    go : Dec (b ≡ g i) → getD (set marks (g i) 1) b 0 ≡ bit (member b (rows g i ++ (g i ∷ [])))
-    go (yes e) = rw (e, member-end-same (g i) (rows g i)) (getD-set-same marks (g i) 1 0 (omega arith))
-    go (no n) = getD-set-other marks (g i) b 1 0 n ∙ r b h ∙ ap bit (sym (member-end-other b (g i) (rows g i) n))

@@ -1,4 +1,5 @@
 // Blocks by their place and jobs by their partition, each counted in one pass: the figures of a page.
+use cache::BLOCKS;
 use client::Client;
 ghost use mathlib.Core.Path.{_≡_};
 ghost use mathlib.Core.List.{[]};
@@ -8,7 +9,8 @@ ghost use Rattle.rules.specs.Blocks.{isNowhere};
 ghost use Rattle.lists.specs.Search.{member};
 ghost use Rattle.client.specs.View.{stateOf};
 ghost use Rattle.client.specs.Moves.{Room};
-ghost use Rattle.counting.specs.Counts.{marksRoom, tableRoom, mostPartitions, entryAt, added, rowOf, Row, Marked, Counted, CountedTo};
+ghost use Rattle.cache.specs.Marks.{Marked};
+ghost use Rattle.counting.specs.Counts.{tableRoom, mostPartitions, entryAt, added, rowOf, Row, Counted, CountedTo};
 
 // The rows of the table: blocks nowhere, stored and waiting, and jobs queued.
 pub const NOWHERE: usize = 0;
@@ -24,9 +26,6 @@ pub const ALL: usize = 64;
 
 // Four rows.
 pub const TABLE: usize = 260;
-
-// A byte for each block of the largest store.
-const BLOCKS: usize = 4096;
 
 // Where the entry of a row lies.
 pub fn entry(row: usize, q: usize) -> usize
@@ -45,20 +44,6 @@ fn add(table: &mut [usize; TABLE], row: usize, q: usize)
     table[i] = table[i] + 1;
     let all = entry(row, ALL);
     table[all] = table[all] + 1;
-}
-
-// Marks the blocks of the cache's list, so that the pass over all blocks asks one byte of each.
-fn mark_waiting(c: Client, m: &[u8], marks: &mut [u8; BLOCKS])
-    requires { ⌜ Room c (now m) × (c .waiting ≤ c .shape .n) × (now marks ≡ replicate marksRoom 0) ⌝ }
-    ensures { λ _. ⌜ Marked (stateOf c (now (m .entry)) .waiting) (now (marks .exit)) ⌝ }
-{
-    let n = c.waiting;
-    let mut i = 0;
-    while i < n {
-        let b = memory::tables::waiting(c.shape, m, i);
-        marks[b] = 1;
-        i += 1;
-    }
 }
 
 // The row of block b.
@@ -108,7 +93,7 @@ pub fn count(c: Client, m: &[u8], table: &mut [usize; TABLE])
     ensures { λ _. ⌜ Counted (stateOf c (now (m .entry))) (now (table .exit)) ⌝ }
 {
     let mut marks = [0u8; BLOCKS];
-    mark_waiting(c, m, &mut marks);
+    cache::mark_waiting(c, m, &mut marks);
     count_blocks(c, m, &marks, table);
     count_jobs(c, m, table);
 }

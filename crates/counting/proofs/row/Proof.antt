@@ -7,7 +7,7 @@ use Rattle.client.specs.View.{stateOf}
 use Rattle.client.specs.Readings.{place-as}
 use Rattle.client.specs.Changes.{stored-not, nowhere-is}
 use Rattle.counting.specs.Counts.{rowOf}
-use Rattle.counting.specs.Laws.{bit-yes, bit-no}
+use Rattle.cache.specs.Marks.{bit-yes, bit-no}
 use Rattle.counting.proofs.row.Statement.{statement}
 use Rattle.counting.proofs.row.Tie as tie
 

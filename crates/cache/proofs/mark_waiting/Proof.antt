@@ -8,10 +8,9 @@ use Rattle.memory.specs.Tables.{tablesOf}
 use Rattle.memory.specs.Fits.{shapeOf, fit-lt}
 use Rattle.client.specs.View.{rows, view, stateOf}
 use Rattle.client.specs.Changes.{fitted}
-use Rattle.counting.specs.Counts.{marksRoom, Marked}
-use Rattle.counting.specs.Laws.{marked-none, marked-more}
-use Rattle.counting.proofs.mark_waiting.Statement.{statement}
-use Rattle.counting.proofs.mark_waiting.Tie as tie
+use Rattle.cache.specs.Marks.{marksRoom, Marked, marked-none, marked-more}
+use Rattle.cache.proofs.mark_waiting.Statement.{statement}
+use Rattle.cache.proofs.mark_waiting.Tie as tie
 
 abbrev Inv-loop : tie.InvT-loop
 Inv-loop c m marks₀ n i₀ marks i = (i ≤ n) × (length marks ≡ marksRoom) × Marked (rows (fitted (c .shape .n) (tablesOf (shapeOf (c .shape)) m .waiting)) i) marks

@@ -1,0 +1,92 @@
+use Prim.Native.Nat.{_-_, _≤_}
+use native.Mathlib.Omega.{arith}
+use Rattle.lists.specs.Search.{below, count}
+use Rattle.rules.specs.Form.Numbers.{each}
+use Rattle.printing.specs.Written.{Written, nothing, same-text}
+use Rattle.rules.specs.Shape.{slots}
+use Rattle.client.specs.View.{stateOf}
+use Rattle.levels.specs.Slots.{cell-lt}
+use Rattle.memory.specs.Fits.{shapeOf}
+use Rattle.saving.specs.Parts.{markIn, room, grown, all-of}
+use Rattle.saving.specs.Entries.{mark-low, mark-byte}
+use borrow.Author.Needs.{needs}
+use Rattle.saving.proofs.payload.read_marks.Statement.{statement}
+use Rattle.saving.proofs.payload.read_marks.Tie as tie
+
+abbrev Inv-loop : tie.InvT-loop
+Inv-loop c m q l buffer₀ at n base k₀ i₀ buffer k i = (i ≤ n) × Written buffer₀ at (each (markIn (stateOf c m) q l) (below i)) buffer k
+
+abbrev μ-loop : tie.MeasureT-loop
+μ-loop c m q l buffer₀ at n base k₀ i₀ buffer k i = n - i
+
+add-pow2 : tie.Need-add-pow2 Inv-loop μ-loop
+add-pow2 c = search needs
+
+pow2-requires : tie.Need-pow2-requires Inv-loop μ-loop
+pow2-requires c κs = search needs
+
+cell-requires : tie.Need-cell-requires Inv-loop μ-loop
+cell-requires c κs = search needs
+
+loop-holds : tie.Need-loop-holds Inv-loop μ-loop
+unfolding each below count
+loop-holds c = (omega arith, nothing _ _)
+
+add-mark : tie.Need-add-mark Inv-loop μ-loop
+add-mark c = search needs
+
+mark-requires : tie.Need-mark-requires Inv-loop μ-loop
+mark-requires c κs =
+    let a = c .before .before .before .before .before .before .before in
+    (a .pre .0, cell-lt (shapeOf (a .args .c .shape)) (a .args .q) (a .args .l) (c .before .before .before .cell .result) (c .before .before .loop .i) (c .before .before .before .cell .ensures .0) (a .pre .1) (a .pre .2) (omega arith))
+
+sub-byte : tie.Need-sub-byte Inv-loop μ-loop
+sub-byte c =
+    let a = c .before .before .before .before .before .before .before .before .args in
+    omega (arith, mark-low (a .c) (a .m .now) (a .q) (a .l) (c .before .before .before .before .cell .result) (c .before .before .before .loop .i) (c .mark .result) (c .before .before .before .before .cell .ensures .0) (c .mark .ensures))
+
+byte-requires : tie.Need-byte-requires Inv-loop μ-loop
+byte-requires c κs =
+    let a = c .before .before .before .before .before .before .before .before in
+    omega (arith, room (markIn (stateOf (a .args .c) (a .args .m .now)) (a .args .q) (a .args .l)) (c .before .before .before .loop .i) (slots (a .args .l)) (c .before .before .before .loop .inv .1) (omega arith) (a .pre .3))
+
+add-i : tie.Need-add-i Inv-loop μ-loop
+add-i c = search needs
+
+loop-less : tie.Need-loop-less Inv-loop μ-loop
+loop-less c = search needs
+
+loop-again : tie.Need-loop-again Inv-loop μ-loop
+loop-again c =
+    let a = c .before .before .before .before .before .before .before .before .before .before .before in
+    let l = c .before .before .before .before .before .before .loop in
+    (omega arith, grown (markIn (stateOf (a .args .c) (a .args .m .now)) (a .args .q) (a .args .l)) (l .i) (slots (a .args .l)) (l .inv .1) (same-text (mark-byte (a .args .c) (a .args .m .now) (a .args .q) (a .args .l) (c .before .before .before .before .before .before .before .cell .result) (l .i) (c .before .before .before .mark .result) (c .before .before .before .before .before .before .before .cell .ensures .0) (c .before .before .before .mark .ensures)) (c .before .before .byte .ensures)))
+
+same-length : tie.Need-same-length Inv-loop μ-loop
+same-length c = omega (arith, c .before .loop .inv .1 .size)
+
+returns : tie.Need-returns Inv-loop μ-loop
+returns c =
+    let a = c .before .before .before .before .before .before in
+    let l = c .before .loop in
+    all-of (markIn (stateOf (a .args .c) (a .args .m .now)) (a .args .q) (a .args .l)) (l .i) (slots (a .args .l)) (l .inv .1) (omega arith)
+
+pub read-marks-spec : {M : Type 1} → statement M
+read-marks-spec =
+    tie.close
+    (tie.spec
+    Inv-loop
+    μ-loop
+    add-pow2
+    pow2-requires
+    cell-requires
+    loop-holds
+    add-mark
+    mark-requires
+    sub-byte
+    byte-requires
+    add-i
+    loop-less
+    loop-again
+    same-length
+    returns)
