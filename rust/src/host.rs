@@ -10,6 +10,9 @@ use std::io;
 /// Commands are submitted, at most W at a time before one completes, and may
 /// complete in any order: a slot never has two commands outstanding.
 ///
+/// A host whose slots can go back to those of a saved client is one that
+/// [`Saves`](crate::Saves).
+///
 /// # Sealing
 ///
 /// The commands hide the block; the bytes beside them do not. A host is handed
@@ -127,6 +130,10 @@ impl<H> Recorded<H> {
     pub fn into_host(self) -> H {
         self.host
     }
+
+    pub(crate) fn host_mut(&mut self) -> &mut H {
+        &mut self.host
+    }
 }
 
 impl<H: Host> Host for Recorded<H> {
@@ -151,4 +158,9 @@ pub(crate) fn wrong(what: String) -> io::Error {
 
 pub(crate) fn none_outstanding() -> io::Error {
     wrong("no command is outstanding at the host".into())
+}
+
+/// Slots are saved between commands.
+pub(crate) fn still_outstanding() -> io::Error {
+    wrong("commands are outstanding at the host".into())
 }

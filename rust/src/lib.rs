@@ -28,7 +28,7 @@
 //!
 //! Slots are kept in a file ([`FileHost`]), in memory ([`MemoryHost`]), or by
 //! whatever implements [`Host`]; [`Recorded`] notes the commands that a host
-//! sees.
+//! sees. Both hosts also go back to the slots of a saved client ([`Saves`]).
 //!
 //! Below the reader are the five calls: [`Store`] owns what they need, [`calls`]
 //! has them as the proved library exports them, over lent bytes and with the
@@ -111,15 +111,19 @@
 mod answer;
 pub mod calls;
 mod command;
+mod disk;
 mod error;
 mod file_host;
 mod found;
 mod host;
+mod journal;
+mod kept;
 mod looked_up;
 mod memory_host;
 mod progress;
 mod reader;
 mod refusal;
+mod saves;
 mod shape;
 mod slots;
 mod store;
@@ -138,6 +142,7 @@ pub use memory_host::MemoryHost;
 pub use progress::Progress;
 pub use reader::Reader;
 pub use refusal::{Refusal, UnknownNumber};
+pub use saves::{NotResumed, Resumed, SaveId, Saves};
 pub use shape::Shape;
 pub use slots::Slots;
 pub use store::{Request, Store};

@@ -1,15 +1,20 @@
 //! A host in memory.
 
 use crate::command::{Command, Kind};
-use crate::host::{Host, none_outstanding};
+use crate::host::{Host, none_outstanding, still_outstanding, wrong};
 use crate::refusal::Refusal;
+use crate::saves::{NotResumed, Resumed, SaveId, Saves};
 use crate::slots::Slots;
+use std::collections::BTreeSet;
 use std::fmt;
 use std::io;
 
 /// A host in memory that completes the submitted commands in random order. A
 /// write's bytes are in their slot only when it completes. The seed decides
 /// the order; it has no part in what is hidden.
+///
+/// It goes back to [saves](Saves) as a [`FileHost`](crate::FileHost) does, as long
+/// as it is there, and has a copy of all slots for each that it can go back to.
 #[derive(Clone)]
 pub struct MemoryHost {
     slots: Slots,
@@ -18,6 +23,18 @@ pub struct MemoryHost {
     /// The commands submitted and not completed, with the bytes of writes.
     outstanding: Vec<(Command, Vec<u8>)>,
     seed: u64,
+    /// The last save, and those prepared since.
+    saves: Vec<Copied>,
+}
+
+/// What one save left.
+#[derive(Clone)]
+struct Copied {
+    id: SaveId,
+    /// The bytes of all slots.
+    kept: Vec<u8>,
+    /// Where the slots begin that were written after it and before the next.
+    written: BTreeSet<usize>,
 }
 
 /// Not the bytes, which are many, and may be those of blocks.
@@ -46,6 +63,7 @@ impl MemoryHost {
             kept: vec![0; length],
             outstanding: Vec::new(),
             seed,
+            saves: Vec::new(),
         })
     }
 
@@ -81,6 +99,9 @@ impl Host for MemoryHost {
             Kind::Write => {
                 let at = self.slots.submitted(command, bytes.len())?;
                 self.kept[at..at + bytes.len()].copy_from_slice(bytes);
+                if let Some(last) = self.saves.last_mut() {
+                    last.written.insert(at);
+                }
             }
             // with a buffer of another length the command stays outstanding
             Kind::Read => {
@@ -90,5 +111,53 @@ impl Host for MemoryHost {
         }
         self.outstanding.swap_remove(chosen);
         Ok(command)
+    }
+}
+
+impl Saves for MemoryHost {
+    fn prepare(&mut self, id: SaveId) -> io::Result<()> {
+        if !self.outstanding.is_empty() {
+            return Err(still_outstanding());
+        }
+        if self.saves.iter().any(|save| save.id == id) {
+            return Err(wrong(format!("there is a save {id} already")));
+        }
+        self.saves.push(Copied {
+            id,
+            kept: self.kept.clone(),
+            written: BTreeSet::new(),
+        });
+        Ok(())
+    }
+
+    fn commit(&mut self, id: SaveId) -> io::Result<()> {
+        if self.saves.first().is_some_and(|save| save.id == id) {
+            return Ok(());
+        }
+        match self.saves.last() {
+            Some(save) if save.id == id && save.written.is_empty() => {
+                self.saves.drain(..self.saves.len() - 1);
+                Ok(())
+            }
+            _ => Err(wrong(format!(
+                "{id} is not the save that was just prepared"
+            ))),
+        }
+    }
+
+    fn resume(&mut self, id: SaveId) -> io::Result<Resumed> {
+        let last = self.saves.first().ok_or(NotResumed::NeverSaved)?.id;
+        let found = self.saves.iter().position(|save| save.id == id);
+        let found = found.ok_or(NotResumed::OtherSave { asked: id, last })?;
+        self.saves.drain(..found);
+        let slots: BTreeSet<usize> = self.saves.drain(1..).flat_map(|s| s.written).collect();
+        let save = &mut self.saves[0];
+        let slots = &slots | &std::mem::take(&mut save.written);
+        self.kept.copy_from_slice(&save.kept);
+        self.outstanding.clear();
+        match slots.len() {
+            0 => Ok(Resumed::AsSaved),
+            slots => Ok(Resumed::RolledBack { slots }),
+        }
     }
 }

@@ -3,7 +3,8 @@
 
 use rinwolfedd::calls::Answer;
 use rinwolfedd::{Command, Error, Figures, FileHost, Found, Host, Kind, LookedUp, MemoryHost};
-use rinwolfedd::{Progress, Reader, Recorded, Refusal, Request, Shape, Slots, Store};
+use rinwolfedd::{NotResumed, Progress, Reader, Recorded, Refusal, Request, Resumed, SaveId};
+use rinwolfedd::{Saves, Shape, Slots, Store};
 use rinwolfedd::{Summary, Tally, Tape, UnknownNumber, Wait, Waits, calls};
 use std::fs::File;
 use std::io::{self, Write};
@@ -34,10 +35,14 @@ const _: () = {
     both::<Waits>();
     both::<MemoryHost>();
     both::<FileHost>();
+    both::<SaveId>();
+    both::<Resumed>();
+    both::<NotResumed>();
     both::<Progress>();
     both::<Reader<FileHost>>();
     // a boxed host may be one for this thread alone; then so is its reader
     send::<Reader<Box<dyn Host + Send>, File>>();
+    send::<Reader<Box<dyn Saves + Send>, File>>();
 };
 
 /// What holds of the parts holds of the whole, whatever they are.

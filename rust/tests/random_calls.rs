@@ -133,10 +133,12 @@ fn random_calls_answer_as_the_model_does() {
     }
 }
 
-/// The comparison can fail: it tells a model with any planted mistake.
+/// The comparison can fail: it tells a model with any planted mistake of the
+/// five calls.
 #[test]
 fn every_mistake_of_a_model_is_told() {
-    for mistake in Mistake::ALL {
+    let saves = |mistake: &Mistake| Mistake::SAVED.contains(mistake);
+    for mistake in Mistake::ALL.into_iter().filter(|mistake| !saves(mistake)) {
         let small = SHAPES.iter().filter(|(shape, _)| shape.blocks <= 64);
         let told = { small }
             .any(|(shape, _)| compare(*shape, mistake, 1, 20_000, &mut Met::default()).is_err());

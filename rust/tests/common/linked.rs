@@ -45,6 +45,7 @@ impl Linked {
                 calls::completion(state, memory, command.kind, slot, bytes)
             }
             Ask::Collect => calls::collect(state, memory, buffer.lend()),
+            Ask::Save | Ask::Load(_) | Ask::Reload => unreachable!("not linked"),
         };
         assert!(self.state.is_sound() && self.memory.is_sound() && buffer.is_sound());
         (answer, buffer.bytes().to_vec())

@@ -82,7 +82,7 @@ impl Random {
                 Ask::Open(_) => self.host.pending.clear(),
                 Ask::Turn => self.host.send(outcome.command, outcome.bytes.clone()),
                 Ask::Completion { command, .. } => self.host.done(*command),
-                Ask::Request { .. } | Ask::Collect => {}
+                _ => {}
             }
         }
         let jobs = self.model.state.as_ref().map_or(0, |s| s.queue.len());

@@ -47,6 +47,7 @@ pub fn step(view: &mut Option<View>, call: &Call) -> Outcome {
             command,
             bytes,
             found,
+            length: 0,
         },
         Err(number) => Outcome {
             number,
@@ -86,7 +87,7 @@ impl View {
     /// After every accepted call a request is released that nothing holds.
     fn call(&mut self, call: &Call, draws: &mut Draws) -> Result<Handed, u8> {
         let handed = match &call.ask {
-            Ask::Open(_) => Err(2),
+            Ask::Open(_) | Ask::Save | Ask::Load(_) | Ask::Reload => Err(2),
             Ask::Request {
                 kind,
                 block,
