@@ -241,18 +241,6 @@ module _ (a : Ask) (four : opens a ≡ false) (st m tape b : List ℕ) (r : Answ
       ap (λ x. stateOf x m′) (rest-is (r .client) (wordAt st) ∙ ap (λ x. reshaped x (lowClient (r .client))) (shape-low z)) ∙ left-low (clientIn st) s a m tape b r m′ b′ k q z)
       (λ z. subst (Idle a (clientIn st .request)) (sym (rest-is (r .client) (wordAt st))) (rest-idle st a (r .client) m′ (left-low (clientIn st) s a m tape b r m′ b′ k q z) (k .idle z)))
 
--- a call that only reads state and memory: it hands back the client that it was given
-pub exported-same : (a : Ask) (st m tape b : List ℕ) (r : Answer) (b′ : List ℕ) → length st ≡ stateLength → Meets (clientIn st) (stateOf (clientIn st) m) a m (lookedAt tape) b r m b′
-    → Reports a (stateOf (clientIn st) m) → r .client ≡ clientIn st → Exported a st m tape b (packed r) st m b′
-exported-same a st m tape b r b′ l k q e = record { meets = λ _. go (ℕ-discrete (r .number) 0); refused = λ _. refl; between = λ i. refl; other = λ n. absurd (n l) }
-  where
-    s : State
-    s = stateOf (clientIn st) m
-
-    go : Dec (r .number ≡ 0) → Meets (clientIn st) s a m (lookedAt tape) b (answerOf (packed r) (clientIn st)) m b′
-    go (yes z) = meets-accepted (clientIn st) s a m tape b r m b′ k q z (clientIn st) (ap (λ x. stateOf x m) (sym e)) (subst (Idle a (clientIn st .request)) e (k .idle z))
-    go (no n) = meets-refused (clientIn st) s a m tape b r m b′ k q n
-
 -- with a state of another length each of these calls answers 2 at once
 pub exported-length : {a : Ask} {st m tape b : List ℕ} → (length st ≡ stateLength → ⊥) → Exported a st m tape b 2 st m b
 exported-length n = record { meets = λ l. absurd (n l); refused = λ _. refl; between = λ k. refl; other = λ _. (refl, refl, refl, refl) }

@@ -1,6 +1,6 @@
 pub mod At
 pub mod Bytes
-pub mod Words
+pub mod Sums
 pub mod Once
 pub mod Cells
 pub mod Laid

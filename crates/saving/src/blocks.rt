@@ -22,7 +22,7 @@ fn wide(x: u8) -> u32
 }
 
 // The four bytes from `at` on, lowest first, written so that the compiler makes one load of it.
-fn word(body: &[u8], at: usize) -> u32
+pub fn word(body: &[u8], at: usize) -> u32
     requires { ⌜ at + 4 ≤ length (now body) ⌝ }
     ensures { λ r. ⌜ r ≡ value (take 4 (drop at (now (body .entry)))) ⌝ }
 {

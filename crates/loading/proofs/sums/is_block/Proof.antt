@@ -5,7 +5,7 @@ use lib.Dec.{eqb}
 use lib.ListN.{take, drop}
 use Rattle.rules.specs.Form.Numbers.{value}
 use Rattle.rules.specs.Form.Sums.{blockSum}
-use Rattle.loading.specs.Words.{sum-mod}
+use Rattle.loading.specs.Sums.{sum-mod}
 use borrow.Author.Needs.{needs}
 use Rattle.loading.proofs.sums.is_block.Statement.{statement}
 use Rattle.loading.proofs.sums.is_block.Tie as tie

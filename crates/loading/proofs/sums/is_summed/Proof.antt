@@ -4,7 +4,7 @@ use native.Mathlib.Omega.{arith}
 use lib.ListN.{length, drop}
 use borrow.Author.Tests.{not-true, not-false}
 use Rattle.rules.specs.Form.Sums.{sumsRight, summed}
-use Rattle.loading.specs.Words.{sums-more, sums-wrong, sums-all, summed-none, summed-odd, summed-is}
+use Rattle.loading.specs.Sums.{sums-more, sums-wrong, sums-all, summed-none, summed-odd, summed-is}
 use borrow.Author.Needs.{needs}
 use Rattle.loading.proofs.sums.is_summed.Statement.{statement}
 use Rattle.loading.proofs.sums.is_summed.Tie as tie
