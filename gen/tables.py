@@ -123,6 +123,9 @@ text = '\n'.join([
                  lambda name: f'table-by f b l {variant(name)} = refl'),
     ]),
     CHANGED,
+    titled('-- a table changed to what it is', [
+        by_table('pub table-own', '(t : Table) (x : Tables) → withTable t (tableAt t x) x ≡ x', lambda name: f'table-own {variant(name)} x = refl'),
+    ]),
     titled('-- where each table starts, and the tables with one of them changed, by its own name', [
         *(start(name) for name in TABLES),
         *(changed(*field) for field in FIELDS.items()),

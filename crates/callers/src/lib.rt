@@ -2,7 +2,7 @@
 // exported function that ensured less would leave its function here without a proof.
 ghost use mathlib.Core.List.{[]};
 ghost use Rattle.rules.specs.State.{cmd};
-ghost use Rattle.rules.specs.Questions.{opening, request as requestOf, turn as turnOf, completion as completionOf, collect as collectOf};
+ghost use Rattle.rules.specs.Questions.{opening, request as requestOf, turn as turnOf, completion as completionOf, collect as collectOf, save as saveOf, load as loadOf};
 ghost use Rattle.exports.specs.Exported.{numbers};
 ghost use Rattle.claims.specs.Accepted.{Accepted};
 ghost use Rattle.claims.specs.Claim.{Called, made};
@@ -62,7 +62,21 @@ pub fn collect(state: &mut [u8], memory: &mut [u8], buffer: &mut [u8]) -> u64
     exports::rinwolfedd_collect(state, memory, buffer)
 }
 
-// Each of the five calls is accepted in this run: there is a run of exported calls that does something.
+// State and memory are only read.
+pub fn save(state: &[u8], memory: &[u8], buffer: &mut [u8]) -> u64
+    ensures { λ u. ⌜ Called (made saveOf (now (state .entry)) (now (memory .entry)) [] (now (buffer .entry)) u (now (state .entry)) (now (memory .entry)) (now (buffer .exit))) ⌝ }
+{
+    exports::rinwolfedd_save(state, memory, buffer)
+}
+
+pub fn load(state: &mut [u8], memory: &mut [u8], form: &[u8]) -> u64
+    ensures { λ u. ⌜ Called (made (loadOf (now (form .entry))) (now (state .entry)) (now (memory .entry)) [] [] u (now (state .exit)) (now (memory .exit)) []) ⌝ }
+{
+    exports::rinwolfedd_load(state, memory, form)
+}
+
+// Each of the seven calls is accepted in this run: there is a run of exported calls that does something, and goes on in another state and memory, into which
+// it loads what it saved.
 pub fn accepted_run()
     ensures { λ _. ⌜ Accepted ⌝ }
 {
@@ -71,9 +85,22 @@ pub fn accepted_run()
     let tape = [0u8; 4];
     let contents = [7u8; 1];
     let mut buffer = [0u8; 1];
+    let mut form = [0u8; 512];
+    let mut next_state = [0u8; 76];
+    let mut next_memory = [0u8; 416];
     open(&mut state, &mut memory, 1, 1, 1, 1, 1, 1, &tape);
-    request(&mut state, &mut memory, 2, 0, &contents, &tape);
-    collect(&mut state, &mut memory, &mut buffer);
-    turn(&mut state, &mut memory, &tape, &mut buffer);
-    completion(&mut state, &mut memory, 2, 0, 0, 0, &contents[0..0]);
+    save(&state, &memory, &mut form);
+    load(&mut next_state, &mut next_memory, &form);
+    request(&mut next_state, &mut next_memory, 2, 0, &contents, &tape);
+    collect(&mut next_state, &mut next_memory, &mut buffer);
+    turn(&mut next_state, &mut next_memory, &tape, &mut buffer);
+    completion(
+        &mut next_state,
+        &mut next_memory,
+        2,
+        0,
+        0,
+        0,
+        &contents[0..0],
+    );
 }

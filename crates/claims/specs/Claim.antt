@@ -1,5 +1,5 @@
 -- Demands 2 and 3 for exported calls, as a host program makes them: an open, then any calls. Each is handed the 76 bytes of state and the memory
--- that the last one left, or a part of that memory from its start. All that is known of a call is its contract.
+-- that the last one left, or a part of that memory from its start; a load may be handed any. All that is known of a call is its contract.
 -- To believe the claims, read this file, `Exported`, `Opened` and `Loaded` of crate `exports`, `foundAs` of crate `client`, the claims of crates `array` and
 -- `hiding`, and of crate `rules` the runs of Run.antt and Silent.antt, `Resumes` and `firstFound` of Laws/Found.antt. They are proved in Theorem.antt, one
 -- each in Found.antt and Tapes.antt, the last in Words.antt.
@@ -56,7 +56,7 @@ Contract save x = Exported save (x .state) (x .memory) (x .tape) (x .buffer) (x 
 Contract (load form) x = Loaded form (x .state) (x .memory) (x .answer) (x .state′) (x .memory′)
 
 -- What an exported function ensures: its contract, and that the memory it is lent has the same length after it. Each function of crate
--- `callers` calls one of the five and ensures this of it: were the exported one's contract weaker, it would not be proved
+-- `callers` calls one of the seven and ensures this of it: were the exported one's contract weaker, it would not be proved
 abbrev pub Called : Made → Type 0
 Called x = Contract (x .ask) x × (length (x .memory′) ≡ length (x .memory))
 
@@ -64,12 +64,13 @@ Called x = Contract (x .ask) x × (length (x .memory′) ≡ length (x .memory))
 abbrev pub made : Ask → List ℕ → List ℕ → List ℕ → List ℕ → ℕ → List ℕ → List ℕ → List ℕ → Made
 made a st m tape b u st′ m′ b′ = record { ask = a; state = st; memory = m; tape = tape; buffer = b; answer = u; state′ = st′; memory′ = m′; buffer′ = b′ }
 
--- The call is handed the state st, and of the memory m all but `rest`. (Handed a state of another length, a call answers 2 and leaves every
--- byte as it was, by its contract: it is no part of a run)
+-- The call is handed the state st, and of the memory m all but `rest`. An open or a load looks at neither, and may be handed any bytes: a form is loaded
+-- after the machine was shut down. (Handed a state of another length, a call answers 2, an open or load also 1, 17 or 18, and leaves every byte of
+-- the memory as it was, by its contract: it is no part of a run)
 pub record Handed (st m rest : List ℕ) (x : Made) : Type 0 where
-  pub bytes : length st ≡ stateLength
-  pub state : x .state ≡ st
-  pub memory : x .memory ++ rest ≡ m
+  pub bytes : length (x .state) ≡ stateLength
+  pub state : opens (x .ask) ≡ false → x .state ≡ st
+  pub memory : opens (x .ask) ≡ false → x .memory ++ rest ≡ m
   pub called : Called x
 
 -- "Each later call gets the state and the memory as the last one left them, and nobody else writes them meanwhile"

@@ -75,8 +75,8 @@ example = record {
   runs = (
     4 ∷ [],
     (
-      record { bytes = refl; state = refl; memory = refl; called = (open-contract, refl) },
-      (2 ∷ 3 ∷ 4 ∷ [], (record { bytes = refl; state = refl; memory = refl; called = (turn-contract, refl) }, tt)),
+      record { bytes = refl; state = λ _. refl; memory = λ _. refl; called = (open-contract, refl) },
+      (2 ∷ 3 ∷ 4 ∷ [], (record { bytes = refl; state = λ _. refl; memory = λ _. refl; called = (turn-contract, refl) }, tt)),
     ),
   );
 }

@@ -1,6 +1,6 @@
 -- One exported call is the rules' step, from the state that the whole memory stands for to the one that it stands for after the call.
 use mathlib.Core.Path.{_≡_, refl, ap, sym, _∙_}
-use mathlib.Core.Bool.{true, false, true≢false}
+use mathlib.Core.Bool.{Bool, true, false, true≢false}
 use mathlib.Core.List.{List, [], _++_}
 use Prim.Native.Nat.{ℕ, _%_, _≤_, _<_}
 use native.Mathlib.Omega.{arith}
@@ -255,6 +255,11 @@ module _ (x : Made) (rest : List ℕ) (l : length (x .state) ≡ stateLength) (s
 pub made-step : (st m rest : List ℕ) (x : Made) → Handed st m rest x
     → (outcomeOf x ≡ step (stateOf (clientIn st) m) (callMade x) .1) × (stateOf (clientIn (x .state′)) (x .memory′ ++ rest) ≡ step (stateOf (clientIn st) m) (callMade x) .0)
 made-step st m rest x k =
-    let e : stateOf (clientIn (x .state)) (x .memory ++ rest) ≡ stateOf (clientIn st) m = λ i. stateOf (clientIn (k .state i)) (k .memory i) in
-    let y = every-steps x rest (ap length (k .state) ∙ k .bytes) (k .called .1) (x .ask) (k .called .0) in
-    (y .0 ∙ ap (λ s. step s (callMade x) .1) e, y .1 ∙ ap (λ s. step s (callMade x) .0) e)
+    let y = every-steps x rest (k .bytes) (k .called .1) (x .ask) (k .called .0) in
+    let e = from (opens (x .ask)) refl in
+    (y .0 ∙ ap (λ (z : State × Outcome). z .1) e, y .1 ∙ ap (λ (z : State × Outcome). z .0) e)
+  where
+    -- an open or a load looks at no state
+    from : (o : Bool) → opens (x .ask) ≡ o → step (stateOf (clientIn (x .state)) (x .memory ++ rest)) (callMade x) ≡ step (stateOf (clientIn st) m) (callMade x)
+    from true o = first-alone _ (x .ask) o (x .memory) (lookedAt (x .tape)) (x .buffer) ∙ sym (first-alone _ (x .ask) o (x .memory) (lookedAt (x .tape)) (x .buffer))
+    from false o = λ i. step (stateOf (clientIn (k .state o i)) (k .memory o i)) (callMade x)

@@ -1,4 +1,4 @@
--- The contract of an exported call says all of the number that it answers and every byte of the state after it: two that meet it from the same
+-- The contract of an exported call says all of the number that it answers and every byte of state and buffer after it: two that meet it from the same
 -- bytes are the same. (Of the memory it says what it stands for: docs/MEMORY.md names the bytes that are free.)
 use mathlib.Core.Path.{_≡_, ap, sym, _∙_}
 use mathlib.Core.List.{List, [], _++_}
@@ -7,10 +7,9 @@ use Prim.Native.Nat.{ℕ, _+_, _*_, _/_, _%_}
 use native.Mathlib.Omega.{arith}
 use native.Mathlib.Decide.{ℕ-discrete}
 use lib.ListN.{length, drop}
-use Rattle.rules.specs.Shape.{Shape}
 use Rattle.rules.specs.State as R
 use Rattle.rules.specs.State.{State, Command, closed}
-use Rattle.rules.specs.Questions.{Ask, opening}
+use Rattle.rules.specs.Questions.{Ask}
 use Rattle.memory.specs.Words.{wordAt}
 use Rattle.memory.specs.Fits.{shapeOf}
 use Rattle.client.specs.declared.Client.{Client}
@@ -22,7 +21,7 @@ use Rattle.contract.specs.Answers.{clearedClient}
 use Rattle.contract.specs.Meets.{Meets, commandOf}
 use Rattle.report.specs.Page.{page}
 use Rattle.codec.specs.Codec.{stateLength, Between, answerOf}
-use Rattle.exports.specs.Exported.{lookedAt, clientIn, Exported, Opened}
+use Rattle.exports.specs.Exported.{lookedAt, clientIn, Exported, Started}
 use Rattle.exports.specs.Idle.{Idle, none-kind}
 use Rattle.exports.specs.Paged.{Paged, told}
 
@@ -117,27 +116,28 @@ module _ (c : Client) (s : State) (a : Ask) (m tape b : List ℕ) (u v : ℕ) (x
 abbrev pub SameState : List ℕ → List ℕ → Type 0
 SameState st st′ = (clientIn st ≡ clientIn st′) × Between (wordAt st) (wordAt st′)
 
--- A request, turn, completion or collect
+-- A request, turn, completion, collect or save: every byte of the buffer too
 pub determined : (a : Ask) (st m tape b : List ℕ) (u v : ℕ) (st′ st″ m′ m″ b′ b″ : List ℕ) → length st ≡ stateLength
-    → Exported a st m tape b u st′ m′ b′ → Exported a st m tape b v st″ m″ b″ → (u ≡ v) × SameState st′ st″
+    → Exported a st m tape b u st′ m′ b′ → Exported a st m tape b v st″ m″ b″ → (u ≡ v) × SameState st′ st″ × (b′ ≡ b″)
 determined a st m tape b u v st′ st″ m′ m″ b′ b″ l x y =
     let c = clientIn st in
     let s = stateOf c m in (
       same-answer c s a m (lookedAt tape) b u v (clientIn st′) (clientIn st″) m′ m″ b′ b″ (x .meets l) (y .meets l),
       (same-left c s a m (lookedAt tape) b u v (clientIn st′) (clientIn st″) m′ m″ b′ b″ (x .meets l) (y .meets l), (λ k. y .between k ∙ sym (x .between k))),
+      x .meets l .buffer ∙ sym (y .meets l .buffer),
     )
 
--- An open
-pub determined-open : (h : Shape) (st m tape : List ℕ) (u v : ℕ) (st′ st″ m′ m″ : List ℕ) → length st ≡ stateLength
-    → Opened h st m tape u st′ m′ → Opened h st m tape v st″ m″ → (u ≡ v) × SameState st′ st″
-determined-open h st m tape u v st′ st″ m′ m″ l x y = (answer, go (ℕ-discrete (u % 32) 0))
+-- An open or a load
+pub determined-start : (a : Ask) (st m tape : List ℕ) (u v : ℕ) (st′ st″ m′ m″ : List ℕ) → length st ≡ stateLength
+    → Started a st m tape u st′ m′ → Started a st m tape v st″ m″ → (u ≡ v) × SameState st′ st″
+determined-start a st m tape u v st′ st″ m′ m″ l x y = (answer, go (ℕ-discrete (u % 32) 0))
   where
     answer : u ≡ v
-    answer = same-answer clearedClient closed (opening h) m (lookedAt tape) [] u v (clientIn st′) (clientIn st″) m′ m″ [] [] (x .meets l) (y .meets l)
+    answer = same-answer clearedClient closed a m (lookedAt tape) [] u v (clientIn st′) (clientIn st″) m′ m″ [] [] (x .meets l) (y .meets l)
 
     go : Dec (u % 32 ≡ 0) → SameState st′ st″
     go (yes z) = (
-      same-left clearedClient closed (opening h) m (lookedAt tape) [] u v (clientIn st′) (clientIn st″) m′ m″ [] [] (x .meets l) (y .meets l),
+      same-left clearedClient closed a m (lookedAt tape) [] u v (clientIn st′) (clientIn st″) m′ m″ [] [] (x .meets l) (y .meets l),
       (λ k. y .between (rw answer at z) k ∙ sym (x .between z k)),
     )
     go (no n) = let e = x .refused n ∙ sym (y .refused (λ z. n (rw answer z))) in (ap clientIn e, (λ k. ap (λ s. wordAt s (k * 2 + 1)) (sym e)))

@@ -12,10 +12,9 @@ use Rattle.rules.specs.Shape.{Shape, within}
 use Rattle.rules.specs.State.{State, Command, foundNumber, closed}
 use Rattle.rules.specs.Draws.{draws}
 use Rattle.rules.specs.Form.Loading.{loads}
-use Rattle.rules.specs.Form.Payload.{savedForm}
 use Rattle.rules.specs.Form.Sums.{summed}
 use Rattle.rules.specs.Questions.{Ask, opening, request, turn, completion, collect, save, load, Call, bounds, number}
-use Rattle.rules.specs.Run.{Outcome, act, accepted, refused, sentCommand, handed as handedBytes, handedFound, takenOf, numbersOf}
+use Rattle.rules.specs.Run.{Outcome, act, accepted, refused, sentCommand, handedFound, takenOf, numbersOf}
 use Rattle.rules.specs.Laws.Shapes.{act-shape}
 use Rattle.rules.specs.Laws.Answers.{opens, number-le, step-number, step-accepted, refused-outcome, accepted-passed}
 use Rattle.rules.specs.Laws.Drawn.{taken-lent}
@@ -25,11 +24,13 @@ use Rattle.memory.specs.Words.{wordAt}
 use Rattle.memory.specs.Fits.{shapeOf}
 use Rattle.memory.specs.declared.Shape as M
 use Rattle.client.specs.declared.Client.{Client}
+use Rattle.client.specs.declared.Request.{Request}
+use Rattle.client.specs.Moves.{noRequest}
 use Rattle.client.specs.View.{stateOf, view}
 use Rattle.tape.specs.Tape.{wordsOf, length-words}
 use Rattle.contract.specs.declared.Answer.{Answer}
 use Rattle.contract.specs.Answers.{clearedClient}
-use Rattle.contract.specs.Meets.{Meets, callOf, commandOf, reported, reported-none}
+use Rattle.contract.specs.Meets.{Meets, callOf, commandOf, reported, reported-none, unasked}
 use Rattle.codec.specs.Codec.{stateLength, clientOf, reshaped, lowShape, lowClient, withShape, withRest, rest-is, stored-is, Between, between-rest, between-shape, Small, packed, unpacked, answerOf}
 use Rattle.exports.specs.Idle.{Idle, rest-idle}
 use Rattle.exports.specs.Small.{SmallCommand, accepted-small, accepted-found, low-shape, low-client}
@@ -54,25 +55,33 @@ pub record Exported (a : Ask) (st m tape b : List ℕ) (u : ℕ) (st′ m′ b�
   -- a state of another length: 2, and nothing is written
   pub other : (length st ≡ stateLength → ⊥) → (u ≡ 2) × (st′ ≡ st) × (m′ ≡ m) × (b′ ≡ b)
 
--- An open
-pub record Opened (h : Shape) (st m tape : List ℕ) (u : ℕ) (st′ m′ : List ℕ) : Type 0 where
-  pub meets : length st ≡ stateLength → Meets clearedClient closed (opening h) m (lookedAt tape) [] (answerOf u (clientIn st′)) m′ []
-  -- a refused one hands back a closed state: zeros in all that was lent for it
-  pub refused : (u % 32 ≡ 0 → ⊥) → st′ ≡ replicate (length st) 0
-  -- an accepted one leaves the bytes between the numbers
-  pub between : u % 32 ≡ 0 → Between (wordAt st) (wordAt st′)
-  -- a state of another length is no memory for a client: shape within bounds? 1. Long enough? 2
-  pub other : (length st ≡ stateLength → ⊥) → (u ≡ (if within h then 2 else 1)) × (m′ ≡ m)
+-- A state of another length is no memory for a client. Of an open: shape within bounds? 1. Long enough? 2. Of a load: sums right? 17. A form? 18.
+-- Long enough? 2
+abbrev pub unlent : Ask → ℕ
+unlent (opening h) = if within h then 2 else 1
+unlent (request k b bs) = 2
+unlent turn = 2
+unlent (completion c bs) = 2
+unlent collect = 2
+unlent save = 2
+unlent (load form) = if summed form then (if loads form then 2 else 18) else 17
 
--- A load of these bytes: it looks at no state, as an open does
-pub record Loaded (form st m : List ℕ) (u : ℕ) (st′ m′ : List ℕ) : Type 0 where
-  pub meets : length st ≡ stateLength → Meets clearedClient closed (load form) m [] [] (answerOf u (clientIn st′)) m′ []
+-- An open or a load: it looks at no state
+pub record Started (a : Ask) (st m tape : List ℕ) (u : ℕ) (st′ m′ : List ℕ) : Type 0 where
+  pub meets : length st ≡ stateLength → Meets clearedClient closed a m (lookedAt tape) [] (answerOf u (clientIn st′)) m′ []
   -- a refused one hands back a closed state: zeros in all that was lent for it
   pub refused : (u % 32 ≡ 0 → ⊥) → st′ ≡ replicate (length st) 0
   -- an accepted one leaves the bytes between the numbers
   pub between : u % 32 ≡ 0 → Between (wordAt st) (wordAt st′)
-  -- a state of another length is no memory for a client: sums right? 17. A form? 18. Long enough? 2
-  pub other : (length st ≡ stateLength → ⊥) → (u ≡ (if summed form then (if loads form then 2 else 18) else 17)) × (m′ ≡ m)
+  -- with a state of another length nothing is written to the memory
+  pub other : (length st ≡ stateLength → ⊥) → (u ≡ unlent a) × (m′ ≡ m)
+
+abbrev pub Opened : Shape → List ℕ → List ℕ → List ℕ → ℕ → List ℕ → List ℕ → Type 0
+Opened h st m tape u st′ m′ = Started (opening h) st m tape u st′ m′
+
+-- a load of these bytes takes no tape
+abbrev pub Loaded : List ℕ → List ℕ → List ℕ → ℕ → List ℕ → List ℕ → Type 0
+Loaded form st m u st′ m′ = Started (load form) st m [] u st′ m′
 
 -- a tape that is not longer is looked at whole
 pub looked-whole : (tape : List ℕ) → length tape ≤ mostWords * 2 → take (length tape) tape ≡ lookedAt tape
@@ -83,38 +92,37 @@ looked-short tape = omega (arith, length-words (lookedAt tape), length-take (mos
 
 -- ---- An accepted call's answer is small
 
--- of a save, if its form's length has 32 bits
-abbrev pub Reports : Ask → State → Type 0
-Reports (opening h) s = Unit {0}
-Reports (request k b bs) s = Unit {0}
-Reports turn s = Unit {0}
-Reports (completion c bs) s = Unit {0}
-Reports collect s = Unit {0}
-Reports save s = length (savedForm s) ≤ mostWords
-Reports (load form) s = Unit {0}
+-- of a save, if the length that it reports has 32 bits
+abbrev pub Reports : Ask → Answer → Type 0
+Reports (opening h) r = Unit {0}
+Reports (request k b bs) r = Unit {0}
+Reports turn r = Unit {0}
+Reports (completion c bs) r = Unit {0}
+Reports collect r = Unit {0}
+Reports save r = r .taken ≤ mostWords
+Reports (load form) r = Unit {0}
 
-reports-few : (s s′ : State) (a : Ask) (n : ℕ) → Reports a s → n ≤ mostWords → reported a n (handedBytes s a s′) ≤ mostWords
-unfolding handedBytes
-reports-few s s′ (opening h) n q l = l
-reports-few s s′ (request k b bs) n q l = l
-reports-few s s′ turn n q l = l
-reports-few s s′ (completion c bs) n q l = l
-reports-few s s′ collect n q l = l
-reports-few s s′ save n q l = q
-reports-few s s′ (load form) n q l = l
+reports-few : (a : Ask) (r : Answer) (n : ℕ) (bs : List ℕ) → Reports a r → r .taken ≡ reported a n bs → n ≤ mostWords → r .taken ≤ mostWords
+reports-few (opening h) r n bs q e l = omega arith
+reports-few (request k b cs) r n bs q e l = omega arith
+reports-few turn r n bs q e l = omega arith
+reports-few (completion c cs) r n bs q e l = omega arith
+reports-few collect r n bs q e l = omega arith
+reports-few save r n bs q e l = q
+reports-few (load form) r n bs q e l = omega arith
 
-module _ (s : State) (a : Ask) (m tape b : List ℕ) (r : Answer) (q : Reports a s) where
-  pub small-accepted : (s′ : State) → number s (callOf a m (lookedAt tape) b) ≡ 0 → r .number ≡ 0 → r .taken ≡ reported a (takenOf (draws (bounds s a) (wordsOf (lookedAt tape)))) (handedBytes s a s′) → commandOf r ≡ sentCommand s a → r .found ≡ foundNumber (handedFound s a) → Small r
-  small-accepted s′ e z t o y =
+module _ (s : State) (a : Ask) (m tape b : List ℕ) (r : Answer) (q : Reports a r) where
+  pub small-accepted : (bs : List ℕ) → number s (callOf a m (lookedAt tape) b) ≡ 0 → r .number ≡ 0 → r .taken ≡ reported a (takenOf (draws (bounds s a) (wordsOf (lookedAt tape)))) bs → commandOf r ≡ sentCommand s a → r .found ≡ foundNumber (handedFound s a) → Small r
+  small-accepted bs e z t o y =
       let ws = wordsOf (lookedAt tape) in
       let p = accepted-passed s (callOf a m (lookedAt tape) b) e in
       let d : SmallCommand (commandOf r) = rw o (accepted-small s a (length m) ws (length b) p) in
       let g = accepted-found s a (length m) ws (length b) p in
-      record { number = omega arith; taken = omega (arith, reports-few s s′ a (takenOf (draws (bounds s a) ws)) q (omega (arith, taken-lent (bounds s a) ws, looked-short tape))); kind = d .kind; partition = d .partition; level = d .level; slot = d .slot; found = omega arith }
+      record { number = omega arith; taken = omega (arith, reports-few a r (takenOf (draws (bounds s a) ws)) bs q t (omega (arith, taken-lent (bounds s a) ws, looked-short tape))); kind = d .kind; partition = d .partition; level = d .level; slot = d .slot; found = omega arith }
 
 -- ---- From a call's contract to the exported one's
 
-module _ (c : Client) (s : State) (a : Ask) (m tape b : List ℕ) (r : Answer) (m′ b′ : List ℕ) (k : Meets c s a m (lookedAt tape) b r m′ b′) (q : Reports a s) where
+module _ (c : Client) (s : State) (a : Ask) (m tape b : List ℕ) (r : Answer) (m′ b′ : List ℕ) (k : Meets c s a m (lookedAt tape) b r m′ b′) (q : Reports a r) where
   abbrev made : Call
   made = callOf a m (lookedAt tape) b
 
@@ -209,7 +217,7 @@ pub shape-same : (g h : M.Shape) → shapeOf g ≡ shapeOf h → g ≡ h
 shape-same g h e = λ k. record { n = e k .N; p = e k .P; l = e k .L; b = e k .B; e = e k .E; w = e k .W }
 
 -- a call that meets the rules, handed back
-module _ (a : Ask) (four : opens a ≡ false) (st m tape b : List ℕ) (r : Answer) (u : ℕ) (st′ m′ b′ : List ℕ) (l : length st ≡ stateLength) (k : Meets (clientIn st) (stateOf (clientIn st) m) a m (lookedAt tape) b r m′ b′) (q : Reports a (stateOf (clientIn st) m)) where
+module _ (a : Ask) (four : opens a ≡ false) (st m tape b : List ℕ) (r : Answer) (u : ℕ) (st′ m′ b′ : List ℕ) (l : length st ≡ stateLength) (k : Meets (clientIn st) (stateOf (clientIn st) m) a m (lookedAt tape) b r m′ b′) (q : Reports a r) where
   abbrev s : State
   s = stateOf (clientIn st) m
 
@@ -241,31 +249,66 @@ module _ (a : Ask) (four : opens a ≡ false) (st m tape b : List ℕ) (r : Answ
       ap (λ x. stateOf x m′) (rest-is (r .client) (wordAt st) ∙ ap (λ x. reshaped x (lowClient (r .client))) (shape-low z)) ∙ left-low (clientIn st) s a m tape b r m′ b′ k q z)
       (λ z. subst (Idle a (clientIn st .request)) (sym (rest-is (r .client) (wordAt st))) (rest-idle st a (r .client) m′ (left-low (clientIn st) s a m tape b r m′ b′ k q z) (k .idle z)))
 
+-- the state is only read
+pub exported-read : (a : Ask) → opens a ≡ false → (st m tape b : List ℕ) (r : Answer) (u : ℕ) (m′ b′ : List ℕ) → length st ≡ stateLength → Meets (clientIn st) (stateOf (clientIn st) m) a m (lookedAt tape) b r m′ b′ → Reports a r
+    → r .client ≡ clientIn st → u ≡ packed r → Exported a st m tape b u st m′ b′
+exported-read a four st m tape b r u m′ b′ l k q e p = handed a four st m tape b r u st m′ b′ l k q (λ w. w) (record { answer = p; accepted = λ z. refl; refused = λ n. refl }) (λ i. refl)
+    (λ z. ap (λ x. stateOf x m′) (sym e)) (λ z. subst (Idle a (clientIn st .request)) e (k .idle z))
+
 -- with a state of another length each of these calls answers 2 at once
 pub exported-length : {a : Ask} {st m tape b : List ℕ} → (length st ≡ stateLength → ⊥) → Exported a st m tape b 2 st m b
 exported-length n = record { meets = λ l. absurd (n l); refused = λ _. refl; between = λ k. refl; other = λ _. (refl, refl, refl, refl) }
-
--- so does an open, or 1
-pub one-or-two : (t : Bool) (u : ℕ) → u ≡ (if t then 2 else 1) → u % 32 ≡ 0 → ⊥
-one-or-two true u e z = omega arith
-one-or-two false u e z = omega arith
 
 -- zeros say the closed state
 pub zeros-say : clientIn (replicate stateLength 0) ≡ clearedClient
 unfolding wordAt
 zeros-say = refl
 
--- an open
-pub exported-open : (h : Shape) (st m tape : List ℕ) (r : Answer) (u : ℕ) (st′ m′ : List ℕ) → length st ≡ stateLength
-    → Meets clearedClient closed (opening h) m (lookedAt tape) [] r m′ [] → HandedBackOpened r u st st′ → Opened h st m tape u st′ m′
-exported-open h st m tape r u st′ m′ l k b = record {
-  meets = λ _. rw (b .answer) (go (ℕ-discrete (r .number) 0));
-  refused = λ n. b .refused (λ z. n (rw (b .answer) (number-packed clearedClient closed (opening h) m tape [] r m′ [] k tt ∙ z)));
-  between = λ z. rw (b .accepted (sym (number-packed clearedClient closed (opening h) m tape [] r m′ [] k tt) ∙ sym (ap (λ x. x % 32) (b .answer)) ∙ z)) (between-rest (r .client) (wordAt st) _ (between-shape (r .client .shape) (wordAt st)));
-  other = λ n. absurd (n l);
-}
+-- an open or a load, which leave zeros where the numbers of a request are
+module _ (a : Ask) (none : (x : Request) → unasked a x ≡ noRequest) (st m tape : List ℕ) (r : Answer) (u : ℕ) (st′ m′ : List ℕ) (l : length st ≡ stateLength)
+    (k : Meets clearedClient closed a m (lookedAt tape) [] r m′ []) (q : Reports a r) (b : HandedBackOpened r u st st′) where
+  met : Dec (r .number ≡ 0) → Meets clearedClient closed a m (lookedAt tape) [] (answerOf (packed r) (clientIn st′)) m′ []
+  met (yes z) =
+      let low = left-low clearedClient closed a m tape [] r m′ [] k q z in
+      let is : clientIn st′ ≡ lowClient (r .client) = ap clientOf (b .accepted z) ∙ stored-is (r .client) (wordAt st) in
+      let idle = rest-idle st a (r .client) m′ low (λ i. k .idle z i ∙ none (clearedClient .request) ∙ sym (none (clientIn st .request))) in
+      meets-accepted clearedClient closed a m tape [] r m′ [] k q z (clientIn st′) (ap (λ x. stateOf x m′) is ∙ low)
+      (subst (Idle a (clearedClient .request)) (sym is) (λ i. idle i ∙ none (clientIn st .request) ∙ sym (none (clearedClient .request))))
+  met (no n) = rw (b .refused n, l, zeros-say) (meets-refused clearedClient closed a m tape [] r m′ [] k q n)
+
+  pub exported-start : Started a st m tape u st′ m′
+  exported-start =
+      let e = number-packed clearedClient closed a m tape [] r m′ [] k q in
+      record {
+        meets = λ _. rw (b .answer) (met (ℕ-discrete (r .number) 0));
+        refused = λ n. b .refused (λ z. n (rw (b .answer) (e ∙ z)));
+        between = λ z. rw (b .accepted (sym e ∙ sym (ap (λ x. x % 32) (b .answer)) ∙ z)) (between-rest (r .client) (wordAt st) _ (between-shape (r .client .shape) (wordAt st)));
+        other = λ n. absurd (n l);
+      }
+
+-- with a state of another length it is refused
+unlent-no : (a : Ask) → unlent a % 32 ≡ 0 → ⊥
+unlent-no (opening h) z = go (within h) z
   where
-    go : Dec (r .number ≡ 0) → Meets clearedClient closed (opening h) m (lookedAt tape) [] (answerOf (packed r) (clientIn st′)) m′ []
-    go (yes z) = meets-accepted clearedClient closed (opening h) m tape [] r m′ [] k tt z (clientIn st′) (ap (λ x. stateOf x m′) (ap clientOf (b .accepted z) ∙ stored-is (r .client) (wordAt st)) ∙ left-low clearedClient closed (opening h) m tape [] r m′ [] k tt z)
-        (subst (Idle (opening h) (clearedClient .request)) (sym (ap clientOf (b .accepted z) ∙ stored-is (r .client) (wordAt st))) (rest-idle st (opening h) (r .client) m′ (left-low clearedClient closed (opening h) m tape [] r m′ [] k tt z) (k .idle z)))
-    go (no n) = rw (b .refused n, l, zeros-say) (meets-refused clearedClient closed (opening h) m tape [] r m′ [] k tt n)
+    go : (t : Bool) → (if t then 2 else 1) % 32 ≡ 0 → ⊥
+    go true z = omega arith
+    go false z = omega arith
+unlent-no (request k b bs) z = omega arith
+unlent-no turn z = omega arith
+unlent-no (completion c bs) z = omega arith
+unlent-no collect z = omega arith
+unlent-no save z = omega arith
+unlent-no (load form) z = go (summed form) (loads form) z
+  where
+    go : (t v : Bool) → (if t then (if v then 2 else 18) else 17) % 32 ≡ 0 → ⊥
+    go true true z = omega arith
+    go true false z = omega arith
+    go false v z = omega arith
+
+pub start-length : (a : Ask) (st m tape : List ℕ) (u : ℕ) (st′ : List ℕ) → (length st ≡ stateLength → ⊥) → (u ≡ unlent a) × (st′ ≡ replicate (length st) 0) → Started a st m tape u st′ m
+start-length a st m tape u st′ n w = record {
+  meets = λ l. absurd (n l);
+  refused = λ _. w .1;
+  between = λ z. absurd (unlent-no a (ap (λ x. x % 32) (sym (w .0)) ∙ z));
+  other = λ _. (w .0, refl);
+}

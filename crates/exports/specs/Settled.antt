@@ -53,7 +53,7 @@ pub record HandedBackReleased (stored : (ℕ → ℕ) → ℕ → ℕ) (r : Answ
   pub refused : (r .number ≡ 0 → ⊥) → st′ ≡ st
 
 -- What was performed, handed back so
-module _ (a : Ask) (st m tape b : List ℕ) (r : Answer) (m′ b′ : List ℕ) (k : Performs (clientIn st) (stateOf (clientIn st) m) a m (lookedAt tape) b r m′ b′) (q : Reports a (stateOf (clientIn st) m)) where
+module _ (a : Ask) (st m tape b : List ℕ) (r : Answer) (m′ b′ : List ℕ) (k : Performs (clientIn st) (stateOf (clientIn st) m) a m (lookedAt tape) b r m′ b′) (q : Reports a r) where
   abbrev s : State
   s = stateOf (clientIn st) m
 

@@ -1,4 +1,4 @@
-// The five calls, and the page of a store, for a host program: numbers and byte slices. The state is 76 bytes, the tape pairs of bytes, low byte
+// The seven calls, and the page of a store, for a host program: numbers and byte slices. The state is 76 bytes, the tape pairs of bytes, low byte
 // first; the answer is one number (see codec::pack). Every value of every number is answered; nothing is required.
 use client::Client;
 use codec::STATE;
@@ -13,13 +13,13 @@ ghost use lib.ListN.{length, take, replicate};
 ghost use Rattle.lists.specs.Tests.{if_then_else_};
 ghost use Rattle.rules.specs.Shape.{within};
 ghost use Rattle.rules.specs.State.{cmd};
-ghost use Rattle.rules.specs.Questions.{ready, request, turn, completion as completionOf, collect};
+ghost use Rattle.rules.specs.Questions.{ready, request, turn, completion as completionOf, collect, save, load};
 ghost use Rattle.memory.specs.Fits.{shapeOf};
 ghost use Rattle.memory.specs.Words.{wordAt};
 ghost use Rattle.client.specs.View.{stateOf};
 ghost use Rattle.codec.specs.Codec.{stateLength, withTurn, withCompletion, withRest, clientOf, Small, packed};
 ghost use Rattle.contract.specs.Answers.{refusedWith, acceptedWith};
-ghost use Rattle.exports.specs.Exported.{lookedAt, Opened, Exported, HandedBack, HandedBackOpened, numbers};
+ghost use Rattle.exports.specs.Exported.{lookedAt, Opened, Loaded, Exported, HandedBack, HandedBackOpened, numbers, unlent};
 ghost use Rattle.exports.specs.Paged.{Paged};
 ghost use Rattle.exports.specs.Settled.{ReleasedIn, HandedBackReleased};
 
@@ -89,14 +89,25 @@ fn hand_back_completion(state: &mut [u8], memory: &[u8], r: Answer, kind: usize)
 }
 
 // An open of this shape with a state of another length.
-fn refuse_state(state: &mut [u8], h: Shape) -> u64
+fn refuse_open(state: &mut [u8], h: Shape) -> u64
     ensures { λ u. ⌜ (u ≡ (if within (shapeOf h) then 2 else 1)) × (now (state .exit) ≡ replicate (length (now (state .entry))) 0) ⌝ }
 {
     memory::blocks::zeros(state);
     if contract::is_within(h) { 2 } else { 1 }
 }
 
-// A refused open hands back zeros.
+// A load of this form with a state of another length.
+fn refuse_load(state: &mut [u8], form: &[u8]) -> u64
+    ensures { λ u. ⌜ (u ≡ unlent (load (now (form .entry)))) × (now (state .exit) ≡ replicate (length (now (state .entry))) 0) ⌝ }
+{
+    memory::blocks::zeros(state);
+    if !sums::is_summed(form) {
+        return 17;
+    }
+    if forms::form::is_form(form) { 2 } else { 18 }
+}
+
+// A refused open or load hands back zeros.
 fn hand_back_opened(state: &mut [u8], r: Answer) -> u64
     requires { ⌜ (length (now state) ≡ stateLength) × Small r ⌝ }
     ensures { λ u. ⌜ HandedBackOpened r u (now (state .entry)) (now (state .exit)) ⌝ }
@@ -124,7 +135,7 @@ pub extern "C" fn rinwolfedd_open(
     ensures { λ u. ⌜ Opened (numbers n p l b e w) (now (state .entry)) (now (memory .entry)) (now (tape .entry)) u (now (state .exit)) (now (memory .exit)) ⌝ }
 {
     if state.len() != STATE {
-        return refuse_state(state, Shape { n, p, l, b, e, w });
+        return refuse_open(state, Shape { n, p, l, b, e, w });
     }
     let r = opening::open(
         Shape { n, p, l, b, e, w },
@@ -207,6 +218,31 @@ pub extern "C" fn rinwolfedd_collect(state: &mut [u8], memory: &mut [u8], buffer
     let c = codec::decode(state);
     let r = collecting::collect(c, memory, buffer);
     hand_back(state, r)
+}
+
+// State and memory are only read: a state at rest stays as it is. The answer has the form's length where another call's has the words taken.
+#[no_mangle]
+pub extern "C" fn rinwolfedd_save(state: &[u8], memory: &[u8], buffer: &mut [u8]) -> u64
+    ensures { λ u. ⌜ Exported save (now (state .entry)) (now (memory .entry)) [] (now (buffer .entry)) u (now (state .entry)) (now (memory .entry)) (now (buffer .exit)) ⌝ }
+{
+    if state.len() != STATE {
+        return 2;
+    }
+    let c = codec::decode(state);
+    let r = saving::save(c, memory, buffer);
+    codec::pack(r)
+}
+
+// It looks at no state, as an open does: a client is what the form says, or closed.
+#[no_mangle]
+pub extern "C" fn rinwolfedd_load(state: &mut [u8], memory: &mut [u8], form: &[u8]) -> u64
+    ensures { λ u. ⌜ Loaded (now (form .entry)) (now (state .entry)) (now (memory .entry)) u (now (state .exit)) (now (memory .exit)) ⌝ }
+{
+    if state.len() != STATE {
+        return refuse_load(state, form);
+    }
+    let loaded = loading::load(memory, form);
+    hand_back_opened(state, loaded)
 }
 
 // A page's answer has its length where a call's has the words taken.

@@ -6,5 +6,7 @@ pub mod Distinct
 pub mod Members
 pub mod Totals
 pub mod Tables
+pub mod Entries
 pub mod Ascending
 pub mod Places
+pub mod Written

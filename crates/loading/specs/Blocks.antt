@@ -1,182 +1,106 @@
--- The blocks of a form, gone through one by one: each is in its place, and no other was in it.
+-- The blocks of a form, put into the tables one after the other.
 use mathlib.Core.Path.{_≡_, refl, ap, sym, _∙_}
 use mathlib.Core.Logic.{_⊎_, inl, inr}
-use mathlib.Core.Bool.{Bool, true, false, _&&_}
-use mathlib.Core.List.{List, [], _∷_}
-use Prim.Native.Nat.{ℕ, suc, _+_, _-_, _*_, _≤_, _<_}
+use mathlib.Core.List.{List, [], _∷_, _++_, map}
+use Prim.Native.Nat.{ℕ, suc, _+_, _*_, _≤_, _<_}
 use native.Mathlib.Omega.{arith}
-use native.Mathlib.Decide.{ℕ-discrete}
-use lib.Dec.{eqb, ltb}
-use lib.ListN.{getD, set}
-use borrow.Author.Tests.{eqb-true, eq-eqb, ne-eqb, lt-ltb, le-ltb, ltb-true}
-use Rattle.lists.specs.Search.{below, count}
-use Rattle.lists.specs.Tests.{every, every-yes, if_then_else_}
-use Rattle.rules.specs.Form.Reading.{Spot, absent, waits, at, isWaiting}
-use Rattle.rules.specs.Levels.{filled}
+use lib.ListN.{getD}
+use Rattle.lists.specs.Entries.{putAll-none, put-first}
+use Rattle.lists.specs.Tables.{put, putAll}
+use Rattle.rules.specs.Form.Loading.{layOver, heldAt, heldFrom}
+use Rattle.rules.specs.Form.Reading.{Spot, absent, waits, at}
 use Rattle.rules.specs.Shape.{Shape, slots, cell}
-use Rattle.loading.specs.At.{numberAt, numbersAt, spotAt, spotSize, blockAt, blockSize, eachAt, sizeAt}
-use Rattle.loading.specs.Bytes.{number-one}
-use Rattle.loading.specs.Cells.{spotIn, placedIn, cellAt}
-use Rattle.loading.specs.Lists.{numbers-at}
-use Rattle.loading.specs.Once.{freshIn, markAll}
+use Rattle.memory.specs.Tables.{Tables, withPartition, withPlace, withHolds}
+use Rattle.forms.specs.At.{numberAt, spotAt, blockAt}
+use Rattle.forms.specs.Blocks.{spot-none, block-at}
+use Rattle.forms.specs.Cells.{PlacedIn}
 
--- the n blocks from byte a on, and those from number b on
-abbrev pub blocksAt : List ℕ → ℕ → ℕ → List (ℕ × Spot)
-blocksAt p n a = eachAt (λ _. blockAt p 1) (λ _. blockSize p 1) (below n) a
+-- the number of a place in the table of places: 0 for nowhere
+unfoldable pub placeNumber : Spot → ℕ
+placeNumber absent = 0
+placeNumber waits = 0
+placeNumber (at ℓ i) = slots ℓ + i
 
-abbrev pub blocksLeft : List ℕ → ℕ → ℕ → ℕ → List (ℕ × Spot)
-blocksLeft p n b a = eachAt (λ _. blockAt p 1) (λ _. blockSize p 1) (count b (n - b)) a
+-- "Each block's partition and place": block b has both, and the slot of its place holds it
+unfoldable pub putBlock : Shape → ℕ → ℕ × Spot → Tables → Tables
+putBlock h b x t = withHolds (layOver (t .holds) (heldAt h b (x .0) (x .1))) (withPlace (put b (placeNumber (x .1)) (t .place)) (withPartition (put b (x .0) (t .partition)) t))
 
-abbrev pub sizeLeft : List ℕ → ℕ → ℕ → ℕ → ℕ
-sizeLeft p n b a = sizeAt (λ _. blockSize p 1) (count b (n - b)) a
+unfoldable pub putBlocks : Shape → ℕ → List (ℕ × Spot) → Tables → Tables
+putBlocks h b [] t = t
+putBlocks h b (x ∷ xs) t = putBlocks h (b + 1) xs (putBlock h b x t)
 
--- the counters as the form has them
-abbrev pub counterIn : List ℕ → ℕ → ℕ → ℕ
-counterIn p n q = getD (numbersAt p 2 n 13) q 0
+pub blocks-put : (h : Shape) (b : ℕ) (x : ℕ × Spot) (xs : List (ℕ × Spot)) (t : Tables) → putBlocks h (b + 1) xs (putBlock h b x t) ≡ putBlocks h b (x ∷ xs) t
+unfolding putBlocks
+blocks-put h b x xs t = refl
 
--- no block was met in its cell
-unfoldable pub isFree : Shape → List ℕ → ℕ × Spot → Bool
-isFree h seen x = freshIn (λ c. true) seen (cellAt h (x .0) (x .1))
+pub no-blocks : (h : Shape) (b : ℕ) (t : Tables) → putBlocks h b [] t ≡ t
+unfolding putBlocks
+no-blocks h b t = refl
 
-unfoldable pub stands : Shape → (ℕ → ℕ) → List ℕ → ℕ × Spot → Bool
-stands h counter seen x = placedIn h counter x && isFree h seen x
+-- ---- One block, as it is put
 
-abbrev pub marked : Shape → List ℕ → ℕ × Spot → List ℕ
-marked h seen x = markAll seen (cellAt h (x .0) (x .1))
+-- one that has no slot
+pub put-none : (h : Shape) (b q : ℕ) (y : Spot) (t : Tables) → (y ≡ absent) ⊎ (y ≡ waits) → putBlock h b (q, y) t ≡ withPlace (put b 0 (t .place)) (withPartition (put b q (t .partition)) t)
+unfolding putBlock placeNumber layOver heldAt
+put-none h b q y t (inl e) = rw e
+put-none h b q y t (inr e) = rw e
 
-unfoldable pub allStand : Shape → (ℕ → ℕ) → List ℕ → List (ℕ × Spot) → Bool
-allStand h counter seen [] = true
-allStand h counter seen (x ∷ xs) = stands h counter seen x && allStand h counter (marked h seen x) xs
+-- one that has one
+pub put-slot : (h : Shape) (b q ℓ i : ℕ) (t : Tables)
+    → putBlock h b (q, at ℓ i) t ≡ withHolds (put (cell h q ℓ i) (suc b) (t .holds)) (withPlace (put b (slots ℓ + i) (t .place)) (withPartition (put b q (t .partition)) t))
+unfolding putBlock placeNumber layOver heldAt
+put-slot h b q ℓ i t = ap (λ f. withHolds f (withPlace (put b (slots ℓ + i) (t .place)) (withPartition (put b q (t .partition)) t)))
+    (sym (put-first (cell h q ℓ i) (suc b) [] (t .holds)) ∙ sym (putAll-none (cell h q ℓ i + 1) (put (cell h q ℓ i) (suc b) (t .holds))))
 
--- ---- One block
+-- ---- One block, by the numbers that are read
 
-module _ (p : List ℕ) (w a : ℕ) where
-  pub spot-none : 254 ≤ getD p a 0 → getD p a 0 < 256 → (spotAt p w a ≡ absent) ⊎ (spotAt p w a ≡ waits)
-  unfolding spotAt
-  spot-none l u = go (ℕ-discrete (getD p a 0) 255)
-    where
-      go : Dec (getD p a 0 ≡ 255) → (spotAt p w a ≡ absent) ⊎ (spotAt p w a ≡ waits)
-      go (yes e) = inl (rw (eq-eqb (getD p a 0) 255 e))
-      go (no e) = inr (rw (ne-eqb (getD p a 0) 255 e, eq-eqb (getD p a 0) 254 (omega arith)))
+pub slot-in : (h : Shape) (p : List ℕ) (a q ℓ i : ℕ) (counter : ℕ → ℕ) → q ≡ numberAt p 2 a → ℓ ≡ getD p (a + 2) 0 → i ≡ getD p (a + 3) 0 → ℓ < 254 → PlacedIn h counter (blockAt p 1 a) → (q < h .P) × (ℓ < h .L) × (i < slots ℓ)
+slot-in h p a q ℓ i counter e d g l k = let r : PlacedIn h counter (q, at ℓ i) = rw (block-at p a q ℓ i e d g l) at k in (r .0, r .1 .0, r .1 .1)
 
-  pub spot-at : getD p a 0 < 254 → spotAt p w a ≡ at (getD p a 0) (numberAt p w (suc a))
-  unfolding spotAt
-  spot-at l = rw (ne-eqb (getD p a 0) 255 (λ e. omega arith), ne-eqb (getD p a 0) 254 (λ e. omega arith))
-
-  pub size-none : 254 ≤ getD p a 0 → getD p a 0 < 256 → spotSize p w a ≡ 1
-  unfolding spotSize
-  size-none l u = go (ℕ-discrete (getD p a 0) 255)
-    where
-      go : Dec (getD p a 0 ≡ 255) → spotSize p w a ≡ 1
-      go (yes e) = rw (eq-eqb (getD p a 0) 255 e)
-      go (no e) = rw (ne-eqb (getD p a 0) 255 e, eq-eqb (getD p a 0) 254 (omega arith))
-
-  pub size-at : getD p a 0 < 254 → spotSize p w a ≡ 1 + w
-  unfolding spotSize
-  size-at l = rw (ne-eqb (getD p a 0) 255 (λ e. omega arith), ne-eqb (getD p a 0) 254 (λ e. omega arith))
-
-  pub waits-at : isWaiting (0, spotAt p w a) ≡ eqb (getD p a 0) 254
-  unfolding spotAt isWaiting
-  waits-at = go (eqb (getD p a 0) 255) (eqb (getD p a 0) 254) refl refl
-    where
-      go : (t u : Bool) → eqb (getD p a 0) 255 ≡ t → eqb (getD p a 0) 254 ≡ u → isWaiting (0, if t then absent else (if u then waits else at (getD p a 0) (numberAt p w (suc a)))) ≡ u
-      go true true e d = absurd (omega (arith, eqb-true (getD p a 0) 255 e, eqb-true (getD p a 0) 254 d))
-      go true false e d = refl
-      go false true e d = refl
-      go false false e d = refl
-
--- a block's size
-pub block-four : (p : List ℕ) (a : ℕ) → getD p (a + 2) 0 < 254 → blockSize p 1 a ≡ 4
-unfolding blockSize
-block-four p a l = omega (arith, size-at p 1 (a + 2) l)
-
-pub block-three : (p : List ℕ) (a : ℕ) → 254 ≤ getD p (a + 2) 0 → getD p (a + 2) 0 < 256 → blockSize p 1 a ≡ 3
-unfolding blockSize
-block-three p a l u = omega (arith, size-none p 1 (a + 2) l u)
-
-module _ (h : Shape) (counter : ℕ → ℕ) (seen : List ℕ) where
-  -- outside the partitions
-  pub stand-far : (x : ℕ × Spot) → h .P ≤ x .0 → stands h counter seen x ≡ false
-  unfolding stands placedIn
-  stand-far x l = rw (le-ltb (x .0) (h .P) l)
-
-  -- nowhere, or waiting
-  pub stand-none : (q : ℕ) (y : Spot) → q < h .P → (y ≡ absent) ⊎ (y ≡ waits) → (stands h counter seen (q, y) ≡ true) × (marked h seen (q, y) ≡ seen)
-  unfolding stands placedIn spotIn isFree cellAt freshIn markAll
-  stand-none q y l (inl e) = rw (e, lt-ltb q (h .P) l) (refl, refl)
-  stand-none q y l (inr e) = rw (e, lt-ltb q (h .P) l) (refl, refl)
-
-  -- in a slot
-  abbrev inSlot : ℕ → ℕ → ℕ → Bool
-  inSlot c ℓ i = every (ltb ℓ (h .L) ∷ ltb i (slots ℓ) ∷ filled c ℓ ∷ [])
-
-  pub stand-bad : (q ℓ i : ℕ) → inSlot (counter q) ℓ i ≡ false → stands h counter seen (q, at ℓ i) ≡ false
-  unfolding stands placedIn spotIn
-  stand-bad q ℓ i e = go (ltb q (h .P))
-    where
-      go : (t : Bool) → ((t && inSlot (counter q) ℓ i) && isFree h seen (q, at ℓ i)) ≡ false
-      go true = rw e
-      go false = refl
-
-  pub stand-slot : (q ℓ i : ℕ) → q < h .P → inSlot (counter q) ℓ i ≡ true → stands h counter seen (q, at ℓ i) ≡ eqb (getD seen (cell h q ℓ i) 0) 0
-  unfolding stands placedIn spotIn isFree cellAt freshIn
-  stand-slot q ℓ i l e = rw (lt-ltb q (h .P) l, e) (last (eqb (getD seen (cell h q ℓ i) 0) 0))
-    where
-      last : (t : Bool) → (t && true) ≡ t
-      last true = refl
-      last false = refl
-
-  pub marked-slot : (q ℓ i : ℕ) → marked h seen (q, at ℓ i) ≡ set seen (cell h q ℓ i) 1
-  unfolding cellAt markAll
-  marked-slot q ℓ i = refl
-
--- the same by the numbers that are read
-module _ (h : Shape) (p seen : List ℕ) (a : ℕ) where
-  abbrev C : ℕ → ℕ
-  C = counterIn p (h .P)
-
-  abbrev X : ℕ × Spot
-  X = blockAt p 1 a
-
-  pub placed-far : (q : ℕ) → q ≡ numberAt p 2 a → h .P ≤ q → stands h C seen X ≡ false
+module _ (h : Shape) (p : List ℕ) (b a q ℓ : ℕ) (e : q ≡ numberAt p 2 a) (d : ℓ ≡ getD p (a + 2) 0) (t t₁ t₂ : Tables) (parted : t₁ ≡ withPartition (put b q (t .partition)) t) where
+  pub none-put : 254 ≤ ℓ → ℓ < 256 → t₂ ≡ withPlace (put b 0 (t₁ .place)) t₁ → t₂ ≡ putBlock h b (blockAt p 1 a) t
   unfolding blockAt
-  placed-far q e l = stand-far h C seen X (omega arith)
+  none-put l u k =
+      k ∙ ap (λ (x : Tables). withPlace (put b 0 (x .place)) x) parted
+      ∙ sym (put-none h b q (spotAt p 1 (a + 2)) t (spot-none p 1 (a + 2) (omega arith) (omega arith)))
+      ∙ ap (λ n. putBlock h b (n, spotAt p 1 (a + 2)) t) e
 
-  pub placed-none : (q ℓ : ℕ) → q ≡ numberAt p 2 a → ℓ ≡ getD p (a + 2) 0 → q < h .P → 254 ≤ ℓ → ℓ < 256 → (stands h C seen X ≡ true) × (marked h seen X ≡ seen)
-  unfolding blockAt
-  placed-none q ℓ e d l k u = stand-none h C seen (numberAt p 2 a) (spotAt p 1 (a + 2)) (omega arith) (spot-none p 1 (a + 2) (omega arith) (omega arith))
+  module _ (i : ℕ) (g : i ≡ getD p (a + 3) 0) (l : ℓ < 254) where
+    pub slot-put : (x c : ℕ) (t₃ : Tables) → x ≡ slots ℓ + i → c ≡ q * slots (h .L) + x → t₂ ≡ withPlace (put b x (t₁ .place)) t₁ → t₃ ≡ withHolds (put c (b + 1) (t₂ .holds)) t₂ → t₃ ≡ putBlock h b (blockAt p 1 a) t
+    unfolding cell
+    slot-put x c t₃ m n k w =
+        let o : c ≡ cell h q ℓ i = omega arith in
+        let z : b + 1 ≡ suc b = omega arith in
+        w ∙ ap (λ (y : Tables). withHolds (put c (b + 1) (y .holds)) y) (k ∙ ap (λ (y : Tables). withPlace (put b x (y .place)) y) parted)
+        ∙ (λ j. withHolds (put (o j) (z j) (t .holds)) (withPlace (put b (m j) (t .place)) (withPartition (put b q (t .partition)) t)))
+        ∙ sym (put-slot h b q ℓ i t) ∙ ap (λ y. putBlock h b y t) (sym (block-at p a q ℓ i e d g l))
 
-  module _ (q ℓ i c : ℕ) (e : q ≡ numberAt p 2 a) (d : ℓ ≡ getD p (a + 2) 0) (g : i ≡ getD p (a + 3) 0) (n : c ≡ numberAt p 2 (13 + q * 2)) (l : q < h .P) (k : ℓ < 254) where
-    pub block-is : X ≡ (q, at ℓ i)
-    unfolding blockAt
-    block-is =
-        let s : suc (a + 2) ≡ a + 3 = omega arith in
-        let y : spotAt p 1 (a + 2) ≡ at ℓ i = spot-at p 1 (a + 2) (omega arith) ∙ rw (← d) (ap (at ℓ) (number-one p (suc (a + 2)) ∙ ap (λ j. getD p j 0) s ∙ sym g)) in
-        rw (← e, y)
+-- ---- All of them at once
 
-    counter-is : C q ≡ c
-    counter-is = numbers-at p 2 (h .P) 13 q l ∙ sym n
+lay-then : (t : ℕ → ℕ) (xs ys : List (ℕ × List ℕ)) → layOver (layOver t xs) ys ≡ layOver t (xs ++ ys)
+unfolding layOver
+lay-then t [] ys = refl
+lay-then t (x ∷ xs) ys = lay-then (putAll (x .0) (x .1) t) xs ys
 
-    pub placed-bad : inSlot h C seen c ℓ i ≡ false → stands h C seen X ≡ false
-    placed-bad f = ap (stands h C seen) block-is ∙ stand-bad h C seen q ℓ i (ap (λ c. inSlot h C seen c ℓ i) counter-is ∙ f)
+abbrev pub blocksLaid : Shape → ℕ → List (ℕ × Spot) → Tables → Tables
+blocksLaid h b xs t = withHolds (layOver (t .holds) (heldFrom h b xs)) (withPlace (putAll b (map (λ (x : ℕ × Spot). placeNumber (x .1)) xs) (t .place)) (withPartition (putAll b (map (λ (x : ℕ × Spot). x .0) xs) (t .partition)) t))
 
-    pub placed-slot : inSlot h C seen c ℓ i ≡ true → stands h C seen X ≡ eqb (getD seen (cell h q ℓ i) 0) 0
-    placed-slot f = ap (stands h C seen) block-is ∙ stand-slot h C seen q ℓ i l (ap (λ c. inSlot h C seen c ℓ i) counter-is ∙ f)
-
-    pub marked-is : marked h seen X ≡ set seen (cell h q ℓ i) 1
-    marked-is = ap (marked h seen) block-is ∙ marked-slot h C seen q ℓ i
-
-pub slot-facts : (h : Shape) (c ℓ i : ℕ) → every (ltb ℓ (h .L) ∷ ltb i (slots ℓ) ∷ filled c ℓ ∷ []) ≡ true → (ℓ < h .L) × (i < slots ℓ)
-slot-facts h c ℓ i e = let y = every-yes _ e in (ltb-true ℓ (h .L) (y .0), ltb-true i (slots ℓ) (y .1 .0))
-
-pub slot-over : (L c ℓ i : ℕ) → L ≤ ℓ → every (ltb ℓ L ∷ ltb i (slots ℓ) ∷ filled c ℓ ∷ []) ≡ false
-unfolding every
-slot-over L c ℓ i l = rw (le-ltb ℓ L l)
-
-pub slot-under : (L c ℓ i : ℕ) → ℓ < L → every (ltb ℓ L ∷ ltb i (slots ℓ) ∷ filled c ℓ ∷ []) ≡ (ltb i (slots ℓ) && filled c ℓ)
-unfolding every
-slot-under L c ℓ i l = rw (lt-ltb ℓ L l) (ap (λ t. ltb i (slots ℓ) && t) (last (filled c ℓ)))
+pub blocks-are : (h : Shape) (b : ℕ) (xs : List (ℕ × Spot)) (t : Tables) → putBlocks h b xs t ≡ blocksLaid h b xs t
+unfolding putBlocks putBlock heldFrom
+blocks-are h b [] t = λ k. withHolds (none k) (withPlace (putAll-none b (t .place) k) (withPartition (putAll-none b (t .partition) k) t))
   where
-    last : (t : Bool) → (t && true) ≡ t
-    last true = refl
-    last false = refl
+    none : t .holds ≡ layOver (t .holds) []
+    none = unfold layOver in refl
+blocks-are h b (x ∷ xs) t = blocks-are h (b + 1) xs (putBlock h b x t) ∙ (λ k. withHolds (held k) (withPlace (places k) (withPartition (parts k) t)))
+  where
+    next : b + 1 ≡ suc b
+    next = omega arith
+
+    held : layOver (layOver (t .holds) (heldAt h b (x .0) (x .1))) (heldFrom h (b + 1) xs) ≡ layOver (t .holds) (heldAt h b (x .0) (x .1) ++ heldFrom h (suc b) xs)
+    held = lay-then (t .holds) (heldAt h b (x .0) (x .1)) (heldFrom h (b + 1) xs) ∙ ap (λ c. layOver (t .holds) (heldAt h b (x .0) (x .1) ++ heldFrom h c xs)) next
+
+    places : putAll (b + 1) (map (λ (x : ℕ × Spot). placeNumber (x .1)) xs) (put b (placeNumber (x .1)) (t .place)) ≡ putAll b (placeNumber (x .1) ∷ map (λ (x : ℕ × Spot). placeNumber (x .1)) xs) (t .place)
+    places = put-first b (placeNumber (x .1)) (map (λ (x : ℕ × Spot). placeNumber (x .1)) xs) (t .place)
+
+    parts : putAll (b + 1) (map (λ (x : ℕ × Spot). x .0) xs) (put b (x .0) (t .partition)) ≡ putAll b (x .0 ∷ map (λ (x : ℕ × Spot). x .0) xs) (t .partition)
+    parts = put-first b (x .0) (map (λ (x : ℕ × Spot). x .0) xs) (t .partition)

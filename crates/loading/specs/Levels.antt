@@ -1,110 +1,102 @@
--- The levels of a form, gone through in turn: their orders, their marks, and how many of their slots hold a block.
-use mathlib.Core.Path.{_≡_, refl, ap, _∙_}
-use mathlib.Core.Bool.{Bool, true, false, _&&_}
-use mathlib.Core.List.{List, [], _∷_}
-use Prim.Native.Nat.{ℕ, zero, suc, _+_, _-_, _^_, _≤_, _<_}
+-- The filled levels of a form, put into the tables one after the other.
+use mathlib.Core.Path.{_≡_, refl, ap, sym, _∙_, subst}
+use mathlib.Core.Bool.{true, false}
+use mathlib.Core.List.{List, [], _∷_, _++_, map}
+use Prim.Native.Nat.{ℕ, _+_, _-_, _*_, _≤_, _<_}
 use native.Mathlib.Omega.{arith}
-use lib.Dec.{eqb, leb, ltb}
-use lib.ListN.{getD, set, replicate}
-use borrow.Author.Tests.{le-leb, lt-leb, lt-ltb, le-ltb}
-use Rattle.lists.specs.Tests.{every, and-false}
+use lib.Pow.{pow-mono}
+use Rattle.lists.specs.Search.{below, count}
+use Rattle.lists.specs.Tables.{putAll}
+use Rattle.rules.specs.Form.Loading.{layOver, ordersOf, marksOf}
 use Rattle.rules.specs.Form.Numbers.{each}
 use Rattle.rules.specs.Form.Reading.{Level}
+use Rattle.rules.specs.Levels.{filled}
 use Rattle.rules.specs.Shape.{Shape, slots, cell}
-use Rattle.loading.specs.At.{bytesAt, numbersAt}
-use Rattle.loading.specs.Bytes.{number-one}
-use Rattle.loading.specs.Once.{freshIn}
+use Rattle.memory.specs.declared.tables.Table.the-variants.{Order, Mark}
+use Rattle.memory.specs.Tables.{Tables, withOrder, withMark}
+use Rattle.forms.specs.At.{bytesAt, levelAt, levelSize, eachAt, sizeAt}
+use Rattle.forms.specs.Levels.{ones-are}
+use Rattle.forms.specs.Lists.{size-append, each-append}
+use Rattle.forms.specs.Passes.{keyAt, key-none, key-some, each-left, each-none, each-all}
+use Rattle.loading.specs.Laid.{laid, laid-is}
 
--- no slot was read in which a block stands, and a mark is 0 or 1; `seen` has 1 for each cell in which one stands
-unfoldable pub marksFit : List ℕ → ℕ → List ℕ → Bool
-marksFit seen c [] = true
-marksFit seen c (m ∷ ms) = leb (m + getD seen c 0) 1 && marksFit seen (suc c) ms
+pub few-slots : (ℓ : ℕ) → ℓ < 8 → slots ℓ ≤ 256
+few-slots ℓ l = pow-mono {i = ℓ + 1} {j = 8} (omega arith)
 
--- of n cells from c on, those in which a block stands
-unfoldable pub heldIn : List ℕ → ℕ → ℕ → ℕ
-heldIn seen c zero = 0
-heldIn seen c (suc n) = getD seen c 0 + heldIn seen (suc c) n
+-- "Each filled level's order and read marks"
+unfoldable pub putLevels : Shape → List Level → Tables → Tables
+putLevels h ls t = withMark (layOver (t .mark) (marksOf h ls)) (withOrder (layOver (t .order) (ordersOf h ls)) t)
 
-unfoldable pub isOrder : ℕ → List ℕ → Bool
-isOrder n xs = freshIn (λ x. ltb x n) (replicate 256 0) xs
+-- the levels with these keys, the first of which is at byte a
+unfoldable pub levelsPut : Shape → List ℕ → List (ℕ × ℕ) → ℕ → Tables → Tables
+levelsPut h p ks a t = putLevels h (eachAt (levelAt p 1) (levelSize 1) ks a) t
 
-unfoldable pub levelFits : Shape → List ℕ → Level → Bool
-levelFits h seen l = every
-    (isOrder (slots (l .level)) (l .order)
-    ∷ marksFit seen (cell h (l .partition) (l .level) 0) (l .marks)
-    ∷ leb (heldIn seen (cell h (l .partition) (l .level) 0) (slots (l .level))) (2 ^ l .level) ∷ [])
+put-again : (h : Shape) (ls ms : List Level) (t : Tables) → putLevels h ms (putLevels h ls t) ≡ putLevels h (ls ++ ms) t
+unfolding putLevels ordersOf marksOf layOver
+put-again h [] ms t = refl
+put-again h (l ∷ ls) ms t = put-again h ls ms (withMark (putAll (cell h (l .partition) (l .level) 0) (map (λ m. 1 - m) (l .marks)) (t .mark)) (withOrder (putAll (cell h (l .partition) (l .level) 0) (l .order) (t .order)) t))
 
--- ---- As loops go
+module _ (h : Shape) (p : List ℕ) where
+  -- some levels, and those behind them
+  levels-more : (ks js : List (ℕ × ℕ)) (a : ℕ) (t : Tables) → levelsPut h p js (a + sizeAt (levelSize 1) ks a) (levelsPut h p ks a t) ≡ levelsPut h p (ks ++ js) a t
+  unfolding levelsPut
+  levels-more ks js a t = put-again h (eachAt (levelAt p 1) (levelSize 1) ks a) _ t ∙ ap (λ ls. putLevels h ls t) (sym (each-append (levelSize 1) (levelAt p 1) ks js a))
 
-module _ (p : List ℕ) where
-  pub bytes-left : (n a i : ℕ) → i < n → bytesAt p (n - i) (a + i) ≡ getD p (a + i) 0 ∷ bytesAt p (n - (i + 1)) (a + (i + 1))
-  unfolding bytesAt
-  bytes-left n a i l =
-      let e : n - i ≡ suc (n - (i + 1)) = omega arith in
-      let d : suc (a + i) ≡ a + (i + 1) = omega arith in
-      ap (λ k. bytesAt p k (a + i)) e ∙ ap (λ k. getD p (a + i) 0 ∷ bytesAt p (n - (i + 1)) k) d
+  levels-none : (a : ℕ) (t : Tables) → levelsPut h p [] a t ≡ t
+  unfolding levelsPut putLevels eachAt layOver ordersOf marksOf
+  levels-none a t = refl
 
-  pub bytes-none : (n a i : ℕ) → n ≤ i → bytesAt p (n - i) a ≡ []
-  unfolding bytesAt
-  bytes-none n a i l = let e : n - i ≡ 0 = omega arith in ap (λ k. bytesAt p k a) e
+  -- one level: its order, and its marks behind it
+  levels-one : (q ℓ a : ℕ) (t : Tables) → laid Mark (cell h q ℓ 0) (map (λ x. 1 - x) (bytesAt p (slots ℓ) (a + slots ℓ))) (laid Order (cell h q ℓ 0) (bytesAt p (slots ℓ) a) t) ≡ levelsPut h p ((q, ℓ) ∷ []) a t
+  unfolding levelsPut putLevels eachAt layOver ordersOf marksOf levelAt
+  levels-one q ℓ a t =
+      let e : slots ℓ ≡ slots ℓ * 1 = omega arith in
+      laid-is Mark (cell h q ℓ 0) (map (λ x. 1 - x) (bytesAt p (slots ℓ) (a + slots ℓ))) (laid Order (cell h q ℓ 0) (bytesAt p (slots ℓ) a) t)
+      ∙ ap (λ (x : Tables). withMark (putAll (cell h q ℓ 0) (map (λ x. 1 - x) (bytesAt p (slots ℓ) (a + slots ℓ))) (x .mark)) x) (laid-is Order (cell h q ℓ 0) (bytesAt p (slots ℓ) a) t)
+      ∙ (λ k. withMark (putAll (cell h q ℓ 0) (map (λ x. 1 - x) (bytesAt p (slots ℓ) (a + e k))) (t .mark)) (withOrder (putAll (cell h q ℓ 0) (sym (ones-are p (slots ℓ) a) k) (t .order)) t))
 
-  pub bytes-all : (n a : ℕ) → bytesAt p (n - 0) (a + 0) ≡ bytesAt p n a
-  bytes-all n a =
-      let e : n - 0 ≡ n = omega arith in
-      let d : a + 0 ≡ a = omega arith in
-      ap (λ k. bytesAt p k (a + 0)) e ∙ ap (bytesAt p n) d
+  -- ---- Levels in turn
 
-  -- numbers of one byte are bytes
-  pub ones-are : (n a : ℕ) → numbersAt p 1 n a ≡ bytesAt p n a
-  unfolding numbersAt bytesAt
-  ones-are zero a = refl
-  ones-are (suc n) a =
-      let e : a + 1 ≡ suc a = omega arith in
-      ap (λ x. x ∷ numbersAt p 1 n (a + 1)) (number-one p a) ∙ ap (λ k. getD p a 0 ∷ numbersAt p 1 n k) e ∙ ap (λ xs. getD p a 0 ∷ xs) (ones-are n (suc a))
+  -- levels are left, from byte a on: they lead to the byte and the tables to which others would, from byte b on
+  pub record Leads (ks : List (ℕ × ℕ)) (a : ℕ) (t : Tables) (js : List (ℕ × ℕ)) (b : ℕ) (u : Tables) : Type 0 where
+    pub byte : a + sizeAt (levelSize 1) ks a ≡ b + sizeAt (levelSize 1) js b
+    pub tables : levelsPut h p ks a t ≡ levelsPut h p js b u
 
-module _ (n : ℕ) (seen : List ℕ) (x : ℕ) (xs : List ℕ) where
-  pub fresh-over : n ≤ x → freshIn (λ x. ltb x n) seen (x ∷ xs) ≡ false
-  unfolding freshIn
-  fresh-over l = rw (le-ltb x n l)
+  -- some of them are put
+  leads-more : (ks is js : List (ℕ × ℕ)) (a a′ b : ℕ) (t t′ u : Tables) → a′ ≡ a + sizeAt (levelSize 1) ks a → t′ ≡ levelsPut h p ks a t → Leads (ks ++ is) a t js b u → Leads is a′ t′ js b u
+  leads-more ks is js a a′ b t t′ u e d l = record {
+    byte =
+        let n : a + sizeAt (levelSize 1) ks a + sizeAt (levelSize 1) is (a + sizeAt (levelSize 1) ks a) ≡ a + (sizeAt (levelSize 1) ks a + sizeAt (levelSize 1) is (a + sizeAt (levelSize 1) ks a)) = omega arith in
+        ap (λ k. k + sizeAt (levelSize 1) is k) e ∙ n ∙ ap (λ k. a + k) (sym (size-append (levelSize 1) ks is a)) ∙ l .byte;
+    tables = (λ k. levelsPut h p is (e k) (d k)) ∙ levels-more ks is a t ∙ l .tables;
+  }
 
-  pub fresh-met : eqb (getD seen x 0) 0 ≡ false → freshIn (λ x. ltb x n) seen (x ∷ xs) ≡ false
-  unfolding freshIn
-  fresh-met e = rw e (and-false (ltb x n) refl)
+  -- none is left
+  leads-none : (js : List (ℕ × ℕ)) (a b : ℕ) (t u : Tables) → Leads [] a t js b u → (a ≡ b + sizeAt (levelSize 1) js b) × (t ≡ levelsPut h p js b u)
+  unfolding sizeAt
+  leads-none js a b t u l = (omega (arith, l .byte), sym (levels-none a t) ∙ l .tables)
 
-  pub fresh-more : x < n → eqb (getD seen x 0) 0 ≡ true → freshIn (λ x. ltb x n) seen (x ∷ xs) ≡ freshIn (λ x. ltb x n) (set seen x 1) xs
-  unfolding freshIn
-  fresh-more l e = rw (lt-ltb x n l, e)
+  -- a loop over the first n numbers, each of which has keys: at first all are left, then all but the first i, at last none
+  module _ (g : ℕ → List (ℕ × ℕ)) (n : ℕ) where
+    pub leads-all : (a : ℕ) (t : Tables) → Leads (each g (count 0 (n - 0))) a t (each g (below n)) a t
+    leads-all a t = record { byte = ap (λ ks. a + sizeAt (levelSize 1) ks a) (each-all g n); tables = ap (λ ks. levelsPut h p ks a t) (each-all g n) }
 
-pub fresh-none : (ok : ℕ → Bool) (seen : List ℕ) → freshIn ok seen [] ≡ true
-unfolding freshIn
-fresh-none ok seen = refl
+    pub leads-next : (i : ℕ) (js : List (ℕ × ℕ)) (a a′ b : ℕ) (t t′ u : Tables) → i < n → a′ ≡ a + sizeAt (levelSize 1) (g i) a → t′ ≡ levelsPut h p (g i) a t
+        → Leads (each g (count i (n - i))) a t js b u → Leads (each g (count (i + 1) (n - (i + 1)))) a′ t′ js b u
+    leads-next i js a a′ b t t′ u l e d k = leads-more (g i) (each g (count (i + 1) (n - (i + 1)))) js a a′ b t t′ u e d (subst (λ ks. Leads ks a t js b u) (each-left g n i l) k)
 
-module _ (seen : List ℕ) (c i m : ℕ) (ms : List ℕ) where
-  pub marks-more : m + getD seen (c + i) 0 ≤ 1 → marksFit seen (c + i) (m ∷ ms) ≡ marksFit seen (c + (i + 1)) ms
-  unfolding marksFit
-  marks-more l = let e : suc (c + i) ≡ c + (i + 1) = omega arith in rw (le-leb (m + getD seen (c + i) 0) 1 l) (ap (λ k. marksFit seen k ms) e)
+    pub leads-end : (i : ℕ) (js : List (ℕ × ℕ)) (a b : ℕ) (t u : Tables) → n ≤ i → Leads (each g (count i (n - i))) a t js b u → (a ≡ b + sizeAt (levelSize 1) js b) × (t ≡ levelsPut h p js b u)
+    leads-end i js a b t u l k = leads-none js a b t u (subst (λ ks. Leads ks a t js b u) (each-none g n i l) k)
 
-  pub marks-not : 1 < m + getD seen (c + i) 0 → marksFit seen (c + i) (m ∷ ms) ≡ false
-  unfolding marksFit
-  marks-not l = rw (lt-leb (m + getD seen (c + i) 0) 1 l)
+  -- a level that is not filled, and one that is
+  pub level-none : (q c ℓ a : ℕ) (t : Tables) → filled c ℓ ≡ false → (a ≡ a + sizeAt (levelSize 1) (keyAt q c ℓ) a) × (t ≡ levelsPut h p (keyAt q c ℓ) a t)
+  unfolding sizeAt
+  level-none q c ℓ a t e = rw (key-none q c ℓ e) (omega arith, sym (levels-none a t))
 
-pub marks-none : (seen : List ℕ) (c : ℕ) → marksFit seen c [] ≡ true
-unfolding marksFit
-marks-none seen c = refl
-
-pub held-left : (seen : List ℕ) (c n i : ℕ) → i < n → heldIn seen (c + i) (n - i) ≡ getD seen (c + i) 0 + heldIn seen (c + (i + 1)) (n - (i + 1))
-unfolding heldIn
-held-left seen c n i l =
-    let e : n - i ≡ suc (n - (i + 1)) = omega arith in
-    let d : suc (c + i) ≡ c + (i + 1) = omega arith in
-    ap (heldIn seen (c + i)) e ∙ ap (λ k. getD seen (c + i) 0 + heldIn seen k (n - (i + 1))) d
-
-pub held-none : (seen : List ℕ) (c n i : ℕ) → n ≤ i → heldIn seen c (n - i) ≡ 0
-unfolding heldIn
-held-none seen c n i l = let e : n - i ≡ 0 = omega arith in ap (heldIn seen c) e
-
-pub held-all : (seen : List ℕ) (c n : ℕ) → heldIn seen (c + 0) (n - 0) ≡ heldIn seen c n
-held-all seen c n =
-    let e : n - 0 ≡ n = omega arith in
-    let d : c + 0 ≡ c = omega arith in
-    ap (heldIn seen (c + 0)) e ∙ ap (λ k. heldIn seen k n) d
+  pub level-put : (q c ℓ a n b : ℕ) (t t₁ t₂ : Tables) → filled c ℓ ≡ true → n ≡ slots ℓ → b ≡ cell h q ℓ 0 → t₁ ≡ laid Order b (bytesAt p n a) t → t₂ ≡ laid Mark b (map (λ x. 1 - x) (bytesAt p n (a + n))) t₁
+      → (a + n + n ≡ a + sizeAt (levelSize 1) (keyAt q c ℓ) a) × (t₂ ≡ levelsPut h p (keyAt q c ℓ) a t)
+  unfolding sizeAt levelSize
+  level-put q c ℓ a n b t t₁ t₂ e z y k l = rw (key-some q c ℓ e) (
+    omega arith,
+    l ∙ ap (laid Mark b (map (λ x. 1 - x) (bytesAt p n (a + n)))) k ∙ (λ i. laid Mark (y i) (map (λ x. 1 - x) (bytesAt p (z i) (a + z i))) (laid Order (y i) (bytesAt p (z i) a) t)) ∙ levels-one q ℓ a t,
+  )

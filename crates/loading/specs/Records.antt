@@ -1,104 +1,105 @@
--- The records of a form, gone through in turn: numbers that lie a step apart; and the blocks that do not wait.
+-- The records of a form, put into the tables one after the other.
 use mathlib.Core.Path.{_≡_, refl, ap, sym, _∙_}
-use mathlib.Core.Bool.{true, false}
-use mathlib.Core.List.{List, [], _∷_}
-use Prim.Native.Nat.{ℕ, zero, suc, _+_, _-_, _≤_, _<_}
+use mathlib.Core.List.{List, [], _∷_, _++_, append-assoc}
+use Prim.Native.Nat.{ℕ, _+_, _-_, _*_, _/_, _%_, _≤_, _<_}
 use native.Mathlib.Omega.{arith}
-use lib.Dec.{eqb}
-use lib.ListN.{length, getD, set, drop, length-set}
-use lib.Seq.{drop-cons, drop-length, getD-set-same, getD-set-other}
-use borrow.Author.Tests.{eq-eqb, ne-eqb}
-use Rattle.lists.specs.Lengths.{bit}
-use Rattle.lists.specs.Search.{all, below, count}
-use Rattle.rules.specs.Form.Reading.{Spot, isWaiting}
-use Rattle.loading.specs.At.{numberAt, waiterAt, eachAt}
-use Rattle.loading.specs.Facts.{agesOf, namesOf}
+use lib.ListN.{length, take, drop, getD, length-take, length-drop, length-append}
+use lib.Seq.{getD-take, getD-drop, ext-getD, take-append-seam}
+use Rattle.lists.specs.Search.{below, count}
+use Rattle.lists.specs.Tables.{put}
+use Rattle.rules.specs.Form.Payload.{Waiter}
+use Rattle.rules.specs.Form.Sums.{outOfBlocks}
+use Rattle.memory.specs.Tables.{Tables, withWaiting, withBlocks}
+use Rattle.forms.specs.At.{bytesAt, numberAt, waiterAt, eachAt}
+use Rattle.forms.specs.Bytes.{Whole, payload-length, payload-in}
+use Rattle.forms.specs.Lists.{length-bytes, bytes-at, bytes-append, count-left, count-none}
 
--- n numbers, the first at byte a
-unfoldable pub numbersBy : List ℕ → ℕ → ℕ → ℕ → List ℕ
-numbersBy p step zero a = []
-numbersBy p step (suc n) a = numberAt p 2 a ∷ numbersBy p step n (a + step)
+-- a record of a block of the store, whose age has a place in the list of those that wait
+abbrev pub InStore : ℕ → Waiter → Type 0
+InStore n r = (r .block < n) × (r .age < n)
 
-module _ (p : List ℕ) (step : ℕ) where
-  pub by-left : (n a i : ℕ) → i < n → numbersBy p step (n - i) a ≡ numberAt p 2 a ∷ numbersBy p step (n - (i + 1)) (a + step)
-  unfolding numbersBy
-  by-left n a i l = let e : n - i ≡ suc (n - (i + 1)) = omega arith in ap (λ k. numbersBy p step k a) e
+-- n records, the first of which is at byte a
+abbrev pub recordsAt : List ℕ → ℕ → ℕ → ℕ → List Waiter
+recordsAt p B n a = eachAt (λ _. waiterAt p B) (λ _ _. 4 + B) (below n) a
 
-  pub by-none : (n a i : ℕ) → n ≤ i → numbersBy p step (n - i) a ≡ []
-  unfolding numbersBy
-  by-none n a i l = let e : n - i ≡ 0 = omega arith in ap (λ k. numbersBy p step k a) e
+-- ..and those from record i on, if that one is at byte a
+abbrev pub recordsLeft : List ℕ → ℕ → ℕ → ℕ → ℕ → List Waiter
+recordsLeft p B n i a = eachAt (λ _. waiterAt p B) (λ _ _. 4 + B) (count i (n - i)) a
 
-  pub by-all : (n a : ℕ) → numbersBy p step (n - 0) a ≡ numbersBy p step n a
-  by-all n a = let e : n - 0 ≡ n = omega arith in ap (λ k. numbersBy p step k a) e
+module _ (p : List ℕ) (B n i a : ℕ) where
+  pub records-left : i < n → recordsLeft p B n i a ≡ waiterAt p B a ∷ recordsLeft p B n (i + 1) (a + (4 + B))
+  unfolding eachAt
+  records-left l = ap (λ ks. eachAt (λ _. waiterAt p B) (λ _ _. 4 + B) ks a) (count-left n i l)
 
-module _ (p : List ℕ) (B : ℕ) where
-  names-from : (b n a : ℕ) → namesOf (eachAt (λ _. waiterAt p B) (λ _ _. 4 + B) (count b n) a) ≡ numbersBy p (4 + B) n a
-  unfolding eachAt count numbersBy waiterAt
-  names-from b zero a = refl
-  names-from b (suc n) a = ap (λ xs. numberAt p 2 a ∷ xs) (names-from (suc b) n (a + (4 + B)))
+  pub records-none : n ≤ i → recordsLeft p B n i a ≡ []
+  unfolding eachAt
+  records-none l = ap (λ ks. eachAt (λ _. waiterAt p B) (λ _ _. 4 + B) ks a) (count-none n i l)
 
-  ages-from : (b n a : ℕ) → agesOf (eachAt (λ _. waiterAt p B) (λ _ _. 4 + B) (count b n) a) ≡ numbersBy p (4 + B) n (a + 2)
-  unfolding eachAt count numbersBy waiterAt
-  ages-from b zero a = refl
-  ages-from b (suc n) a =
-      let e : a + (4 + B) + 2 ≡ a + 2 + (4 + B) = omega arith in
-      ap (λ xs. numberAt p 2 (a + 2) ∷ xs) (ages-from (suc b) n (a + (4 + B)) ∙ ap (numbersBy p (4 + B) n) e)
+pub records-all : (p : List ℕ) (B n a : ℕ) → recordsLeft p B n 0 a ≡ recordsAt p B n a
+unfolding below
+records-all p B n a = let e : n - 0 ≡ n = omega arith in ap (λ k. eachAt (λ _. waiterAt p B) (λ _ _. 4 + B) (count 0 k) a) e
 
-  pub names-are : (n a : ℕ) → namesOf (eachAt (λ _. waiterAt p B) (λ _ _. 4 + B) (below n) a) ≡ numbersBy p (4 + B) n a
-  unfolding below
-  names-are n a = names-from 0 n a
+-- "Records of block, age and contents": the block waits in the place of its age, and has its contents
+unfoldable pub putRecord : Waiter → Tables → Tables
+putRecord r t = withBlocks (put (r .block) (r .bytes) (t .blocks)) (withWaiting (put (r .age) (r .block) (t .waiting)) t)
 
-  pub ages-are : (n a : ℕ) → agesOf (eachAt (λ _. waiterAt p B) (λ _ _. 4 + B) (below n) a) ≡ numbersBy p (4 + B) n (a + 2)
-  unfolding below
-  ages-are n a = ages-from 0 n a
+unfoldable pub putRecords : List Waiter → Tables → Tables
+putRecords [] t = t
+putRecords (r ∷ rs) t = putRecords rs (putRecord r t)
 
--- ---- The blocks that do not wait
+pub records-put : (r : Waiter) (rs : List Waiter) (t : Tables) → putRecords rs (putRecord r t) ≡ putRecords (r ∷ rs) t
+unfolding putRecords
+records-put r rs t = refl
 
--- 1 for each block that does not, from number b on
-unfoldable pub away : List ℕ → ℕ → List (ℕ × Spot) → List ℕ
-away seen b [] = seen
-away seen b (x ∷ xs) = away (set seen b (1 - bit (isWaiting x))) (b + 1) xs
+pub no-records : (t : Tables) → putRecords [] t ≡ t
+unfolding putRecords
+no-records t = refl
 
-pub away-more : (seen : List ℕ) (b : ℕ) (x : ℕ × Spot) (xs : List (ℕ × Spot)) → away seen b (x ∷ xs) ≡ away (set seen b (1 - bit (isWaiting x))) (b + 1) xs
-unfolding away
-away-more seen b x xs = refl
+-- one record, by the numbers and bytes that are read
+pub record-put : (p : List ℕ) (B at b a : ℕ) (v : List ℕ) (t t₁ t₂ : Tables) → b ≡ numberAt p 2 at → a ≡ numberAt p 2 (at + 2) → v ≡ bytesAt p B (at + 4)
+    → t₁ ≡ withWaiting (put a b (t .waiting)) t → t₂ ≡ withBlocks (put b v (t₁ .blocks)) t₁ → t₂ ≡ putRecord (waiterAt p B at) t
+unfolding putRecord waiterAt
+record-put p B at b a v t t₁ t₂ e d w k l =
+    l ∙ ap (λ (x : Tables). withBlocks (put b v (x .blocks)) x) k ∙ (λ i. withBlocks (put (e i) (w i) (t .blocks)) (withWaiting (put (d i) (e i) (t .waiting)) t))
 
-pub away-none : (seen : List ℕ) (b : ℕ) → away seen b [] ≡ seen
-unfolding away
-away-none seen b = refl
+-- ---- All of them at once
 
-pub length-away : (seen : List ℕ) (b : ℕ) (xs : List (ℕ × Spot)) → length (away seen b xs) ≡ length seen
-unfolding away
-length-away seen b [] = refl
-length-away seen b (x ∷ xs) = length-away (set seen b (1 - bit (isWaiting x))) (b + 1) xs ∙ length-set seen b (1 - bit (isWaiting x))
+unfoldable pub byAge : (ℕ → ℕ) → List Waiter → ℕ → ℕ
+byAge f [] = f
+byAge f (r ∷ rs) = byAge (put (r .age) (r .block) f) rs
 
-away-under : (seen : List ℕ) (b : ℕ) (xs : List (ℕ × Spot)) (k : ℕ) → k < b → getD (away seen b xs) k 0 ≡ getD seen k 0
-unfolding away
-away-under seen b [] k l = refl
-away-under seen b (x ∷ xs) k l = away-under (set seen b (1 - bit (isWaiting x))) (b + 1) xs k (omega arith) ∙ getD-set-other seen b k (1 - bit (isWaiting x)) 0 (λ e. omega arith)
+unfoldable pub byBlock : (ℕ → List ℕ) → List Waiter → ℕ → List ℕ
+byBlock f [] = f
+byBlock f (r ∷ rs) = byBlock (put (r .block) (r .bytes) f) rs
 
-pub away-at : (seen : List ℕ) (b : ℕ) (xs : List (ℕ × Spot)) (d : ℕ × Spot) (k : ℕ) → b + length xs ≤ length seen → k < length xs → getD (away seen b xs) (b + k) 0 ≡ 1 - bit (isWaiting (getD xs k d))
-unfolding away
-away-at seen b [] d k l u = absurd (omega arith)
-away-at seen b (x ∷ xs) d zero l u =
-    let e : b + 0 ≡ b = omega arith in
-    ap (λ j. getD (away (set seen b (1 - bit (isWaiting x))) (b + 1) xs) j 0) e ∙ away-under (set seen b (1 - bit (isWaiting x))) (b + 1) xs b (omega arith) ∙ getD-set-same seen b (1 - bit (isWaiting x)) 0 (omega arith)
-away-at seen b (x ∷ xs) d (suc k) l u =
-    let e : b + suc k ≡ b + 1 + k = omega arith in
-    ap (λ j. getD (away (set seen b (1 - bit (isWaiting x))) (b + 1) xs) j 0) e ∙ away-at (set seen b (1 - bit (isWaiting x))) (b + 1) xs d k (omega (arith, length-set seen b (1 - bit (isWaiting x)))) (omega arith)
+pub records-are : (rs : List Waiter) (t : Tables) → putRecords rs t ≡ withBlocks (byBlock (t .blocks) rs) (withWaiting (byAge (t .waiting) rs) t)
+unfolding putRecords putRecord byAge byBlock
+records-are [] t = refl
+records-are (r ∷ rs) t = records-are rs (putRecord r t)
 
--- ---- Zeros to the end
+-- ---- Contents
 
-pub zeros-more : (p : List ℕ) (k : ℕ) → k < length p → getD p k 0 ≡ 0 → all (eqb 0) (drop (k + 1) p) ≡ all (eqb 0) (drop k p)
-unfolding all
-zeros-more p k l e =
-    let d : suc k ≡ k + 1 = omega arith in
-    sym (ap (all (eqb 0)) (drop-cons p k 0 l) ∙ rw (eq-eqb 0 (getD p k 0) (sym e)) (ap (λ j. all (eqb 0) (drop j p)) d))
+-- bytes of the payload that are in one block lie in one piece
+pub piece-is : (form : List ℕ) (n k : ℕ) → Whole form → k + n ≤ length (outOfBlocks form) → k % 508 + n ≤ 508 → take n (drop (k + k / 508 * 4) form) ≡ bytesAt (outOfBlocks form) n k
+piece-is form n k w l i = ext-getD 0 _ _ (long ∙ sym (length-bytes (outOfBlocks form) n k)) (λ j u. same j (omega (arith, long)))
+  where
+    fits : k + k / 508 * 4 + n ≤ length form
+    fits = omega (arith, payload-length form)
 
-pub zeros-not : (p : List ℕ) (k : ℕ) → k < length p → ¬ (getD p k 0 ≡ 0) → all (eqb 0) (drop k p) ≡ false
-unfolding all
-zeros-not p k l e = ap (all (eqb 0)) (drop-cons p k 0 l) ∙ rw (ne-eqb 0 (getD p k 0) (λ z. e (sym z)))
+    long : length (take n (drop (k + k / 508 * 4) form)) ≡ n
+    long = omega (arith, fits, length-take n (drop (k + k / 508 * 4) form), length-drop (k + k / 508 * 4) form)
 
-pub zeros-end : (p : List ℕ) (k : ℕ) → k ≡ length p → all (eqb 0) (drop k p) ≡ true
-unfolding all
-zeros-end p k e = ap (λ j. all (eqb 0) (drop j p)) e ∙ ap (all (eqb 0)) (drop-length p)
+    same : (j : ℕ) → j < n → getD (take n (drop (k + k / 508 * 4) form)) j 0 ≡ getD (bytesAt (outOfBlocks form) n k) j 0
+    same j u =
+        let e : k + k / 508 * 4 + j ≡ k + j + (k + j) / 508 * 4 = omega arith in
+        getD-take n (drop (k + k / 508 * 4) form) j 0 u ∙ getD-drop (k + k / 508 * 4) form j 0 ∙ ap (λ x. getD form x 0) e
+        ∙ sym (bytes-at (outOfBlocks form) n k j u ∙ payload-in form (k + j) w (omega (arith, fits)))
+
+-- the first i bytes are there, and then a part behind them is put
+pub more-there : (p : List ℕ) (k i e : ℕ) (dst v : List ℕ) → i ≤ e → e ≤ length dst → take i dst ≡ bytesAt p i k → v ≡ bytesAt p (e - i) (k + i) → take e (take i dst ++ (v ++ drop (e - i) (drop i dst))) ≡ bytesAt p e k
+more-there p k i e dst v a b t w =
+    let n : i + (e - i) ≡ e = omega arith in
+    let l : length (take i dst ++ v) ≡ e = omega (arith, length-append (take i dst) v, ap length t, ap length w, length-bytes p i k, length-bytes p (e - i) (k + i)) in
+    ap (take e) (sym (append-assoc (take i dst) v (drop (e - i) (drop i dst))))
+    ∙ ap (λ m. take m ((take i dst ++ v) ++ drop (e - i) (drop i dst))) (sym l) ∙ take-append-seam (take i dst ++ v) (drop (e - i) (drop i dst))
+    ∙ (λ j. t j ++ w j) ∙ bytes-append p i (e - i) k ∙ ap (λ m. bytesAt p m k) n

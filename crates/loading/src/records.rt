@@ -1,90 +1,76 @@
-// The records of waiting blocks, and what is behind them.
-use crate::blocks;
-use crate::bytes;
+// The records of waiting blocks: their ages, and their contents.
+use forms::bytes;
+use memory::Shape;
+use memory::tables;
 ghost use mathlib.Core.Path.{_≡_};
-ghost use Prim.Native.Nat.{_+_, _/_, _*_, _<_, _≤_};
-ghost use lib.Dec.{eqb, ltb};
-ghost use lib.ListN.{length, drop, replicate};
-ghost use Rattle.lists.specs.Search.{all};
+ghost use Prim.Native.Nat.{_+_, _%_, _*_, _<_, _≤_};
+ghost use lib.ListN.{length};
+ghost use Rattle.lists.specs.All.{All};
+ghost use Rattle.lists.specs.Search.{below};
 ghost use Rattle.rules.specs.Form.Sums.{outOfBlocks};
-ghost use Rattle.loading.specs.Blocks.{blocksAt};
-ghost use Rattle.loading.specs.Bytes.{Whole};
-ghost use Rattle.loading.specs.Once.{freshIn};
-ghost use Rattle.loading.specs.Records.{numbersBy, away};
+ghost use Rattle.memory.specs.Fits.{shapeOf, Fits};
+ghost use Rattle.memory.specs.Tables.{tablesOf};
+ghost use Rattle.forms.specs.At.{bytesAt, waiterAt};
+ghost use Rattle.forms.specs.Bytes.{Whole};
+ghost use Rattle.loading.specs.Records.{InStore, recordsAt, putRecord, putRecords};
 
-// Whether n numbers, the first at byte `from` and each `step` bytes behind the last, are below a bound and none is in `seen`, nor one twice.
-pub fn are_once(
-    form: &[u8],
-    from: usize,
-    step: usize,
-    n: usize,
-    bound: usize,
-    seen: &mut [u8],
-) -> bool
-    requires { ⌜ Whole (now form) × (from < 1000000) × (step ≤ 516) × (n ≤ 4096) × (bound ≤ length (now seen)) ⌝ }
-    ensures { λ r. ⌜ r ≡ freshIn (λ x. ltb x bound) (now (seen .entry)) (numbersBy (outOfBlocks (now (form .entry))) step n from) ⌝ }
+// Payload from byte k on, all of which is in one block.
+fn piece(form: &[u8], k: usize, dst: &mut [u8])
+    requires { ⌜ Whole (now form) × (k + length (now dst) ≤ length (outOfBlocks (now form))) × (k % 508 + length (now dst) ≤ 508) × (k < 4294967296) ⌝ }
+    ensures { λ _. ⌜ now (dst .exit) ≡ bytesAt (outOfBlocks (now (form .entry))) (length (now (dst .entry))) k ⌝ }
 {
+    let a = k + k / 508 * 4;
+    let e = a + dst.len();
+    memory::blocks::copy(dst, &form[a..e]);
+}
+
+// How many of n bytes of payload from byte k on are in the block of the first.
+fn inside(k: usize, n: usize) -> usize
+    ensures { λ r. ⌜ (r ≤ n) × (k % 508 + r ≤ 508) × (0 < n → 0 < r) ⌝ }
+{
+    let left = 508 - k % 508;
+    if n < left { n } else { left }
+}
+
+// Payload from byte k on.
+fn contents(form: &[u8], k: usize, dst: &mut [u8])
+    requires { ⌜ Whole (now form) × (k + length (now dst) ≤ length (outOfBlocks (now form))) × (k < 4294960000) × (length (now dst) ≤ 512) ⌝ }
+    ensures { λ _. ⌜ now (dst .exit) ≡ bytesAt (outOfBlocks (now (form .entry))) (length (now (dst .entry))) k ⌝ }
+{
+    let n = dst.len();
+    let mut i = 0;
+    while i < n {
+        let e = i + inside(k + i, n - i);
+        piece(form, k + i, &mut dst[i..e]);
+        i = e;
+    }
+}
+
+// The record at byte `at`.
+fn waiter(form: &[u8], h: Shape, m: &mut [u8], at: usize)
+    requires { ⌜ Whole (now form) × Fits (shapeOf h) (length (now m)) × (at < 4294950000) × (at + (4 + h .b) ≤ length (outOfBlocks (now form))) × InStore (h .n) (waiterAt (outOfBlocks (now form)) (h .b) at) ⌝ }
+    ensures { λ _. ⌜ tablesOf (shapeOf h) (now (m .exit)) ≡ putRecord (waiterAt (outOfBlocks (now (form .entry))) (h .b) at) (tablesOf (shapeOf h) (now (m .entry))) ⌝ }
+{
+    let b = bytes::number(form, at);
+    let age = bytes::number(form, at + 2);
+    tables::set_waiting(h, m, age, b);
+    let size = h.b;
+    let mut t = [0u8; 512];
+    contents(form, at + 4, &mut t[0..size]);
+    memory::blocks::store(h, m, b, &t[0..size]);
+}
+
+// The n records from byte `from` on.
+pub fn waiters(form: &[u8], h: Shape, m: &mut [u8], from: usize, n: usize)
+    requires { ⌜ Whole (now form) × Fits (shapeOf h) (length (now m)) × (from < 800000) × (n ≤ 4096) × (from + n * (4 + h .b) ≤ length (outOfBlocks (now form))) × All (InStore (h .n)) (recordsAt (outOfBlocks (now form)) (h .b) n from) ⌝ }
+    ensures { λ _. ⌜ tablesOf (shapeOf h) (now (m .exit)) ≡ putRecords (recordsAt (outOfBlocks (now (form .entry))) (h .b) n from) (tablesOf (shapeOf h) (now (m .entry))) ⌝ }
+{
+    let step = 4 + h.b;
     let mut at = from;
     let mut i = 0;
     while i < n {
-        let x = bytes::number(form, at);
-        if bound <= x {
-            return false;
-        }
-        if !blocks::is_new(seen, x) {
-            return false;
-        }
+        waiter(form, h, m, at);
         at += step;
         i += 1;
     }
-    true
-}
-
-// Puts 1 for each of n blocks that does not wait, and 0 for each that does; the first is at byte `from`.
-pub fn mark_away(form: &[u8], n: usize, from: usize, seen: &mut [u8])
-    requires { ⌜ Whole (now form) × (n ≤ 4096) × (from < 65536) × (n ≤ length (now seen)) ⌝ }
-    ensures { λ _. ⌜ now (seen .exit) ≡ away (now (seen .entry)) 0 (blocksAt (outOfBlocks (now (form .entry))) n from) ⌝ }
-{
-    let mut at = from;
-    let mut b = 0;
-    while b < n {
-        seen[b] = (1 - blocks::waits(form, at)) as u8;
-        at += blocks::size(form, at);
-        b += 1;
-    }
-}
-
-// Whether there are zeros from byte `from` to the end of the payload.
-pub fn are_zeros(form: &[u8], from: usize) -> bool
-    requires { ⌜ Whole (now form) × (from ≤ length (now form) / 512 * 508) × (length (now form) / 512 * 508 < 4294967296) ⌝ }
-    ensures { λ r. ⌜ r ≡ all (eqb 0) (drop from (outOfBlocks (now (form .entry)))) ⌝ }
-{
-    let end = form.len() / 512 * 508;
-    let mut k = from;
-    while k < end {
-        if bytes::byte(form, k) != 0 {
-            return false;
-        }
-        k += 1;
-    }
-    true
-}
-
-// Whether each of n records from byte `at` on is of a block that waits, and no two of one; the blocks are at byte `from`.
-pub fn are_named(form: &[u8], count: usize, from: usize, n: usize, step: usize, at: usize) -> bool
-    requires { ⌜ Whole (now form) × (count ≤ 4096) × (from < 65536) × (n ≤ 4096) × (step ≤ 516) × (at < 1000000) ⌝ }
-    ensures { λ r. ⌜ r ≡ freshIn (λ x. ltb x count) (away (replicate 4096 0) 0 (blocksAt (outOfBlocks (now (form .entry))) count from)) (numbersBy (outOfBlocks (now (form .entry))) step n at) ⌝ }
-{
-    let mut seen = [0u8; 4096];
-    mark_away(form, count, from, &mut seen);
-    are_once(form, at, step, n, count, &mut seen)
-}
-
-// Whether their ages are the numbers below n, each once.
-pub fn are_aged(form: &[u8], n: usize, step: usize, at: usize) -> bool
-    requires { ⌜ Whole (now form) × (n ≤ 4096) × (step ≤ 516) × (at < 900000) ⌝ }
-    ensures { λ r. ⌜ r ≡ freshIn (λ x. ltb x n) (replicate 4096 0) (numbersBy (outOfBlocks (now (form .entry))) step n (at + 2)) ⌝ }
-{
-    let mut seen = [0u8; 4096];
-    are_once(form, at + 2, step, n, n, &mut seen)
 }

@@ -10,8 +10,8 @@ use borrow.Author.Tests.{le-leb, lt-leb, lt-ltb, le-ltb}
 use Rattle.lists.specs.Tables.{put, put-same, put-other}
 use Rattle.rules.specs.Shape.{Shape}
 use Rattle.memory.specs.declared.tables.Table.{Table}
-use Rattle.memory.specs.Tables.{tablesOf, tableAt, withTable}
-use Rattle.memory.specs.Stored.{table-kept, table-with, table-again}
+use Rattle.memory.specs.Tables.{tablesOf, tableAt, withTable, table-own}
+use Rattle.memory.specs.Stored.{table-with, table-again}
 use Rattle.memory.specs.Fits.{fit}
 
 -- the entries behind entry a, up to entry n, have moved down by one. One that is out of range moves as it is read, as 0
@@ -59,7 +59,7 @@ module _ (h : Shape) (t : Table) (bound a : ℕ) (m₀ : List ℕ) where
   Closing m i = tablesOf h m ≡ withTable t (closedUp bound a i (tableAt t (tablesOf h m₀))) (tablesOf h m₀)
 
   pub closing-none : Closing m₀ a
-  closing-none = table-kept h m₀ t ∙ ap (λ f. withTable t f (tablesOf h m₀)) (sym (closed-none bound a (tableAt t (tablesOf h m₀))))
+  closing-none = sym (table-own t (tablesOf h m₀)) ∙ ap (λ f. withTable t f (tablesOf h m₀)) (sym (closed-none bound a (tableAt t (tablesOf h m₀))))
 
   pub closing-more : (m m′ : List ℕ) (i v : ℕ) → a ≤ i → v ≡ fit bound (tableAt t (tablesOf h m) (i + 1)) → tablesOf h m′ ≡ withTable t (put i v (tableAt t (tablesOf h m))) (tablesOf h m)
       → Closing m i → Closing m′ (i + 1)

@@ -29,15 +29,6 @@ module _ (h : Shape) (m : List ℕ) (t : Table) where
   pub table-lt : (i : ℕ) → i < sizeOf h t → tableAt t (tablesOf h m) i < 65536
   table-lt i l = rw (get-table i l) (wordAt-lt m (startOf h t + i))
 
-  -- changed to what it is
-  pub table-kept : tablesOf h m ≡ withTable t (tableAt t (tablesOf h m)) (tablesOf h m)
-  unfolding tablesOf
-  table-kept = λ k. tablesBy (λ u. same u (ℕ-discrete (index t) (index u)) k) (blockTable h m) (drop (needed h) m)
-    where
-      same : (u : Table) → Dec (index t ≡ index u) → window (startOf h u) (sizeOf h u) m ≡ pick t u (tableAt t (tablesOf h m)) (window (startOf h u) (sizeOf h u) m)
-      same u (yes e) = rw (eq-eqb (index t) (index u) e, ← e) (sym table-is)
-      same u (no n) = rw (ne-eqb (index t) (index u) n)
-
 -- what a table is changed to, and changed again
 pub table-with : (t : Table) (f : ℕ → ℕ) (x : Tables) → tableAt t (withTable t f x) ≡ f
 table-with t f x = table-by (λ u. pick t u f (tableAt u x)) _ _ t ∙ rw (eq-eqb (index t) (index t) refl)

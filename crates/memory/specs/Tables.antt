@@ -103,6 +103,19 @@ pick t u x y = if eqb (index t) (index u) then x else y
 abbrev pub withTable : Table → (ℕ → ℕ) → Tables → Tables
 withTable t x y = tablesBy (λ u. pick t u x (tableAt u y)) (y .blocks) (y .tail)
 
+-- a table changed to what it is
+pub table-own : (t : Table) (x : Tables) → withTable t (tableAt t x) x ≡ x
+table-own Queue x = refl
+table-own Kinds x = refl
+table-own Spots x = refl
+table-own Counter x = refl
+table-own Partition x = refl
+table-own Place x = refl
+table-own Waiting x = refl
+table-own Order x = refl
+table-own Holds x = refl
+table-own Mark x = refl
+
 -- where each table starts, and the tables with one of them changed, by its own name
 abbrev pub queueAt : Shape → ℕ
 queueAt h = startOf h Queue

@@ -78,7 +78,7 @@ fn get(h: Shape, m: &[u8], t: Table, i: usize, bound: usize) -> usize
 }
 
 // Stores v as entry i of table t.
-fn set(h: Shape, m: &mut [u8], t: Table, i: usize, v: usize)
+pub fn set(h: Shape, m: &mut [u8], t: Table, i: usize, v: usize)
     requires { ⌜ Fits (shapeOf h) (length (now m)) × (i < sizeOf (shapeOf h) t) × (v < 65536) ⌝ }
     ensures { λ _. ⌜ tablesOf (shapeOf h) (now (m .exit)) ≡ withTable t (putAt i v (tableAt t (tablesOf (shapeOf h) (now (m .entry))))) (tablesOf (shapeOf h) (now (m .entry))) ⌝ }
 {

@@ -5,7 +5,7 @@ ghost use Prim.Native.Nat.{_+_, _≤_, _<_};
 ghost use lib.ListN.{length, replicate};
 ghost use Rattle.printing.specs.Text.{blank, newline, decimal};
 ghost use Rattle.printing.specs.Columns.{column as columnOf, lineLength, partitionLine, lastLine};
-ghost use Rattle.printing.specs.Written.{Written};
+ghost use Rattle.lists.specs.Written.{Written};
 
 // 28 characters and a newline.
 pub const LINE: usize = 29;

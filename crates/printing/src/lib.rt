@@ -7,7 +7,7 @@ ghost use Prim.Native.Nat.{_+_, _*_, _/_, _%_, _≤_, _<_};
 ghost use lib.ListN.{length};
 ghost use Rattle.rules.specs.State.{cmd};
 ghost use Rattle.printing.specs.Text.{blank, digitOf, decimal, hexadecimal, letterOf, numberText, commandText, contentsText};
-ghost use Rattle.printing.specs.Written.{Written};
+ghost use Rattle.lists.specs.Written.{Written};
 
 fn put(out: &mut [u8], at: usize, b: u8) -> usize
     requires { ⌜ at < length (now out) ⌝ }

@@ -18,7 +18,7 @@ use Rattle.lists.specs.Members.{getD-map-below, indexOf-mem, indexOf-none, decM
 use Rattle.lists.specs.Tables.{put, putAll, put-same, put-other}
 use Rattle.rules.specs.State.{Place, stored}
 use Rattle.rules.specs.Rebuild.{newPlace, itemPlace, newHolds, itemHolds}
-use Rattle.rebuild.specs.Fill.{put-in, putAll-same}
+use Rattle.lists.specs.Entries.{put-in, putAll-same}
 
 -- an element more at the end
 at-end : (xs : List ℕ) (b : ℕ) → getD (map suc (xs ++ (b ∷ []))) (length xs) 0 ≡ suc b

@@ -17,7 +17,7 @@ use Rattle.client.specs.View.{placeOf, view, stateOf}
 use Rattle.rules.specs.Laws.Layout.{offset-lt}
 use Rattle.client.specs.Changes.{place-is}
 use Rattle.client.specs.Moves.{Stands, restated}
-use Rattle.rebuild.specs.Fill.{putAll-at, putAll-over}
+use Rattle.lists.specs.Entries.{putAll-at, putAll-over}
 use Rattle.rebuild.specs.Target.{orderIn, Empty, placed, rebuilt, Within, length-orderIn, order-at, order-put}
 use Rattle.rebuild.specs.Steps.{stays, moved, puts-place, puts-holds, reads-order, slot-lt, marked, emptied, ordered}
 use Rattle.rebuild.specs.Items.{place-none, place-more, length-holds, holds-none, holds-more}

@@ -19,7 +19,7 @@ use Rattle.rules.specs.Laws.Orders.{orderBounds-pos, nodup-order, bounds-next}
 use Rattle.rules.specs.Laws.Draws.{Enough}
 use Rattle.rules.specs.Laws.Kept.{drew-of}
 use Rattle.rules.specs.Laws.Drawn.{SettledBy, settle-next}
-use Rattle.rebuild.specs.Fill.{putAll-at, put-in, putAll-over}
+use Rattle.lists.specs.Entries.{putAll-at, put-in, putAll-over}
 use Rattle.rebuild.specs.Steps.{stays, moved, ordered}
 
 pub nodup-drawn : (n : ℕ) (ws : List ℕ) → 0 < n → Enough (orderBounds n) ws → NoDup (newOrder n (numbersOf (draws (orderBounds n) ws)))

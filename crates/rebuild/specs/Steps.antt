@@ -18,7 +18,8 @@ use Rattle.client.specs.View.{placeOf, levelAt, view, stateOf}
 use Rattle.client.specs.Changes.{view-place, view-slot, view-mark, view-holds}
 use Rattle.client.specs.Moves.{Stands, stands, restated}
 use Rattle.rebuild.specs.Target.{Within}
-use Rattle.rebuild.specs.Fill.{putAll-none, fill-same, fill-below}
+use Rattle.lists.specs.Entries.{putAll-none}
+use Rattle.rebuild.specs.Fill.{fill-same, fill-below}
 
 -- nothing is moved
 pub stays : (c : Client) (m : List ℕ) → Stands c m m (stateOf c m)

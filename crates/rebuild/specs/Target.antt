@@ -19,7 +19,7 @@ use Rattle.rules.specs.Rebuild.{cleared, newPlace, newHolds, chosen, gathered, 
 use Rattle.rules.specs.Laws.Layout.{cell-from}
 use Rattle.client.specs.View.{levelAt}
 use Rattle.client.specs.Changes.{cell-level}
-use Rattle.rebuild.specs.Fill.{putAll-at}
+use Rattle.lists.specs.Entries.{putAll-at}
 
 unfoldable pub orderIn : State → ℕ → ℕ → List ℕ
 orderIn s q t = map (λ k. s .order (cell (s .shape) q t k)) (below (slots t))

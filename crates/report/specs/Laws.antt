@@ -26,7 +26,7 @@ use Rattle.client.specs.View.{view, stateOf}
 use Rattle.counting.specs.Counts.{mostPartitions, entryAt, Counted}
 use Rattle.printing.specs.Columns.{lineLength, partitionLine, lastLine}
 use Rattle.printing.specs.Widths.{Line28, partition-line, last-line, line-length}
-use Rattle.printing.specs.Written.{Written}
+use Rattle.lists.specs.Written.{Written}
 use Rattle.report.specs.Page.{partitionLines, page, pageRoom, shown, pageQuestions, pageNumber, Shows}
 
 module _ (s : State) where

@@ -23,7 +23,7 @@ use Rattle.client.specs.declared.Client.{Client}
 use Rattle.client.specs.View.{stateOf, view, rows}
 use Rattle.client.specs.Rows.{rows-snoc, length-rows}
 use Rattle.client.specs.Readings.{jobs-count}
-use Rattle.printing.specs.Written.{Written, followed, same-text}
+use Rattle.lists.specs.Written.{Written, followed, same-text}
 
 -- ---- The parts
 

@@ -27,7 +27,7 @@ use Rattle.client.specs.declared.Client.{Client}
 use Rattle.client.specs.View.{stateOf, view}
 use Rattle.client.specs.Readings.{out-count, hand-none, hand-some}
 use Rattle.contract.specs.Meets.{callOf, handedTo}
-use Rattle.printing.specs.Written.{Written}
+use Rattle.lists.specs.Written.{Written}
 
 -- what the longest form is computed with
 abbrev pub RoomFor : Numbers → Type 0

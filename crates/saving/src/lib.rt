@@ -1,6 +1,4 @@
 // Save writes the form of a state that is at rest: its payload first, and then its blocks.
-pub mod blocks;
-mod bytes;
 mod payload;
 mod sizes;
 
@@ -28,7 +26,7 @@ fn longest(h: Shape) -> usize
     ensures { λ r. ⌜ r ≡ longestOf (shapeOf h) ⌝ }
 {
     let slots = h.p * (bits::pow2(h.l + 1) - 2);
-    blocks::bytes_of(143 + 2 * h.p + (7 + h.b) * h.n + 2 * slots)
+    sums::bytes_of(143 + 2 * h.p + (7 + h.b) * h.n + 2 * slots)
 }
 
 // No request is in hand, no command outstanding, no job begun.
@@ -60,12 +58,13 @@ fn write(c: Client, m: &[u8], marks: &[u8; BLOCKS], buffer: &mut [u8])
     ensures { λ _. ⌜ now (buffer .exit) ≡ handedTo (now (buffer .entry)) (savedForm (stateOf c (now (m .entry)))) ⌝ }
 {
     let n = payload::write(c, m, marks, buffer);
-    blocks::spread(buffer, n);
+    sums::spread(buffer, n);
 }
 
-// The answer reports the form's length. Only a state that no calls left, where a block waits twice, has a form that is longer than the longest.
+// The answer reports the form's length, which has 32 bits, and hands back the client that it got. Only a state that no calls left, where a block waits
+// twice, has a form that is longer than the longest.
 pub fn save(c: Client, m: &[u8], buffer: &mut [u8]) -> Answer
-    ensures { λ r. ⌜ Meets c (stateOf c (now (m .entry))) saveOf (now (m .entry)) [] (now (buffer .entry)) r (now (m .entry)) (now (buffer .exit)) ⌝ }
+    ensures { λ r. ⌜ Meets c (stateOf c (now (m .entry))) saveOf (now (m .entry)) [] (now (buffer .entry)) r (now (m .entry)) (now (buffer .exit)) × (r .client ≡ c) × (r .taken ≤ 4294967295) ⌝ }
 {
     let n = number(c, m, buffer.len());
     if n != 0 {
@@ -73,7 +72,7 @@ pub fn save(c: Client, m: &[u8], buffer: &mut [u8]) -> Answer
     }
     let mut marks = [0u8; BLOCKS];
     cache::mark_waiting(c, m, &mut marks);
-    let length = blocks::bytes_of(sizes::payload(c, m, &marks));
+    let length = sums::bytes_of(sizes::payload(c, m, &marks));
     if buffer.len() < length {
         return contract::refused(2, c);
     }

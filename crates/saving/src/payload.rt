@@ -1,8 +1,8 @@
 // What a form holds, put into the buffer part by part. Each function returns the place behind what it put.
-use crate::bytes;
 use cache::BLOCKS;
 use client::Client;
 use memory::Shape;
+use sums::bytes;
 ghost use mathlib.Core.Path.{_≡_};
 ghost use mathlib.Core.Bool.{false};
 ghost use mathlib.Core.List.{_++_};
@@ -16,7 +16,7 @@ ghost use Rattle.memory.specs.Fits.{shapeOf};
 ghost use Rattle.client.specs.View.{stateOf, placeOf};
 ghost use Rattle.client.specs.Moves.{Room};
 ghost use Rattle.cache.specs.Marks.{Marked};
-ghost use Rattle.printing.specs.Written.{Written};
+ghost use Rattle.lists.specs.Written.{Written};
 ghost use Rattle.saving.specs.Parts.{widthOf, counterIn, jobIn, orderIn, markIn, levelIn, partitionIn, waiterIn};
 
 // The number of the form.

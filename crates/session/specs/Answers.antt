@@ -20,7 +20,7 @@ use Rattle.lines.specs.Lines.{Line}
 use Rattle.contract.specs.declared.Answer.{Answer}
 use Rattle.contract.specs.Answers.{clearedClient}
 use Rattle.contract.specs.Meets.{commandOf, closed-is}
-use Rattle.printing.specs.Written.{Written}
+use Rattle.lists.specs.Written.{Written}
 use Rattle.printing.specs.Laws.{textRoom}
 use Rattle.session.specs.Session as S
 use Rattle.session.specs.Session.{serves, gives, memoryRoom, call, replied, brought, start, begun}

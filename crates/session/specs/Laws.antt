@@ -25,7 +25,7 @@ use Rattle.contract.specs.declared.Answer.{Answer}
 use Rattle.contract.specs.Meets.{Meets, callOf, reported}
 use Rattle.printing.specs.Text.{numberText}
 use Rattle.printing.specs.Laws.{textRoom, number-le as number-text-le}
-use Rattle.printing.specs.Written.{Written, same-text}
+use Rattle.lists.specs.Written.{Written, same-text}
 use Rattle.session.specs.Session as S
 use Rattle.session.specs.Session.{serves, memoryRoom, call, went, answered, replied}
 use Rattle.session.specs.declared.Session.{Session}

@@ -23,7 +23,7 @@ use Rattle.contract.specs.Answers.{clearedClient}
 use Rattle.contract.specs.Meets.{Meets}
 use Rattle.printing.specs.Text.{numberText}
 use Rattle.printing.specs.Laws.{number-le as number-text-le}
-use Rattle.printing.specs.Written.{Written, same-text}
+use Rattle.lists.specs.Written.{Written, same-text}
 use Rattle.lines.specs.Lines.{opens}
 use Rattle.session.specs.Session as S
 use Rattle.session.specs.Session.{serves, memoryRoom, lent, call, went, answered, replied, gives}

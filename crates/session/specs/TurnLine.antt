@@ -29,7 +29,7 @@ use Rattle.contract.specs.Meets.{Meets, callOf, commandOf, handedTo}
 use Rattle.contract.specs.Buffers.{state-whole, ready-long, filled, written-length, answer-length}
 use Rattle.printing.specs.Text.{numberText, commandText, contentsText}
 use Rattle.printing.specs.Laws.{command-le, contents-le}
-use Rattle.printing.specs.Written.{Written, same-text}
+use Rattle.lists.specs.Written.{Written, same-text}
 use Rattle.lines.specs.Lines.{turns, collects}
 use Rattle.session.specs.Session as S
 use Rattle.session.specs.Session.{memoryRoom, call, answered, start, fetched, brought, stored, completed, turned, collected, gives}

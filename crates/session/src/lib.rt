@@ -15,7 +15,7 @@ ghost use Rattle.lines.specs.Lines.{opens, turns, collects, contentsRoom, tapeR
 ghost use Rattle.lines.specs.Said.{said, Small};
 ghost use Rattle.printing.specs.Text.{numberText};
 ghost use Rattle.printing.specs.Laws.{textRoom};
-ghost use Rattle.printing.specs.Written.{Written};
+ghost use Rattle.lists.specs.Written.{Written};
 ghost use Rattle.session.specs.Session.{serves as servesOf, start as startOf, memoryRoom, hostRoom};
 ghost use Rattle.session.specs.Answers.{Served, Answers, AnswersApart, Asks, Slot, Completes, fresh};
 

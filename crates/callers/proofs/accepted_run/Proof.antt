@@ -16,6 +16,30 @@ slice-aggregate-open-3 c = search needs
 open-requires : tie.Need-open-requires
 open-requires c κs = search needs
 
+slice-aggregate-save : tie.Need-slice-aggregate-save
+slice-aggregate-save c = search needs
+
+slice-aggregate-save-2 : tie.Need-slice-aggregate-save-2
+slice-aggregate-save-2 c = search needs
+
+slice-aggregate-save-3 : tie.Need-slice-aggregate-save-3
+slice-aggregate-save-3 c = search needs
+
+save-requires : tie.Need-save-requires
+save-requires c κs = search needs
+
+slice-aggregate-load : tie.Need-slice-aggregate-load
+slice-aggregate-load c = search needs
+
+slice-aggregate-load-2 : tie.Need-slice-aggregate-load-2
+slice-aggregate-load-2 c = search needs
+
+slice-aggregate-load-3 : tie.Need-slice-aggregate-load-3
+slice-aggregate-load-3 c = search needs
+
+load-requires : tie.Need-load-requires
+load-requires c κs = search needs
+
 slice-aggregate-request : tie.Need-slice-aggregate-request
 slice-aggregate-request c = search needs
 
@@ -78,13 +102,15 @@ completion-requires c κs = search needs
 
 returns : tie.Need-returns
 returns c =
-    let d₅ = c .before .before in
-    let d₄ = d₅ .before .before .before .before .before .before .before .before in
-    let d₃ = d₄ .before .before .before .before .before .before .before .before in
-    let d₂ = d₃ .before .before .before .before .before .before in
-    let d₁ = d₂ .before .before .before .before .before .before .before in
-    accepted _ _ _ _ zeros-words (omega arith) (omega arith) (omega arith) _ _ _ _ _ _ _ _ _ _ _ _ _ _ _ _ _
-    (d₁ .«open» .ensures) (omega arith) (d₂ .request .ensures) (omega arith) (d₃ .collect .ensures) (omega arith) (omega arith) (d₄ .turn .ensures) (omega arith) (d₅ .completion .ensures)
+    let d₇ = c .before .before in
+    let d₆ = d₇ .before .before .before .before .before .before .before .before in
+    let d₅ = d₆ .before .before .before .before .before .before .before .before in
+    let d₄ = d₅ .before .before .before .before .before .before in
+    let d₃ = d₄ .before .before .before .before .before .before .before in
+    let d₂ = d₃ .before .before .before .before .before in
+    let d₁ = d₂ .before .before .before .before .before .before in
+    accepted _ _ _ _ zeros-words (omega arith) (omega arith) (omega arith) _ _ _ _ _ (d₁ .«open» .ensures) (omega arith) (d₂ .save .ensures) (omega arith)
+    _ _ _ (omega arith) (omega arith) (omega arith) _ _ _ _ _ _ _ _ _ _ _ _ _ _ _ _ _ (d₃ .load .ensures) (omega arith) (d₄ .request .ensures) (omega arith) (d₅ .collect .ensures) (omega arith) (omega (arith, d₅ .collect .kept)) (d₆ .turn .ensures) (omega arith) (d₇ .completion .ensures)
 
 pub accepted-run-spec : {M : Type 1} → statement M
 accepted-run-spec =
@@ -94,6 +120,14 @@ accepted-run-spec =
     slice-aggregate-open-2
     slice-aggregate-open-3
     open-requires
+    slice-aggregate-save
+    slice-aggregate-save-2
+    slice-aggregate-save-3
+    save-requires
+    slice-aggregate-load
+    slice-aggregate-load-2
+    slice-aggregate-load-3
+    load-requires
     slice-aggregate-request
     slice-aggregate-request-2
     slice-aggregate-request-3

@@ -1,7 +1,7 @@
 use mathlib.Core.Path.{refl, sym}
 use lib.Seq.{length-take-le}
-use Rattle.rules.specs.Shape.{within}
-use Rattle.exports.specs.Exported.{one-or-two, exported-open, numbers, meets-small}
+use Rattle.rules.specs.Questions.{opening}
+use Rattle.exports.specs.Exported.{start-length, exported-start, numbers, meets-small}
 use native.Mathlib.Omega.{arith}
 use Rattle.exports.proofs.rinwolfedd_open.Statement.{statement}
 use Rattle.exports.proofs.rinwolfedd_open.Tie as tie
@@ -10,13 +10,11 @@ use Rattle.opening.proofs.open.Reads as open-reads
 
 returns : tie.Need-returns
 returns c =
-    let r = c .before .before .refuse-state in
-    let n = c .before .before .before .before .if1 .taken in
     let a = c .before .before .before .before .before .before .before .before .args in
-    record { meets = λ l. absurd (n l); refused = λ _. r .ensures .1; between = λ z. absurd (one-or-two (within (numbers (a .n) (a .p) (a .l) (a .b) (a .e) (a .w))) _ (r .ensures .0) z); other = λ _. (r .ensures .0, refl) }
+    start-length (opening (numbers (a .n) (a .p) (a .l) (a .b) (a .e) (a .w))) _ _ _ _ _ (c .before .before .before .before .if1 .taken) (c .before .before .refuse-open .ensures)
 
-refuse-state-requires : tie.Need-refuse-state-requires
-refuse-state-requires c κs = omega arith
+refuse-open-requires : tie.Need-refuse-open-requires
+refuse-open-requires c κs = omega arith
 
 looked-at-requires : tie.Need-looked-at-requires
 looked-at-requires c κs = omega arith
@@ -48,13 +46,13 @@ returns-2 c =
     let o = d .before .before .before .before in
     let l = o .before .before .looked-at in
     let a = c .before .before .before .before .before .before .before .before .before .before .before .before .before .before .args in
-    exported-open (numbers (a .n) (a .p) (a .l) (a .b) (a .e) (a .w)) (a .state .now) (a .memory .now) (a .tape .now) (o .«open» .result) (d .hand-back-opened .result) _ _ (omega arith) (rw (l .ensures .1 (a .tape .now) refl) at (o .«open» .ensures)) (d .hand-back-opened .ensures)
+    exported-start (opening (numbers (a .n) (a .p) (a .l) (a .b) (a .e) (a .w))) (λ x. refl) (a .state .now) (a .memory .now) (a .tape .now) (o .«open» .result) (d .hand-back-opened .result) _ _ (omega arith) (rw (l .ensures .1 (a .tape .now) refl) at (o .«open» .ensures)) tt (d .hand-back-opened .ensures)
 
 pub rinwolfedd-open-spec : {M : Type 1} → statement M
 rinwolfedd-open-spec =
     tie.close
     (tie.spec
-    refuse-state-requires
+    refuse-open-requires
     same-length
     returns
     looked-at-requires

@@ -7,7 +7,7 @@ use native.Mathlib.Omega.{arith}
 use Rattle.printing.specs.Text.{decimal}
 use Rattle.printing.specs.Laws.{decimal-one, decimal-more}
 use Rattle.printing.specs.Widths.{width-1, width-less}
-use Rattle.printing.specs.Written.{followed, same-text}
+use Rattle.lists.specs.Written.{followed, same-text}
 use borrow.Fn.Kinds.{In}
 use borrow.Fn.PlainCycle.{Measures, is, falls, and}
 use Rattle.printing.proofs.digits.Reads as digits

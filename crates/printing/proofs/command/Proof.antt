@@ -5,7 +5,7 @@ use Prim.Native.Nat.{ℕ}
 use native.Mathlib.Omega.{arith}
 use Rattle.printing.specs.Text.{commandText, further}
 use Rattle.printing.specs.Laws.{decimal-0, decimal-le}
-use Rattle.printing.specs.Written.{followed, same-text}
+use Rattle.lists.specs.Written.{followed, same-text}
 use Rattle.printing.proofs.command.Statement.{statement}
 use Rattle.printing.proofs.command.Tie as tie
 

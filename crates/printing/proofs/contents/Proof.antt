@@ -2,7 +2,7 @@ use borrow.Author.Needs.{needs}
 use native.Mathlib.Omega.{arith}
 use Rattle.printing.specs.Text.{contentsText, further}
 use Rattle.printing.specs.Laws.{decimal-0, hexadecimal-length}
-use Rattle.printing.specs.Written.{followed}
+use Rattle.lists.specs.Written.{followed}
 use Rattle.printing.proofs.contents.Statement.{statement}
 use Rattle.printing.proofs.contents.Tie as tie
 

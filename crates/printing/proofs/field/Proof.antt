@@ -1,6 +1,6 @@
 use borrow.Author.Needs.{needs}
 use Rattle.printing.specs.Laws.{decimal-le}
-use Rattle.printing.specs.Written.{followed}
+use Rattle.lists.specs.Written.{followed}
 use Rattle.printing.proofs.field.Statement.{statement}
 use Rattle.printing.proofs.field.Tie as tie
 

@@ -7,7 +7,7 @@ use lib.ListN.{length, take}
 use lib.Seq.{take-suc, take-length}
 use Rattle.printing.specs.Text.{hexadecimal}
 use Rattle.printing.specs.Laws.{hexadecimal-more}
-use Rattle.printing.specs.Written.{Written, nothing, followed}
+use Rattle.lists.specs.Written.{Written, nothing, followed}
 use Rattle.printing.proofs.pairs.Statement.{statement}
 use Rattle.printing.proofs.pairs.Tie as tie
 

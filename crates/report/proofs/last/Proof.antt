@@ -1,7 +1,7 @@
 use borrow.Author.Needs.{needs}
 use mathlib.Core.List.{[], _∷_}
 use Rattle.printing.specs.Columns.{lastLine}
-use Rattle.printing.specs.Written.{same-text}
+use Rattle.lists.specs.Written.{same-text}
 use Rattle.report.proofs.last.Statement.{statement}
 use Rattle.report.proofs.last.Tie as tie
 

@@ -10,7 +10,7 @@ use Rattle.client.specs.View.{stateOf, view}
 use Rattle.client.specs.Readings.{counter-is}
 use Rattle.printing.specs.Columns.{lineLength, partitionLine}
 use Rattle.printing.specs.Widths.{line-length}
-use Rattle.printing.specs.Written.{Written, nothing, followed, same-text}
+use Rattle.lists.specs.Written.{Written, nothing, followed, same-text}
 use Rattle.report.specs.Page.{partitionLines}
 use Rattle.report.specs.Laws.{each-line, line-figures, line-small}
 use Rattle.report.proofs.partitions.Statement.{statement}

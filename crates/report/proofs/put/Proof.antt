@@ -3,7 +3,7 @@ use mathlib.Core.Path.{ap, sym}
 use native.Mathlib.Omega.{arith}
 use Rattle.client.specs.View.{stateOf, view}
 use Rattle.printing.specs.Columns.{lastLine}
-use Rattle.printing.specs.Written.{followed, same-text}
+use Rattle.lists.specs.Written.{followed, same-text}
 use Rattle.report.specs.Page.{page}
 use Rattle.report.specs.Laws.{lines-length, end-figures, end-small}
 use Rattle.report.proofs.put.Statement.{statement}

@@ -1,6 +1,6 @@
 use mathlib.Core.Path.{_≡_, refl, ap, sym, _∙_}
 use mathlib.Core.List.{[]}
-use Prim.Native.Nat.{_*_}
+use Prim.Native.Nat.{_*_, _≤_}
 use native.Mathlib.Omega.{arith}
 use lib.ListN.{length}
 use borrow.Author.Tests.{lt-leb, le-leb}
@@ -32,6 +32,11 @@ use-of c e = let a = c .before .before .before .args in usable (a .c) (a .m .now
 form-is : (c : tie.After-bytes-of) → c .bytes-of .result ≡ length (savedForm (let a = c .before .before .before .before .before .before .before .before .before .args in stateOf (a .c) (a .m .now)))
 form-is c = let a = c .before .before .before .before .before .before .before .before .before .args in c .bytes-of .ensures ∙ ap (λ n. blockCount n * 512) (c .before .payload .ensures .0) ∙ sym (form-length (stateOf (a .c) (a .m .now)))
 
+-- its blocks are few: no payload has more than 3,000,000 bytes
+form-short : (c : tie.After-bytes-of) → c .bytes-of .result ≤ 4294967295
+unfolding blockCount
+form-short c = omega (arith, c .bytes-of .ensures, c .before .payload .ensures .1)
+
 returns : tie.Need-returns
 unfolding refuse
 returns c =
@@ -39,7 +44,7 @@ returns c =
     let a = c .before .before .before .before .before .args in
     let s = stateOf (a .c) (a .m .now) in
     let e = n .number .ensures in
-    rw (c .refused .ensures) (meets-no (a .c) s save (a .m .now) [] (a .buffer .now) (n .number .result) (e ∙ first-decides s (a .m .now) (a .buffer .now) (λ z. c .before .if1 .taken (e ∙ z))) (c .before .if1 .taken) refl)
+    rw (c .refused .ensures) (meets-no (a .c) s save (a .m .now) [] (a .buffer .now) (n .number .result) (e ∙ first-decides s (a .m .now) (a .buffer .now) (λ z. c .before .if1 .taken (e ∙ z))) (c .before .if1 .taken) refl, refl, omega arith)
 
 mark-waiting-requires : tie.Need-mark-waiting-requires
 mark-waiting-requires c κs =
@@ -65,7 +70,7 @@ returns-2 c =
     let e = form-is (c .before .before) in
     let z : c .before .before .before .before .before .before .before .before .number .result ≡ 0 = omega (arith, c .before .before .before .before .before .before .before .if1 .left) in
     let short = lt-leb (length (savedForm s)) (length (a .buffer .now)) (omega (arith, e, c .before .if2 .taken)) in
-    rw (c .refused2 .ensures) (meets-no (a .c) s save (a .m .now) [] (a .buffer .now) 2 (sym (length-decides s (a .m .now) (a .buffer .now) (sym (c .before .before .before .before .before .before .before .before .number .ensures) ∙ z) ∙ ap one short)) (λ k. omega arith) refl)
+    rw (c .refused2 .ensures) (meets-no (a .c) s save (a .m .now) [] (a .buffer .now) 2 (sym (length-decides s (a .m .now) (a .buffer .now) (sym (c .before .before .before .before .before .before .before .before .number .ensures) ∙ z) ∙ ap one short)) (λ k. omega arith) refl, refl, omega arith)
 
 write-requires : tie.Need-write-requires
 write-requires c κs =
@@ -87,17 +92,21 @@ returns-3 c =
     let z : c .before .before .before .before .before .before .before .before .before .before .before .before .before .number .result ≡ 0 = omega (arith, c .before .before .before .before .before .before .before .before .before .before .before .before .if1 .left) in
     let first = sym (c .before .before .before .before .before .before .before .before .before .before .before .before .before .number .ensures) ∙ z in
     let fits = le-leb (length (savedForm s)) (length (a .buffer .now)) (omega (arith, e, c .before .before .before .before .before .before .if2 .left)) in
-    rw (c .accepted .ensures) (meets-yes (a .c) s save (a .m .now) [] (a .buffer .now) _ _ _ (record {
-      yes = length-decides s (a .m .now) (a .buffer .now) first ∙ ap one fits;
-      number = refl;
-      taken = e;
-      command = refl;
-      found = refl;
-      idle = λ k. refl;
-      state = rest-kept s [] (first-yes s (a .m .now) (a .buffer .now) first .1);
-      buffer = c .before .before .before .write .ensures;
-      tail = refl;
-    }))
+    rw (c .accepted .ensures) (
+      meets-yes (a .c) s save (a .m .now) [] (a .buffer .now) _ _ _ (record {
+        yes = length-decides s (a .m .now) (a .buffer .now) first ∙ ap one fits;
+        number = refl;
+        taken = e;
+        command = refl;
+        found = refl;
+        idle = λ k. refl;
+        state = rest-kept s [] (first-yes s (a .m .now) (a .buffer .now) first .1);
+        buffer = c .before .before .before .write .ensures;
+        tail = refl;
+      }),
+      refl,
+      form-short (c .before .before .before .before .before .before .before),
+    )
 
 pub save-spec : {M : Type 1} → statement M
 save-spec =

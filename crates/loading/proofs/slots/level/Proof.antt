@@ -1,49 +1,54 @@
-use mathlib.Core.Path.{_≡_, ap, sym, _∙_}
-use mathlib.Core.Bool.{true, false}
-use Prim.Native.Nat.{_+_}
+use borrow.Author.Needs.{needs}
+use mathlib.Core.Path.{_≡_, sym, _∙_}
 use native.Mathlib.Omega.{arith}
-use lib.Pow.{pow-mono, pow-pos}
 use borrow.Author.Tests.{not-true, not-false}
 use Rattle.rules.specs.Form.Sums.{outOfBlocks}
 use Rattle.memory.specs.Fits.{shapeOf}
-use Rattle.loading.specs.At.{levelAt}
-use Rattle.loading.specs.Levels.{levelFits}
-use Rattle.loading.specs.Passes.{passed, pass-none, pass-yes, pass-no, level-fits, key-none, key-some, cell-room}
-use borrow.Author.Needs.{needs}
+use Rattle.memory.specs.Tables.{tablesOf}
+use Rattle.forms.specs.Passes.{cell-room}
+use Rattle.loading.specs.Levels.{few-slots, level-none, level-put}
 use Rattle.loading.proofs.slots.level.Statement.{statement}
 use Rattle.loading.proofs.slots.level.Tie as tie
+use Rattle.loading.proofs.slots.level.Reads as reads
+use Rattle.loading.proofs.slots.level.Lts as lts
+use Rattle.bits.proofs.filled.Reads as filled-reads
+use Rattle.bits.proofs.pow2.Reads as pow2-reads
+use Rattle.levels.proofs.cell.Reads as cell-reads
+use Rattle.loading.proofs.tables.marks.Reads as marks-reads
+use Rattle.loading.proofs.tables.order.Reads as order-reads
 
 filled-requires : tie.Need-filled-requires
-filled-requires c κs = omega arith
+filled-requires c κs = search needs
 
 returns : tie.Need-returns
 returns c =
     let a = c .before .before .before .before .args in
-    (sym (ap (λ ks. passed (shapeOf (a .h)) (outOfBlocks (a .form .now)) (a .seen .now) ks (a .at)) (key-none (a .q) (a .c) (a .l) (sym (c .before .filled .ensures) ∙ not-true _ (c .if1 .taken))) ∙ pass-none (shapeOf (a .h)) (outOfBlocks (a .form .now)) (a .seen .now) (a .at)), omega arith)
-
-cell-requires : tie.Need-cell-requires
-cell-requires c κs = let b = c .before .before .before .before .pre .1 in (b .levels, b .partitions, b .cells, omega arith, omega arith, pow-pos (c .before .before .before .before .args .l + 1))
-
-is-level-requires : tie.Need-is-level-requires
-is-level-requires c κs =
-    let a = c .before .before .before .before .before .args in
-    let b = c .before .before .before .before .before .pre .1 in
-    omega (arith, cell-room (shapeOf (a .h)) (a .q) (a .l) (omega arith) (omega arith), c .cell .ensures .0, b .cells, b .levels)
-
-returns-2 : tie.Need-returns-2
-returns-2 c =
-    let a = c .before .before .before .before .before .before .before .args in
-    let h = shapeOf (a .h) in
-    let p = outOfBlocks (a .form .now) in
-    let s = a .seen .now in
-    let e : levelFits h s (levelAt p 1 (a .q, a .l) (a .at)) ≡ false = rw (level-fits h p s (a .q) (a .l) (a .at), ← c .before .before .cell .ensures .0) (sym (c .before .is-level .ensures) ∙ not-true _ (c .if2 .taken)) in
-    (sym (ap (λ ks. passed h p s ks (a .at)) (key-some (a .q) (a .c) (a .l) (sym (c .before .before .before .before .filled .ensures) ∙ not-false _ (c .before .before .before .if1 .left))) ∙ pass-no h p s (a .q) (a .l) (a .at) e), omega arith)
+    let r = level-none (shapeOf (a .h)) (outOfBlocks (a .form .now)) (a .q) (a .c) (a .l) (a .at) (tablesOf (shapeOf (a .h)) (a .m .now)) (sym (c .before .filled .ensures) ∙ not-true _ (c .if1 .taken)) in
+    (r .0, omega arith, r .1)
 
 add-pow2 : tie.Need-add-pow2
 add-pow2 c = search needs
 
 pow2-requires : tie.Need-pow2-requires
-pow2-requires c κs = omega arith
+pow2-requires c κs = search needs
+
+cell-requires : tie.Need-cell-requires
+cell-requires c κs = search needs
+
+order-requires : tie.Need-order-requires
+order-requires c κs =
+    let a = c .before .before .before .before .before .before .before .args in
+    let n = few-slots (a .l) (omega (arith, c .before .before .before .before .before .before .before .pre .1 .levels)) in
+    omega (arith, n, cell-room (shapeOf (a .h)) (a .q) (a .l) (c .before .before .before .before .before .before .before .pre .2) (c .before .before .before .before .before .before .before .pre .3), c .before .cell .ensures .0, c .before .before .pow2 .ensures .0)
+
+add-marks : tie.Need-add-marks
+add-marks c = search needs
+
+marks-requires : tie.Need-marks-requires
+marks-requires c κs =
+    let a = c .before .before .before .before .before .before .before .before .before .before .before .args in
+    let n = few-slots (a .l) (omega (arith, c .before .before .before .before .before .before .before .before .before .before .before .pre .1 .levels)) in
+    omega (arith, n, cell-room (shapeOf (a .h)) (a .q) (a .l) (c .before .before .before .before .before .before .before .before .before .before .before .pre .2) (c .before .before .before .before .before .before .before .before .before .before .before .pre .3), c .before .before .before .before .before .cell .ensures .0, c .before .before .before .before .before .before .pow2 .ensures .0)
 
 add-result : tie.Need-add-result
 add-result c = search needs
@@ -51,16 +56,15 @@ add-result c = search needs
 add-result-2 : tie.Need-add-result-2
 add-result-2 c = search needs
 
-returns-3 : tie.Need-returns-3
-returns-3 c =
-    let a = c .before .before .before .before .before .before .before .before .args in
-    let h = shapeOf (a .h) in
-    let p = outOfBlocks (a .form .now) in
-    let s = a .seen .now in
-    let b = c .before .before .before .before .before .before .before .before .pre .1 in
-    let e : levelFits h s (levelAt p 1 (a .q, a .l) (a .at)) ≡ true = rw (level-fits h p s (a .q) (a .l) (a .at), ← c .before .before .before .cell .ensures .0) (sym (c .before .before .is-level .ensures) ∙ not-false _ (c .before .if2 .left)) in
-    let z = ap (λ ks. passed h p s ks (a .at)) (key-some (a .q) (a .c) (a .l) (sym (c .before .before .before .before .before .filled .ensures) ∙ not-false _ (c .before .before .before .before .if1 .left))) ∙ pass-yes h p s (a .q) (a .l) (a .at) e in
-    (omega (arith, z, c .pow2 .ensures .0), omega (arith, c .pow2 .ensures .0, b .levels, pow-mono {i = a .l + 1} {j = 8} (omega (arith, b .levels))))
+same-length : tie.Need-same-length
+same-length c = search needs
+
+returns-2 : tie.Need-returns-2
+returns-2 c =
+    let a = c .before .before .before .before .before .before .before .before .before .before .before .before .before .before .args in
+    let r = level-put (shapeOf (a .h)) (outOfBlocks (a .form .now)) (a .q) (a .c) (a .l) (a .at) _ _ (tablesOf (shapeOf (a .h)) (a .m .now)) _ _ (sym (c .before .before .before .before .before .before .before .before .before .before .before .filled .ensures) ∙ not-false _ (c .before .before .before .before .before .before .before .before .before .before .if1 .left))
+    (c .before .before .before .before .before .before .before .before .before .pow2 .ensures .0) (c .before .before .before .before .before .before .before .before .cell .ensures .0) (c .before .before .before .before .before .before .order .ensures) (c .before .before .marks .ensures) in
+    (r .0, omega (arith, few-slots (a .l) (omega (arith, c .before .before .before .before .before .before .before .before .before .before .before .before .before .before .pre .1 .levels)), c .before .before .before .before .before .before .before .before .before .pow2 .ensures .0), r .1)
 
 pub level-spec : {M : Type 1} → statement M
 level-spec =
@@ -68,11 +72,13 @@ level-spec =
     (tie.spec
     filled-requires
     returns
-    cell-requires
-    is-level-requires
-    returns-2
     add-pow2
     pow2-requires
+    cell-requires
+    order-requires
+    add-marks
+    marks-requires
     add-result
     add-result-2
-    returns-3)
+    same-length
+    returns-2)

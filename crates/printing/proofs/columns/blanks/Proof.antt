@@ -6,7 +6,7 @@ use native.Mathlib.Numerals.{add-one}
 use native.Mathlib.Omega.{arith}
 use Rattle.lists.specs.Lengths.{replicate-end}
 use Rattle.printing.specs.Text.{blank}
-use Rattle.printing.specs.Written.{Written, nothing, followed}
+use Rattle.lists.specs.Written.{Written, nothing, followed}
 use Rattle.printing.proofs.columns.blanks.Statement.{statement}
 use Rattle.printing.proofs.columns.blanks.Tie as tie
 

@@ -6,7 +6,7 @@ use lib.ListN.{replicate, length-replicate}
 use native.Mathlib.Omega.{arith}
 use Rattle.printing.specs.Text.{blank, decimal}
 use Rattle.printing.specs.Columns.{column}
-use Rattle.printing.specs.Written.{followed, same-text}
+use Rattle.lists.specs.Written.{followed, same-text}
 use Rattle.printing.proofs.columns.column.Statement.{statement}
 use Rattle.printing.proofs.columns.column.Tie as tie
 

@@ -1,5 +1,5 @@
 use borrow.Author.Needs.{needs}
-use Rattle.printing.specs.Written.{followed}
+use Rattle.lists.specs.Written.{followed}
 use Rattle.printing.proofs.columns.ending.Statement.{statement}
 use Rattle.printing.proofs.columns.ending.Tie as tie
 

@@ -1,5 +1,5 @@
 use borrow.Author.Needs.{needs}
-use Rattle.printing.specs.Written.{followed}
+use Rattle.lists.specs.Written.{followed}
 use Rattle.printing.specs.Columns.{columns, lastLine}
 use Rattle.printing.proofs.columns.last_line.Statement.{statement}
 use Rattle.printing.proofs.columns.last_line.Tie as tie

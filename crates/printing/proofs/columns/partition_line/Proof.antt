@@ -2,7 +2,7 @@ use borrow.Author.Needs.{needs}
 use native.Mathlib.Omega.{arith}
 use Rattle.printing.specs.Columns.{columns, partitionLine}
 use Rattle.printing.specs.Widths.{two-digits}
-use Rattle.printing.specs.Written.{followed}
+use Rattle.lists.specs.Written.{followed}
 use Rattle.printing.proofs.columns.partition_line.Statement.{statement}
 use Rattle.printing.proofs.columns.partition_line.Tie as tie
 

@@ -15,7 +15,7 @@ use Rattle.memory.specs.Fits.{shapeOf, fit-lt}
 use Rattle.client.specs.View.{stateOf, placeOf}
 use Rattle.client.specs.Readings.{partition-is, place-as}
 use Rattle.cache.specs.Marks.{bit-yes, bit-no}
-use Rattle.printing.specs.Written.{followed, same-text}
+use Rattle.lists.specs.Written.{followed, same-text}
 use Rattle.saving.specs.Parts.{widthOf}
 use Rattle.saving.specs.Entries.{block-waits, block-else}
 use borrow.Author.Needs.{needs}

@@ -2,7 +2,7 @@ use Prim.Native.Nat.{_-_, _≤_}
 use native.Mathlib.Omega.{arith}
 use Rattle.lists.specs.Search.{below, count}
 use Rattle.rules.specs.Form.Numbers.{each}
-use Rattle.printing.specs.Written.{Written, nothing}
+use Rattle.lists.specs.Written.{Written, nothing}
 use Rattle.rules.specs.Form.Payload.{blockBytes}
 use Rattle.client.specs.View.{stateOf}
 use Rattle.saving.specs.Parts.{widthOf, room, grown, all-of}

@@ -1,7 +1,7 @@
 use native.Mathlib.Omega.{arith}
 use Rattle.rules.specs.Form.Numbers.{little, each, formOf}
 use Rattle.rules.specs.Form.Payload.{shapeNumbers}
-use Rattle.printing.specs.Written.{followed}
+use Rattle.lists.specs.Written.{followed}
 use borrow.Author.Needs.{needs}
 use Rattle.saving.proofs.payload.head.Statement.{statement}
 use Rattle.saving.proofs.payload.head.Tie as tie

@@ -12,7 +12,7 @@ use Rattle.rules.specs.Shape.{slots}
 use Rattle.rules.specs.Levels.{filled}
 use Rattle.rules.specs.Form.Numbers.{each}
 use Rattle.client.specs.View.{stateOf}
-use Rattle.printing.specs.Written.{nothing, followed, same-text}
+use Rattle.lists.specs.Written.{nothing, followed, same-text}
 use borrow.Author.Needs.{needs}
 use Rattle.saving.proofs.payload.level.Statement.{statement}
 use Rattle.saving.proofs.payload.level.Tie as tie

@@ -3,7 +3,7 @@ use Prim.Native.Nat.{_-_, _≤_}
 use native.Mathlib.Omega.{arith}
 use Rattle.lists.specs.Search.{below, count}
 use Rattle.rules.specs.Form.Numbers.{each}
-use Rattle.printing.specs.Written.{Written, nothing}
+use Rattle.lists.specs.Written.{Written, nothing}
 use Rattle.client.specs.View.{stateOf, view}
 use Rattle.client.specs.Readings.{counter-is}
 use Rattle.saving.specs.Parts.{widthOf, levelIn, partitionIn, room, grown, all-of}

@@ -9,7 +9,7 @@ use lib.ListN.{length}
 use lib.Pow.{pow-mono}
 use Rattle.rules.specs.Shape.{slots}
 use Rattle.rules.specs.Form.Numbers.{little}
-use Rattle.printing.specs.Written.{followed, same-text}
+use Rattle.lists.specs.Written.{followed, same-text}
 use Rattle.saving.specs.Entries.{nowhere-bytes, level-lt, stored-bytes}
 use borrow.Author.Needs.{needs}
 use Rattle.saving.proofs.payload.place.Statement.{statement}

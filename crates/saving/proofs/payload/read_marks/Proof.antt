@@ -2,7 +2,7 @@ use Prim.Native.Nat.{_-_, _≤_}
 use native.Mathlib.Omega.{arith}
 use Rattle.lists.specs.Search.{below, count}
 use Rattle.rules.specs.Form.Numbers.{each}
-use Rattle.printing.specs.Written.{Written, nothing, same-text}
+use Rattle.lists.specs.Written.{Written, nothing, same-text}
 use Rattle.rules.specs.Shape.{slots}
 use Rattle.client.specs.View.{stateOf}
 use Rattle.levels.specs.Slots.{cell-lt}

@@ -8,9 +8,9 @@ use Rattle.memory.specs.Tables.{tablesOf}
 use Rattle.memory.specs.Fits.{shapeOf, fit-lt}
 use Rattle.client.specs.View.{stateOf}
 use Rattle.client.specs.Readings.{bytes-as}
-use Rattle.printing.specs.Written.{followed, same-text}
+use Rattle.lists.specs.Written.{followed, same-text}
 use Rattle.saving.specs.Parts.{waitingIn}
-use Rattle.saving.specs.Puts.{lent-written}
+use Rattle.sums.specs.Puts.{lent-written}
 use Rattle.saving.specs.Entries.{waiter-length}
 use borrow.Author.Needs.{needs}
 use Rattle.saving.proofs.payload.waiter.Statement.{statement}

@@ -1,7 +1,7 @@
 use mathlib.Core.Path.{sym}
 use native.Mathlib.Omega.{arith}
 use Rattle.rules.specs.Laws.Form.Numbers.{length-little}
-use Rattle.printing.specs.Written.{followed, same-text}
+use Rattle.lists.specs.Written.{followed, same-text}
 use Rattle.saving.specs.Parts.{partsOf, payload-parts, head-length, parts-length}
 use Rattle.saving.proofs.payload.write.Statement.{statement}
 use Rattle.saving.proofs.payload.write.Tie as tie

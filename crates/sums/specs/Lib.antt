@@ -1,0 +1,4 @@
+pub mod Puts
+pub mod Words
+pub mod Spread
+pub mod Sums
