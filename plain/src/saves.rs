@@ -121,9 +121,10 @@ pub fn met(calls: &[Call], outcomes: &[Outcome]) -> Vec<Saved> {
     watch.met
 }
 
+/// Notes what calls meet, one after the other.
 #[derive(Default)]
-struct Watch {
-    met: Vec<Saved>,
+pub struct Watch {
+    pub met: Vec<Saved>,
     /// The form that the last call saved.
     form: Vec<u8>,
     /// Whether the state is one that calls left: from an open, and through loads
@@ -138,7 +139,8 @@ struct Watch {
 }
 
 impl Watch {
-    fn call(&mut self, before: Option<&State>, call: &Call, outcome: &Outcome) {
+    /// A call to the store with this state, and what came of it.
+    pub fn call(&mut self, before: Option<&State>, call: &Call, outcome: &Outcome) {
         let form = std::mem::take(&mut self.form);
         match &call.ask {
             Ask::Save => self.save(before, call, outcome),

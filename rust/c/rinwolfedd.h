@@ -1,8 +1,8 @@
-/* The five calls, and the page, of the library that `scripts/library` writes to
- * target/staticlib/librinwolfedd.a, for Linux on x86-64. A slice is a pointer
- * and a length. NULL is not allowed, not even with length 0: a slice of length
- * 0 may have any other pointer. The slices of one call must not overlap. No
- * pointer is kept. Lengths and layout: docs/MEMORY.md.
+/* The five calls, save and load, and the page, of the library that
+ * `scripts/library` writes to target/staticlib/librinwolfedd.a, for Linux on
+ * x86-64. A slice is a pointer and a length. NULL is not allowed, not even with
+ * length 0: a slice of length 0 may have any other pointer. The slices of one
+ * call must not overlap. No pointer is kept. Lengths and layout: docs/MEMORY.md.
  *
  * The commands that turns send hide which block is asked for only if the cache
  * has a place for every block (E = N). The bytes of a write are a block's, or
@@ -25,13 +25,17 @@ enum { RINWOLFEDD_STATE = 76, RINWOLFEDD_READ = 1, RINWOLFEDD_WRITE = 2 };
  * page: of 64 partitions. */
 enum { RINWOLFEDD_LINE = 29, RINWOLFEDD_PAGE = 1885 };
 
+/* The bytes of a block of a saved form, of which the last four are its sum. */
+enum { RINWOLFEDD_BLOCK = 512 };
+
 /* The number of an answer. A refused call takes no word and changes no lent
- * byte, but a refused open leaves zeros in the state: it is closed. */
+ * byte, but a refused open or load leaves zeros in the state: it is closed. */
 enum {
     RINWOLFEDD_ACCEPTED = 0,
     RINWOLFEDD_SHAPE_OUT_OF_BOUNDS = 1, /* open */
-    RINWOLFEDD_NOT_READY = 2,           /* memory too short, or a number of the
-                                           state or the kind out of its range */
+    RINWOLFEDD_NOT_READY = 2,           /* memory or a form's buffer too short, or
+                                           a number of the state or the kind out
+                                           of its range */
     RINWOLFEDD_TOO_FEW_WORDS = 3,       /* of the tape */
     RINWOLFEDD_REQUEST_IN_HAND = 4,     /* request */
     RINWOLFEDD_NO_SUCH_BLOCK = 5,       /* request */
@@ -45,8 +49,13 @@ enum {
     RINWOLFEDD_NO_REQUEST = 13,         /* collect */
     RINWOLFEDD_NOT_FINISHED = 14,       /* collect: jobs hold the request, or reads
                                            have not completed */
-    RINWOLFEDD_BUFFER_LENGTH = 15       /* turn that writes, collect: exactly B;
+    RINWOLFEDD_BUFFER_LENGTH = 15,      /* turn that writes, collect: exactly B;
                                            page: as long as the page, or longer */
+    RINWOLFEDD_NOT_AT_REST = 16,        /* save: a request in hand, a command
+                                           outstanding or a job begun */
+    RINWOLFEDD_FORM_DAMAGED = 17,       /* load: no positive multiple of 512, or a
+                                           wrong sum */
+    RINWOLFEDD_NOT_A_FORM = 18          /* load */
 };
 
 /* Where a collect found the block: RINWOLFEDD_LEVEL + l is level l. */
@@ -70,13 +79,21 @@ static inline size_t rinwolfedd_taken(uint64_t a) { return a >> 32; }
  * not long ago. */
 static inline unsigned rinwolfedd_found(uint64_t a) { return a >> 28 & 15; }
 
-/* A page takes no word, and has its length in bytes in that place. */
+/* A save and a page take no word, and have their length in bytes in that place. */
 static inline size_t rinwolfedd_length(uint64_t a) { return a >> 32; }
 
 /* The bytes of memory that a shape within bounds needs. */
 static inline size_t rinwolfedd_needed(size_t n, size_t p, size_t l, size_t b)
 {
     return 384 + 6 * n + 6 * p * ((size_t)2 << l) + (n + 1) * b;
+}
+
+/* The bytes of the longest saved form of a shape within bounds, were E = N: those
+ * that a save's buffer must have, however short the form is. */
+static inline size_t rinwolfedd_longest_form(size_t n, size_t p, size_t l, size_t b)
+{
+    size_t payload = 143 + 2 * p + (7 + b) * n + 2 * p * (((size_t)2 << l) - 2);
+    return (payload + RINWOLFEDD_BLOCK - 5) / (RINWOLFEDD_BLOCK - 4) * RINWOLFEDD_BLOCK;
 }
 
 /* The bytes of the page of a store with so many partitions. */
@@ -126,6 +143,24 @@ uint64_t rinwolfedd_completion(uint8_t *state, size_t state_len,
 uint64_t rinwolfedd_collect(uint8_t *state, size_t state_len,
                             uint8_t *memory, size_t memory_len,
                             uint8_t *buffer, size_t buffer_len);
+
+/* Writes the saved form of the client to the start of the buffer, whose other bytes
+ * stay: its length is in the answer, a multiple of RINWOLFEDD_BLOCK. It only reads
+ * state and memory. The form is for the owner of the store, not for its host: it has
+ * where each block is, and the contents of those that wait, which are not sealed.
+ * It is good only with the slots as they are now: with others a loaded client would
+ * hand out old contents and not know it. */
+uint64_t rinwolfedd_save(const uint8_t *state, size_t state_len,
+                         const uint8_t *memory, size_t memory_len,
+                         uint8_t *buffer, size_t buffer_len);
+
+/* Brings the client of a saved form back, whatever state and memory held. The
+ * numbers are asked in the order RINWOLFEDD_FORM_DAMAGED, RINWOLFEDD_NOT_A_FORM,
+ * RINWOLFEDD_NOT_READY for memory too short for the form's shape. A form that no
+ * save made may load; a later turn may then answer RINWOLFEDD_NOT_READY. */
+uint64_t rinwolfedd_load(uint8_t *state, size_t state_len,
+                         uint8_t *memory, size_t memory_len,
+                         const uint8_t *form, size_t form_len);
 
 /* Writes the page of the store to the start of the buffer, whose other bytes
  * stay: its length is in the answer, and no '\0' follows it. A line for each

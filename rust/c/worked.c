@@ -1,6 +1,7 @@
 /* Document 01's worked session from C: one block of one byte, written, its jobs
  * done, and read again; after each collect, where the block was found; then the
- * page of the store as the session left it. From the repository's top:
+ * page of the store as the session left it. In the end the client is saved and
+ * another one loaded from its form, whose page is shown. From the repository's top:
  *
  *     cc -std=c99 rust/c/worked.c target/staticlib/librinwolfedd.a -o worked
  */
@@ -92,6 +93,24 @@ static void page(void)
         fwrite(text, 1, rinwolfedd_length(shown), stdout);
 }
 
+/* A form that was damaged is refused and leaves a closed state; the right one
+ * brings the client back. A program would keep it in a file, and not where the
+ * host is. */
+static void save_and_load(void)
+{
+    static uint8_t form[RINWOLFEDD_BLOCK]; /* rinwolfedd_longest_form(1, 1, 1, 1) */
+    uint64_t saved = rinwolfedd_save(state, sizeof state, memory, sizeof memory,
+                                     form, sizeof form);
+    size_t length = rinwolfedd_length(saved);
+    printf("%u %lu\n", rinwolfedd_number(saved), (unsigned long)length);
+    for (int i = 0; i < 2; i++) {
+        form[20] ^= 1; /* there and back */
+        printf("%u\n", rinwolfedd_number(rinwolfedd_load(state, sizeof state, memory,
+                                                         sizeof memory, form, length)));
+        page();
+    }
+}
+
 int main(void)
 {
     static const uint8_t seven = 7;
@@ -105,5 +124,6 @@ int main(void)
     turn();
     collect();
     page();
+    save_and_load();
     return 0;
 }

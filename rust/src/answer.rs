@@ -58,16 +58,17 @@ impl Answer {
         Found::try_from(self.part(28, 4) as u8).expect("the library is the proved one")
     }
 
-    /// The words taken from the tape. A page takes none, and has its
-    /// [length](Answer::length) here.
+    /// The words taken from the tape. A save and a page take none, and have
+    /// their [length](Answer::length) here.
     #[inline]
     #[must_use]
     pub const fn taken(self) -> usize {
         (self.0 >> 32) as usize
     }
 
-    /// The bytes of a page, which lie at the start of its buffer; 0 if it was
-    /// refused. They stand in the same bits as the words that a call took.
+    /// The bytes of a saved form or of a page, which lie at the start of the
+    /// buffer; 0 if it was refused. They stand in the same bits as the words
+    /// that a call took.
     #[inline]
     #[must_use]
     pub const fn length(self) -> usize {
@@ -84,7 +85,7 @@ impl Answer {
     /// | 13 to 16 | its level |
     /// | 17 to 27 | its slot |
     /// | 28 to 31 | where a collect [found](Found::number) the block |
-    /// | 32 to 63 | the words taken, or a page's length |
+    /// | 32 to 63 | the words taken, or the length of a saved form or a page |
     #[inline]
     #[must_use]
     pub const fn bits(self) -> u64 {
@@ -99,7 +100,7 @@ impl Answer {
     ///
     /// # Panics
     ///
-    /// If the number is above 15, which neither a call of the proved library
+    /// If the number is above 18, which neither a call of the proved library
     /// nor its page ever answers (theorems `number-le`, `page-numbers`):
     /// another library is linked.
     #[inline]
@@ -188,25 +189,31 @@ mod tests {
     }
 
     #[test]
-    fn the_length_of_a_page_stands_where_words_do() {
+    fn a_length_stands_where_words_do() {
         let page = answer([0, 0, 0, 0, 0, 0, 1885]);
         assert_eq!((page.number(), page.length()), (0, crate::calls::PAGE));
         assert_eq!((page.taken(), page.command()), (1885, None));
-        assert_eq!((Answer(15).length(), Answer(15).number()), (0, 15));
+        let saved = answer([0, 0, 0, 0, 0, 0, 2_208_768]);
+        assert_eq!((saved.number(), saved.length()), (0, 2_208_768));
+        for refused in [2, 15, 16] {
+            assert_eq!(Answer(refused).length(), 0);
+            assert_eq!(u64::from(Answer(refused).number()), refused);
+        }
     }
 
     #[test]
     fn a_refused_answer_names_its_number() {
         assert_eq!(Answer(8).accepted(), Err(Refusal::CacheFull));
         assert_eq!(Answer(15).accepted(), Err(Refusal::BufferLength));
+        assert_eq!(Answer(18).accepted(), Err(Refusal::NotAForm));
         assert_eq!((Answer(8).taken(), Answer(8).command()), (0, None));
         assert_eq!(Answer(14).found(), Found::Nowhere);
     }
 
     #[test]
-    #[should_panic(expected = "the library is the proved one: UnknownNumber(16)")]
+    #[should_panic(expected = "the library is the proved one: UnknownNumber(19)")]
     fn a_number_that_no_call_answers_is_not_lost() {
-        let _ = Answer(16).accepted();
+        let _ = Answer(19).accepted();
     }
 
     #[test]

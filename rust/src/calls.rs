@@ -1,6 +1,6 @@
-//! The five calls, and the page of a store, over lent bytes. Slices carry their
-//! lengths, so nothing is asked of the caller: each value of each number is
-//! answered.
+//! The five calls, saving and loading, and the page of a store, over lent bytes.
+//! Slices carry their lengths, so nothing is asked of the caller: each value of
+//! each number is answered.
 //!
 //! ```
 //! use rinwolfedd::calls::{self, STATE, WRITE};
@@ -27,6 +27,12 @@
 //! let answer = calls::collect(&mut state, &mut memory, &mut contents);
 //! assert_eq!((answer.number(), contents), (0, [0])); // those before the write
 //! assert_eq!(answer.found(), rinwolfedd::Found::Nowhere); // nobody asked before
+//!
+//! let mut form = [0; 512]; // as the shape's longest (docs/MEMORY.md)
+//! let answer = calls::save(&state, &memory, &mut form);
+//! assert_eq!((answer.number(), answer.length()), (0, 512));
+//! let answer = calls::load(&mut state, &mut memory, &form);
+//! assert_eq!(answer.number(), 0); // and the store goes on as it was
 //! ```
 
 pub use crate::answer::Answer;
@@ -41,6 +47,9 @@ pub const LINE: usize = 29;
 /// The bytes of the longest page: a line for each of 64 partitions, and one for
 /// all ([`Shape::page_bytes`](crate::Shape::page_bytes) has those of a shape).
 pub const PAGE: usize = 65 * LINE;
+
+/// The bytes of a block of a saved form, its sum among them.
+pub const BLOCK: usize = 512;
 
 /// The kind of a read.
 pub const READ: usize = Kind::Read.number() as usize;
@@ -104,6 +113,22 @@ mod raw {
             memory_len: usize,
             buffer: *mut u8,
             buffer_len: usize,
+        ) -> u64;
+        pub fn rinwolfedd_save(
+            state: *const u8,
+            state_len: usize,
+            memory: *const u8,
+            memory_len: usize,
+            buffer: *mut u8,
+            buffer_len: usize,
+        ) -> u64;
+        pub fn rinwolfedd_load(
+            state: *mut u8,
+            state_len: usize,
+            memory: *mut u8,
+            memory_len: usize,
+            form: *const u8,
+            form_len: usize,
         ) -> u64;
         pub fn rinwolfedd_page(
             state: *const u8,
@@ -235,6 +260,54 @@ pub fn collect(state: &mut [u8], memory: &mut [u8], buffer: &mut [u8]) -> Answer
             memory.len(),
             buffer.as_mut_ptr(),
             buffer.len(),
+        )
+    })
+}
+
+/// Writes the saved form of the client to the start of the buffer, whose other
+/// bytes stay, and answers its [length](Answer::length), a multiple of [`BLOCK`].
+/// Number 2 is answered for a closed state too, and for a buffer that is shorter
+/// than the [longest form](crate::Shape::longest_form) of the shape; then 16
+/// while a request is in hand, a command outstanding or a job begun.
+///
+/// It takes no words and only reads state and memory.
+///
+/// **A form is for the owner of the store, not for its host**: it has where each
+/// block is, and the contents of those that wait. It is good only with the slots
+/// as they are now: see [`Saves`](crate::Saves).
+#[inline]
+pub fn save(state: &[u8], memory: &[u8], buffer: &mut [u8]) -> Answer {
+    // Safety: as in `open`.
+    Answer::new(unsafe {
+        raw::rinwolfedd_save(
+            state.as_ptr(),
+            state.len(),
+            memory.as_ptr(),
+            memory.len(),
+            buffer.as_mut_ptr(),
+            buffer.len(),
+        )
+    })
+}
+
+/// Brings the client of a saved form back; whatever state and memory held before
+/// is of no account. Number 17 is answered for a length that is no multiple of
+/// [`BLOCK`], or 0, and for a wrong sum, then 18 for what is no form, then 2 for
+/// memory that is too short for its shape. A refused load leaves zeros in the
+/// state, so that it is closed, and the memory as it was.
+///
+/// A form that no save made may load; a later turn may then answer 2.
+#[inline]
+pub fn load(state: &mut [u8], memory: &mut [u8], form: &[u8]) -> Answer {
+    // Safety: as in `open`.
+    Answer::new(unsafe {
+        raw::rinwolfedd_load(
+            state.as_mut_ptr(),
+            state.len(),
+            memory.as_mut_ptr(),
+            memory.len(),
+            form.as_ptr(),
+            form.len(),
         )
     })
 }

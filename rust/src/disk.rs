@@ -1,9 +1,9 @@
 //! What is asked of the file system, in one place: tests put a disk here that
 //! loses what was not synced.
 
-use std::fs::{File, OpenOptions};
+use std::fs::{File, OpenOptions, Permissions};
 use std::io;
-use std::os::unix::fs::FileExt;
+use std::os::unix::fs::{FileExt, PermissionsExt};
 use std::path::Path;
 
 /// Files by their names. What a call did is on the disk after a crash only if
@@ -33,6 +33,9 @@ pub(crate) trait Disk {
 pub(crate) trait Bytes {
     /// Lets those read and write it who may the other file.
     fn permit_as(&self, other: &Self) -> io::Result<()>;
+
+    /// Lets nobody read and write it but its owner.
+    fn keep_private(&self) -> io::Result<()>;
 
     fn length(&self) -> io::Result<u64>;
 
@@ -83,6 +86,10 @@ impl Disk for System {
 impl Bytes for File {
     fn permit_as(&self, other: &File) -> io::Result<()> {
         self.set_permissions(other.metadata()?.permissions())
+    }
+
+    fn keep_private(&self) -> io::Result<()> {
+        self.set_permissions(Permissions::from_mode(0o600))
     }
 
     fn length(&self) -> io::Result<u64> {

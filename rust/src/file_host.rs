@@ -30,6 +30,8 @@ use std::path::{Path, PathBuf};
 /// and `.journal`, which may become as long as the file and a little longer. The
 /// next save takes them over into the file; whoever comes back after a crash
 /// drops them. Whoever copies a saved store copies both files and the client's.
+/// [`Reader::save`](crate::Reader::save) and [`Reader::load`](crate::Reader::load)
+/// make the calls below.
 ///
 /// Going back asks for the sum of all slots at the save, which the journal has:
 /// a file that something else wrote to is refused, not read as if it were the
@@ -103,7 +105,8 @@ impl FileHost {
 
     /// **Destroys what the file holds**, and every save of it: a new store begins
     /// in a file that exists. It has to be long enough, and must not be open
-    /// elsewhere. The journal beside it is removed.
+    /// elsewhere. The journal beside it is removed; the file of the client that was
+    /// saved with it is of no use any more.
     ///
     /// # Errors
     ///

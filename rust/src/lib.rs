@@ -30,9 +30,9 @@
 //! whatever implements [`Host`]; [`Recorded`] notes the commands that a host
 //! sees. Both hosts also go back to the slots of a saved client ([`Saves`]).
 //!
-//! Below the reader are the five calls: [`Store`] owns what they need, [`calls`]
-//! has them as the proved library exports them, over lent bytes and with the
-//! document's numbers, which [`Refusal`] names.
+//! Below the reader are the five calls, and saving and loading: [`Store`] owns what
+//! they need, [`calls`] has them as the proved library exports them, over lent
+//! bytes and with the document's numbers, which [`Refusal`] names.
 //!
 //! How a store stands is told by its page, a text to be pinned up
 //! ([`Reader::page`], [`Store::page`]), and by the same figures as numbers
@@ -91,6 +91,47 @@
 //! # Ok::<(), Error>(())
 //! ```
 //!
+//! # Saving
+//!
+//! The machine is shut down between seasons. [`Reader::save`] writes the client, of
+//! which the host knows nothing, to a file, and [`Reader::load`] goes on from there
+//! with the host's slots as they were at that save:
+//!
+//! ```
+//! use rinwolfedd::{FileHost, Reader, Resumed, Shape};
+//!
+//! # let folder = std::env::temp_dir().join(format!("rinwolfedd-crate-{}", std::process::id()));
+//! # std::fs::create_dir(&folder)?;
+//! # let [slots, client] = ["slots", "client"].map(|name| folder.join(name));
+//! let shape = Shape::hiding(64, 8)?;
+//! let mut reader = Reader::open(shape, FileHost::create(&slots, shape)?)?;
+//! reader.write(42, b"genotype")?;
+//! reader.save(&client)?;
+//! drop(reader); // the season is over
+//!
+//! let (mut reader, resumed) = Reader::load(&client, FileHost::open(&slots, shape)?)?;
+//! assert_eq!(resumed, Resumed::AsSaved); // else it says what is lost
+//! assert_eq!(reader.read(42)?.contents, b"genotype");
+//! # std::fs::remove_dir_all(folder)?;
+//! # Ok::<(), Box<dyn std::error::Error>>(())
+//! ```
+//!
+//! A saved client is good only with the slots of its save. After a crash both go
+//! back to the last save together, and [`Resumed`] says that look-ups since are
+//! lost; a client of an older save or of another store is refused
+//! ([`Error::not_resumed`]). Wherever a crash comes, also within a save or on the
+//! way back, one whole save is left.
+//!
+//! **The client's file is for the owner of the store, not for its host**: it has
+//! where each block is, and the contents of those that wait in the cache, which
+//! nobody seals.
+//!
+//! What is proved of contents and hiding goes through a save and the load of its
+//! form if no call comes between the two, as at the end of a season. After a
+//! roll-back contents are those of the save, but the host may learn more: it has
+//! seen look-ups that the client no longer knows of, and slots may be read a second
+//! time ([`Reader::load`] says what that tells).
+//!
 //! # Linking
 //!
 //! The calls are in the library `librinwolfedd.a`, which `scripts/library`
@@ -110,6 +151,7 @@
 
 mod answer;
 pub mod calls;
+mod client_file;
 mod command;
 mod disk;
 mod error;

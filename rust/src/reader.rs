@@ -2,6 +2,7 @@
 
 mod left;
 mod many;
+mod saved;
 mod turns;
 
 use crate::error::Error;
@@ -9,6 +10,7 @@ use crate::found::Found;
 use crate::host::Host;
 use crate::looked_up::LookedUp;
 use crate::refusal::Refusal;
+use crate::saves::SaveId;
 use crate::shape::Shape;
 use crate::store::{Request, Store};
 use crate::summary::Summary;
@@ -46,6 +48,9 @@ const RANDOM: &str = "/dev/urandom";
 ///
 /// Each look-up also tells the owner of the store where its block was
 /// [found](Found), and a [tally](Reader::tally) has how often it was where.
+///
+/// At a host that [`Saves`](crate::Saves), a reader outlives its program:
+/// [`save`](Reader::save) and [`load`](Reader::load).
 pub struct Reader<H, R = File> {
     store: Store,
     host: H,
@@ -60,6 +65,8 @@ pub struct Reader<H, R = File> {
     unfinished: bool,
     /// How many jobs a look-up may leave.
     most_left: usize,
+    /// The store's first save, by which its files are told from others.
+    first_save: Option<SaveId>,
     tally: Tally,
     waits: Waits,
 }
@@ -109,7 +116,13 @@ impl<H: Host, R: Read> Reader<H, R> {
         let store = Store::open(shape, &mut tape)?;
         let taken = tape.taken();
         words.take(taken);
-        Ok(Reader {
+        Ok(Reader::of(store, host, words))
+    }
+
+    /// One for a store of which no command is outstanding.
+    fn of(store: Store, host: H, words: Supply<R>) -> Reader<H, R> {
+        let shape = store.shape();
+        Reader {
             store,
             host,
             words,
@@ -118,9 +131,10 @@ impl<H: Host, R: Read> Reader<H, R> {
             sent: 0,
             unfinished: false,
             most_left: 0,
+            first_save: None,
             tally: Tally::new(shape.levels()),
             waits: Waits::default(),
-        })
+        }
     }
 
     /// The shape of the store.

@@ -4,7 +4,7 @@ use std::fmt;
 
 /// The question to which the reply was no. Its number is that of the document
 /// that sets the rules; 0 is no refusal. A refused call changes no byte that it
-/// was lent, but a refused open leaves zeros in the state: it is closed.
+/// was lent, but a refused open or load leaves zeros in the state: it is closed.
 #[derive(Clone, Copy, Debug, PartialEq, Eq, Hash)]
 #[non_exhaustive]
 #[repr(u8)]
@@ -12,7 +12,8 @@ pub enum Refusal {
     /// Open: is the shape within bounds?
     ShapeOutOfBounds = 1,
     /// Is the memory long enough, is each number of the state, and the kind, in
-    /// its range? In a closed state they are not.
+    /// its range? In a closed state they are not. Save: is the buffer as long as
+    /// the shape's longest form?
     NotReady = 2,
     /// Do the words that are left of the tape settle the call's draws?
     TooFewWords = 3,
@@ -42,6 +43,13 @@ pub enum Refusal {
     /// Turn that writes, collect: has the buffer B bytes? Page: is it as long
     /// as the page, or longer?
     BufferLength = 15,
+    /// Save: is no request in hand, no command outstanding and no job begun?
+    NotAtRest = 16,
+    /// Load: is the length a positive multiple of 512, and has each block its
+    /// sum?
+    FormDamaged = 17,
+    /// Load: is it a form, with each number in its range?
+    NotAForm = 18,
 }
 
 impl Refusal {
@@ -62,9 +70,12 @@ impl Refusal {
         Refusal::NoRequest,
         Refusal::NotFinished,
         Refusal::BufferLength,
+        Refusal::NotAtRest,
+        Refusal::FormDamaged,
+        Refusal::NotAForm,
     ];
 
-    /// The document's number, 1 to 15.
+    /// The document's number, 1 to 18.
     #[must_use]
     pub const fn number(self) -> u8 {
         self as u8
@@ -74,7 +85,8 @@ impl Refusal {
         match self {
             Refusal::ShapeOutOfBounds => "the shape is out of bounds",
             Refusal::NotReady => {
-                "the memory is too short, or a number of the state or the kind is out of its range"
+                "the memory or a form's buffer is too short, or a number of the state or the kind \
+                 is out of its range"
             }
             Refusal::TooFewWords => "too few random words are left",
             Refusal::RequestInHand => "a request is in hand",
@@ -91,6 +103,9 @@ impl Refusal {
             Refusal::BufferLength => {
                 "the buffer is not as long as a block, or too short for a page"
             }
+            Refusal::NotAtRest => "a request is in hand, a command outstanding or a job begun",
+            Refusal::FormDamaged => "the saved form is cut, or a sum of it is wrong",
+            Refusal::NotAForm => "these bytes are no form of a client",
         }
     }
 }
@@ -106,7 +121,7 @@ impl std::error::Error for Refusal {}
 impl TryFrom<u8> for Refusal {
     type Error = UnknownNumber;
 
-    /// The refusal with this number, 1 to 15.
+    /// The refusal with this number, 1 to 18.
     fn try_from(number: u8) -> Result<Refusal, UnknownNumber> {
         let index = usize::from(number).wrapping_sub(1);
         let refusal = Refusal::ALL.get(index).copied();
@@ -149,7 +164,7 @@ mod tests {
             match Refusal::try_from(number) {
                 Ok(refusal) => assert_eq!(refusal.number(), number),
                 Err(other) => {
-                    assert!(other.number() == number && !(1..=15).contains(&number));
+                    assert!(other.number() == number && !(1..=18).contains(&number));
                     assert_eq!(
                         other.to_string(),
                         format!("nothing has the number {number}")
@@ -158,7 +173,7 @@ mod tests {
             }
         }
         assert_eq!(Refusal::try_from(8), Ok(Refusal::CacheFull));
-        assert_eq!(Refusal::try_from(15), Ok(Refusal::BufferLength));
+        assert_eq!(Refusal::try_from(18), Ok(Refusal::NotAForm));
     }
 
     #[test]

@@ -134,7 +134,9 @@ impl From<NotResumed> for io::Error {
     }
 }
 
-/// A host whose slots go back to a save.
+/// A host whose slots go back to a save. [`Reader::save`](crate::Reader::save) and
+/// [`Reader::load`](crate::Reader::load) do all of the following; it is for those
+/// who write such a host, or save a [`Store`](crate::Store) themselves.
 ///
 /// A saved client is good only with the slots as they were at its save: with
 /// later ones it would hand out old contents and not know it. Such a host

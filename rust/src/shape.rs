@@ -1,6 +1,6 @@
 //! The shape of a store.
 
-use crate::calls::{self, LINE, STATE};
+use crate::calls::{self, BLOCK, LINE, STATE};
 use crate::refusal::Refusal;
 use std::fmt;
 
@@ -79,6 +79,19 @@ impl Shape {
             bytes,
             places: blocks,
             window: WINDOW,
+        }
+    }
+
+    /// The shape of six numbers as a state and a form have them.
+    pub(crate) const fn of_numbers(numbers: [usize; 6]) -> Shape {
+        let [blocks, partitions, levels, bytes, places, window] = numbers;
+        Shape {
+            blocks,
+            partitions,
+            levels,
+            bytes,
+            places,
+            window,
         }
     }
 
@@ -192,6 +205,17 @@ impl Shape {
             let cells = self.partitions * (2 << self.levels);
             384 + 6 * (self.blocks + cells) + (self.blocks + 1) * self.bytes
         })
+    }
+
+    /// The bytes of the longest saved form of the shape, were E = N: those that
+    /// a buffer of [`calls::save`] must have, whatever the state and E
+    /// (docs/MEMORY.md). None for a shape out of bounds.
+    #[must_use]
+    pub fn longest_form(&self) -> Option<usize> {
+        let slots = self.slots()?;
+        let (n, p, b) = (self.blocks, self.partitions, self.bytes);
+        let payload = 143 + 2 * p + (7 + b) * n + 2 * slots;
+        Some(payload.div_ceil(BLOCK - 4) * BLOCK)
     }
 
     /// The bytes of the store's [page](crate::Store::page), 29 × (P + 1), or

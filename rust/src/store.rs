@@ -1,5 +1,7 @@
 //! A store that owns its state and its memory.
 
+mod form;
+
 use crate::calls::{self, PAGE, STATE};
 use crate::command::{Command, Kind};
 use crate::found::Found;
@@ -42,7 +44,8 @@ impl fmt::Debug for Request<'_> {
 /// [`request`](Store::request), [`turn`](Store::turn),
 /// [`completion`](Store::completion) and [`collect`](Store::collect). How it
 /// stands between any two of them is told by its [`page`](Store::page), and in
-/// numbers by its [`summary`](Store::summary).
+/// numbers by its [`summary`](Store::summary). It outlives its program by
+/// [`save`](Store::save) and [`load`](Store::load).
 ///
 /// [`Reader`](crate::Reader) makes whole look-ups of them; a program that makes
 /// them itself decides when a command is sent and when jobs are done.
@@ -108,7 +111,7 @@ impl Store {
         Ok(store)
     }
 
-    /// The shape with which it was opened.
+    /// The shape with which it was opened, or that of the form it was loaded from.
     #[must_use]
     pub fn shape(&self) -> Shape {
         self.shape

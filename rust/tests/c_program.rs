@@ -1,7 +1,8 @@
 //! The library links from C and C++ by the prototypes in c/rinwolfedd.h:
 //! document 01's worked session prints what the document says, after each
-//! collect where the block was found, and the page of the store after it; the
-//! header has a name for each number.
+//! collect where the block was found, and the page of the store after it; its
+//! client is saved and loaded; the header has a name for each number, and the
+//! lengths that shapes have.
 
 use rinwolfedd::{Found, Refusal, Shape, calls};
 use std::io::ErrorKind;
@@ -30,16 +31,40 @@ const PAGE: &str = concat!(
     "all      0     0     1      \n",
 );
 
+/// A save, the load of a damaged form, which leaves no page to show, and the load
+/// of the right one.
+const SAVED: &str = "0 512
+17
+2
+0
+";
+
+fn printed() -> String {
+    [WORKED, PAGE, SAVED, PAGE].concat()
+}
+
 const HERE: &str = env!("CARGO_MANIFEST_DIR");
 
 /// Builds the session's program by a compiler, if it is there, and runs it.
 fn worked(compiler: &str, language: &[&str], name: &str) -> Option<String> {
+    run(
+        compiler,
+        language,
+        name,
+        &Path::new(HERE).join("c/worked.c"),
+    )
+}
+
+/// The same for the program in any file.
+fn run(compiler: &str, language: &[&str], name: &str, source: &Path) -> Option<String> {
     let program = Path::new(env!("CARGO_TARGET_TMPDIR")).join(name);
     let built = Command::new(compiler)
-        .args(["-Wall", "-Wextra", "-Werror", "-o"])
+        .args(["-Wall", "-Wextra", "-Werror", "-I"])
+        .arg(Path::new(HERE).join("c"))
+        .arg("-o")
         .arg(&program)
         .args(language)
-        .arg(Path::new(HERE).join("c/worked.c"))
+        .arg(source)
         .args(["-x", "none", env!("RINWOLFEDD_LIBRARY")])
         .output();
     let built = match built {
@@ -56,16 +81,47 @@ fn worked(compiler: &str, language: &[&str], name: &str) -> Option<String> {
 #[test]
 fn the_worked_session_from_c() {
     // the compiler by which Rust links, too
-    let printed = worked("cc", &["-std=c99"], "worked");
-    assert_eq!(printed.expect("cc runs"), [WORKED, PAGE].concat());
+    let worked = worked("cc", &["-std=c99"], "worked");
+    assert_eq!(worked.expect("cc runs"), printed());
 }
 
 #[test]
 fn the_worked_session_from_cpp() {
     match worked("c++", &["-std=c++11", "-x", "c++"], "worked_cpp") {
-        Some(printed) => assert_eq!(printed, [WORKED, PAGE].concat()),
+        Some(worked) => assert_eq!(worked, printed()),
         None => println!("NOT TRIED: there is no c++ on this machine"),
     }
+}
+
+/// Some shapes, small and large.
+const SHAPES: [Shape; 4] = [
+    Shape::new(1, 1, 1, 1),
+    Shape::new(64, 4, 5, 64),
+    Shape::new(1023, 16, 7, 255),
+    Shape::new(4096, 64, 8, 512),
+];
+
+/// The lengths of a shape by the header are those of the crate.
+#[test]
+fn the_header_has_the_lengths_of_shapes() {
+    let mut source = String::from("#include \"rinwolfedd.h\"\n#include <stdio.h>\n");
+    source += "int main(void)\n{\n";
+    let mut wanted = String::new();
+    for shape in SHAPES {
+        let [n, p, l, b, _, _] = shape.numbers();
+        let needed = format!("(unsigned long)rinwolfedd_needed({n}, {p}, {l}, {b})");
+        let longest = format!("(unsigned long)rinwolfedd_longest_form({n}, {p}, {l}, {b})");
+        let page = format!("(unsigned long)rinwolfedd_page_bytes({p})");
+        source += &format!("printf(\"%lu %lu %lu\\n\", {needed}, {longest}, {page});\n");
+        let lengths = [shape.needed(), shape.longest_form(), shape.page_bytes()];
+        let [needed, longest, page] = lengths.map(Option::unwrap);
+        wanted += &format!("{needed} {longest} {page}\n");
+    }
+    source += "return 0;\n}\n";
+    let path = Path::new(env!("CARGO_TARGET_TMPDIR")).join("lengths.c");
+    std::fs::write(&path, source).unwrap();
+    let printed = run("cc", &["-std=c99"], "lengths", &path);
+    assert_eq!(printed.expect("cc runs"), wanted);
 }
 
 /// A refusal's name in C: NoSuchBlock is NO_SUCH_BLOCK.
@@ -104,6 +160,7 @@ fn the_header_has_a_name_for_each_number() {
     assert!(has("RINWOLFEDD_STATE", calls::STATE));
     assert!(has("RINWOLFEDD_READ", calls::READ) && has("RINWOLFEDD_WRITE", calls::WRITE));
     assert!(has("RINWOLFEDD_LINE", calls::LINE) && has("RINWOLFEDD_PAGE", calls::PAGE));
+    assert!(has("RINWOLFEDD_BLOCK", calls::BLOCK));
     let longest = Shape::new(1, 64, 1, 1).page_bytes();
     assert_eq!(longest, Some(calls::PAGE));
 }

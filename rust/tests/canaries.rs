@@ -1,16 +1,22 @@
 //! Every length and random contents: each call answers one of its numbers, and
-//! nothing outside what is lent changes. A refusal changes no lent byte. The
-//! page is asked for as a sixth call.
+//! nothing outside what is lent changes. A refusal changes no lent byte, but for a
+//! closed state. The page is asked for as a sixth call.
 
 #[path = "common/lent.rs"]
 mod lent;
 
 use lent::Lent;
+use plain::form::broken::Broken;
+use plain::form::{bad, sums};
 use plain::rng::Rng;
 use rinwolfedd::calls::{self, Answer, STATE};
 use rinwolfedd::{Found, Shape};
 
 const SHAPE: Shape = Shape::new(3, 2, 2, 4).with_window(2);
+const PLAIN: plain::shape::Shape = plain::shape::Shape::new(3, 2, 2, 4, 3, 2);
+
+/// The longest form of the shape.
+const LONGEST: usize = 512;
 
 /// The state of an open store with numbers put in at random, so that each
 /// question comes to a no now and then; or bytes that say nothing.
@@ -42,23 +48,53 @@ struct Lending {
     buffer: Lent,
 }
 
-/// About as many bytes as the buffer of a call needs: those of a block, or of
-/// the page of two partitions, though the state may have others.
+/// A form of the shape, or of something like it, or random bytes.
+fn form(rng: &mut Rng) -> Vec<u8> {
+    let form = bad::passable(rng, PLAIN);
+    let mut bytes = form.bytes();
+    match rng.below(6) {
+        0 => bytes[rng.below(LONGEST)] ^= 1 << rng.below(8),
+        1 => {
+            let broken = Broken::ALL[rng.below(Broken::ALL.len())];
+            bytes = broken.bytes(&form).unwrap_or(bytes);
+        }
+        2 => bytes = rng.bytes(LONGEST),
+        3 => {
+            bytes[rng.below(LONGEST)] = rng.step() as u8;
+            sums::make_right(&mut bytes);
+        }
+        _ => {}
+    }
+    let length = [0, 511, 513, rng.below(1600)][rng.below(4)];
+    if rng.chance(10) {
+        bytes.resize(length, 0);
+    }
+    bytes
+}
+
+/// About as many bytes as the buffer of a call needs: those of a block, of the
+/// page of two partitions or of a form, though the state may have others.
 fn buffer_length(rng: &mut Rng, which: usize) -> usize {
     match which {
         PAGE => [87, 87, 83 + rng.below(9), rng.below(200)][rng.below(4)],
+        SAVE => [LONGEST, LONGEST, 508 + rng.below(9), rng.below(1600)][rng.below(4)],
         _ if rng.chance(60) => 4,
         _ => rng.below(9),
     }
 }
 
 impl Lending {
+    /// What is lent to a call; a load's form is in place of a buffer.
     fn new(rng: &mut Rng, state_len: usize, memory: usize, which: usize) -> Lending {
         let len = buffer_length(rng, which);
+        let buffer = match which {
+            LOAD => form(rng),
+            _ => rng.bytes(len),
+        };
         Lending {
             state: Lent::new(&state(rng, state_len)),
             memory: Lent::new(&rng.bytes(memory)),
-            buffer: Lent::new(&rng.bytes(len)),
+            buffer: Lent::new(&buffer),
         }
     }
 
@@ -93,6 +129,8 @@ impl Lending {
                 calls::completion(state, memory, number(rng), slot, &contents)
             }
             COLLECT => calls::collect(state, memory, self.buffer.lend()),
+            SAVE => calls::save(state, memory, self.buffer.lend()),
+            LOAD => calls::load(state, memory, self.buffer.bytes()),
             _ => calls::page(state, memory, self.buffer.lend()),
         }
     }
@@ -119,7 +157,9 @@ fn kind_of_request(state: &[u8]) -> u16 {
 const OPEN: usize = 0;
 const COLLECT: usize = 4;
 const PAGE: usize = 5;
-const CALLS: usize = 6;
+const SAVE: usize = 6;
+const LOAD: usize = 7;
+const CALLS: usize = 8;
 
 /// The numbers that each call may answer.
 const NUMBERS: [&[u8]; CALLS] = [
@@ -129,6 +169,8 @@ const NUMBERS: [&[u8]; CALLS] = [
     &[0, 2, 11, 12],
     &[0, 2, 13, 14, 15],
     &[0, 2, 15],
+    &[0, 2, 16],
+    &[0, 2, 17, 18],
 ];
 
 /// A page leaves all but the first bytes of its buffer, which are as many as it
@@ -145,6 +187,16 @@ fn check_page(before: &[Vec<u8>; 3], answer: Answer, after: &[Vec<u8>; 3]) {
     }
 }
 
+/// A save leaves all but the first bytes of its buffer, which are a form.
+fn check_save(before: &[Vec<u8>; 3], answer: Answer, after: &[Vec<u8>; 3]) {
+    assert_eq!(after[..2], before[..2], "it only reads");
+    let length = answer.length();
+    assert_eq!(answer.bits(), (length as u64) << 32, "and nothing else");
+    let (form, tail) = after[2].split_at(length);
+    assert_eq!(tail, &before[2][length..]);
+    assert!(length > 0 && sums::are_blocks(form, plain::mistakes::Mistake::None));
+}
+
 /// What an accepted call leaves of the state, and what it answers: only a
 /// collect tells where a block was found, as the state had it.
 fn check_accepted(which: usize, before: &[Vec<u8>; 3], answer: Answer, after: &[Vec<u8>; 3]) {
@@ -152,7 +204,7 @@ fn check_accepted(which: usize, before: &[Vec<u8>; 3], answer: Answer, after: &[
     let [asked, left] = [before, after].map(|lent| request_numbers(&lent[0]));
     if kind_of_request(&after[0]) == 0 {
         let wanted = match which {
-            OPEN | COLLECT => [0; 7],
+            OPEN | COLLECT | LOAD => [0; 7],
             _ => asked,
         };
         assert_eq!(left, wanted, "call {which}");
@@ -163,12 +215,18 @@ fn check_accepted(which: usize, before: &[Vec<u8>; 3], answer: Answer, after: &[
     } else {
         assert_eq!(answer.found(), Found::Nowhere, "call {which}");
     }
-    if which == PAGE {
-        check_page(before, answer, after);
+    match which {
+        PAGE => check_page(before, answer, after),
+        SAVE => check_save(before, answer, after),
+        LOAD => assert_eq!((answer.bits(), &after[2]), (0, &before[2])),
+        _ => {}
     }
 }
 
-fn check(rng: &mut Rng, state_len: usize, memory: usize, seen: &mut [[usize; 16]; CALLS]) {
+/// How often each call answered each number.
+type Seen = [[usize; 19]; CALLS];
+
+fn check(rng: &mut Rng, state_len: usize, memory: usize, seen: &mut Seen) {
     for which in 0..CALLS {
         let mut lending = Lending::new(rng, state_len, memory, which);
         let before = lending.bytes();
@@ -183,7 +241,7 @@ fn check(rng: &mut Rng, state_len: usize, memory: usize, seen: &mut [[usize; 16]
         if answer.number() == 0 {
             check_accepted(which, &before, answer, &after);
         } else {
-            if which == OPEN {
+            if which == OPEN || which == LOAD {
                 assert_eq!(after[0], vec![0; state_len]);
                 after[0].clone_from(&before[0]);
             }
@@ -197,7 +255,7 @@ fn check(rng: &mut Rng, state_len: usize, memory: usize, seen: &mut [[usize; 16]
 #[test]
 fn every_length_of_memory() {
     let mut rng = Rng::new(1);
-    let mut seen = [[0; 16]; CALLS];
+    let mut seen = Seen::default();
     let needed = SHAPE.needed().unwrap();
     for memory in 0..needed + 9 {
         check(&mut rng, STATE, memory, &mut seen);
@@ -218,13 +276,16 @@ fn every_length_of_memory() {
 #[test]
 fn every_length_of_state() {
     let mut rng = Rng::new(2);
-    let mut seen = [[0; 16]; CALLS];
+    let mut seen = Seen::default();
     let needed = SHAPE.needed().unwrap();
     for state_len in (0..100).filter(|len| *len != STATE) {
         check(&mut rng, state_len, needed, &mut seen);
     }
-    // a state of another length is answered 2, an open of no shape 1
-    assert!(seen[1..].iter().all(|numbers| numbers[2] == 99));
-    assert_eq!(seen[OPEN][1] + seen[OPEN][2], 99);
-    assert!(seen[OPEN][1] > 0 && seen[OPEN][2] > 0);
+    // a state of another length is answered 2, an open of no shape 1, and a load of
+    // no form 17 or 18
+    assert!(seen[1..LOAD].iter().all(|numbers| numbers[2] == 99));
+    for (which, numbers) in [(OPEN, &[1, 2][..]), (LOAD, &[2, 17, 18])] {
+        let seen = numbers.iter().map(|number| seen[which][*number]);
+        assert!(seen.clone().all(|count| count > 0) && seen.sum::<usize>() == 99);
+    }
 }

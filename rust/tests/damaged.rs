@@ -2,8 +2,9 @@
 //! a number of the state is out of its range, with 2 and nothing changed; all
 //! else as the rules say of the state for which the bytes stand (`view`), in
 //! number, words, command, buffer, where a block was found and the state after
-//! the call, and so is the page of that state. The same view is held to the
-//! independent model where nothing is damaged.
+//! the call, and so are the page and the saved form of that state. The same view
+//! is held to the independent model where nothing is damaged; there the store is
+//! saved and loaded, too.
 //!
 //! `RINWOLFEDD_CALLS` says how many calls are made to damaged states.
 
@@ -21,15 +22,16 @@ mod paged;
 mod random;
 mod view;
 
-use damage::{damage_memory, damage_state};
+use damage::{damage_memory, damage_state, put_to_rest};
 use linked::Linked;
 use plain::calls::{Ask, Call, Outcome};
+use plain::form::longest;
 use plain::mistakes::Mistake;
 use plain::page;
 use plain::rng::Rng;
 use plain::shape::Shape;
 use plain::state::{READ, WRITE};
-use random::{Random, SLACK};
+use random::Random;
 use std::time::Instant;
 use view::met::{Counts as Beside, Watch};
 use view::step::step;
@@ -58,8 +60,12 @@ const CALLS: usize = 8;
 /// How often each number was answered, in range or out of it.
 #[derive(Default)]
 struct Counts {
-    numbers: [usize; 16],
+    numbers: [usize; 19],
     out_of_range: usize,
+    /// Forms of damaged states, and loads of these: those that go and those that
+    /// do not.
+    saves: usize,
+    loads: [usize; 2],
     /// Turns of a state in range that lack a dummy or have no room.
     late: usize,
     /// Pages shown, and those of a state that lists a block too often.
@@ -134,6 +140,21 @@ fn compare_page(linked: &Linked, view: Option<&View>) -> Option<String> {
     wanted
 }
 
+/// Saves a state by the call and by its view, and hands out the view's outcome.
+fn compare_save(linked: &mut Linked, view: Option<&View>, rng: &mut Rng) -> Outcome {
+    let longest = view.map_or(512, |view| longest(&view.shape));
+    let call = Call {
+        ask: Ask::Save,
+        memory: linked.memory.bytes().len(),
+        words: Vec::new(),
+        buffer: longest + [0, 0, 0, 1][rng.below(4)] - [0, 0, 0, 0, 1][rng.below(5)],
+    };
+    let outcome = step(&mut view.cloned(), &call);
+    let told = linked.compare(&call, &outcome);
+    told.unwrap_or_else(|told| panic!("{told}"));
+    outcome
+}
+
 /// Makes a call to both and compares outcome, bytes and the state after it. Says
 /// whether the state was in range and lent its memory, and counts what was met.
 fn compare(
@@ -152,7 +173,7 @@ fn compare(
     told.unwrap_or_else(|told| panic!("{told}"));
     let after = decode(linked.state.bytes(), linked.memory.bytes());
     // what is out of range stands for no state, before and after
-    if before.is_some() || matches!(call.ask, Ask::Open(_)) {
+    if before.is_some() || matches!(call.ask, Ask::Open(_) | Ask::Load(_)) {
         assert!(after == view, "the state after {call:?}: {outcome:?}");
     } else {
         assert_eq!((outcome.number, &after), (2, &None));
@@ -170,9 +191,12 @@ fn damaged(honest: &Linked, random: &mut Random, shape: Shape, counts: &mut Coun
         damage_state(linked.state.lend(), shape, &mut random.rng);
     }
     damage_memory(linked.memory.lend(), shape, &mut random.rng);
+    if random.rng.chance(20) {
+        put_to_rest(linked.state.lend());
+    }
     for _ in 0..CALLS {
         let view = decode(linked.state.bytes(), linked.memory.bytes());
-        counts.state(&linked, view.as_ref());
+        counts.state(&mut linked, view.as_ref(), &mut random.rng);
         let call = match view {
             Some(view) if random.rng.chance(65) => {
                 suited(&view, linked.memory.bytes().len(), &mut random.rng)
@@ -184,22 +208,38 @@ fn damaged(honest: &Linked, random: &mut Random, shape: Shape, counts: &mut Coun
     }
 }
 
+/// Makes a call that nothing is wrong with to all three.
+fn honest(linked: &mut Linked, random: &mut Random, watch: &mut Watch, left: &mut Beside) {
+    let was_away = random.is_away();
+    let (call, outcome) = random.next();
+    let mut away = Beside::default();
+    let met = match was_away || random.is_away() {
+        true => &mut away, // a form that no save made
+        false => left,
+    };
+    let (_, by_view) = compare(linked, &call, watch, met);
+    assert_eq!(by_view, outcome, "the view and the model");
+    let view = decode(linked.state.bytes(), linked.memory.bytes());
+    let by_model = random.model.state.as_ref().map(page::page);
+    assert_eq!(compare_page(linked, view.as_ref()), by_model);
+}
+
 #[test]
 fn damaged_states_are_answered_as_the_rules_say() {
     let (start, calls) = (Instant::now(), random::calls(FEW));
     let mut counts = Counts::default();
     for (seed, (shape, share)) in SHAPES.into_iter().enumerate() {
-        let mut random = Random::new(shape, Mistake::None, 100 + seed as u64);
-        let (mut linked, mut watch) = (Linked::new(shape.needed() + SLACK), Watch::default());
+        let mut random = Random::saving(shape, Mistake::None, 100 + seed as u64);
+        let (mut linked, mut watch) = (Linked::new(random.most_memory()), Watch::default());
         for _ in 0..(calls * share / 1000).div_ceil(CALLS) {
             for _ in 0..random.rng.below(12) {
-                let (call, outcome) = random.next();
-                let (_, by_view) = compare(&mut linked, &call, &mut watch, &mut counts.left);
-                assert_eq!(by_view, outcome, "the view and the model");
-                let view = decode(linked.state.bytes(), linked.memory.bytes());
-                let by_model = random.model.state.as_ref().map(page::page);
-                assert_eq!(compare_page(&linked, view.as_ref()), by_model);
+                honest(&mut linked, &mut random, &mut watch, &mut counts.left);
             }
+            let shape = random
+                .model
+                .state
+                .as_ref()
+                .map_or(shape, |state| state.shape);
             damaged(&linked, &mut random, shape, &mut counts);
         }
     }
@@ -208,12 +248,32 @@ fn damaged_states_are_answered_as_the_rules_say() {
 }
 
 impl Counts {
-    /// The page of a state to which a call is made, and what is odd in it.
-    fn state(&mut self, linked: &Linked, view: Option<&View>) {
+    /// The page and the form of a state to which a call is made, and what is odd
+    /// in it.
+    fn state(&mut self, linked: &mut Linked, view: Option<&View>, rng: &mut Rng) {
+        let saved = compare_save(linked, view, rng);
+        self.saves += usize::from(saved.number == 0);
+        if saved.number == 0 && rng.chance(30) {
+            self.load(linked, saved.bytes);
+        }
         self.pages += usize::from(compare_page(linked, view).is_some());
         let too_often = view.is_some_and(View::lists_a_block_too_often);
         self.too_often += usize::from(too_often);
         self.odd += usize::from(view.is_some_and(View::is_held_oddly));
+    }
+
+    /// Loads the form of a damaged state, which may be none that goes.
+    fn load(&mut self, linked: &Linked, form: Vec<u8>) {
+        let mut linked = copy(linked);
+        let call = Call {
+            ask: Ask::Load(form),
+            memory: linked.memory.bytes().len(),
+            words: Vec::new(),
+            buffer: 0,
+        };
+        let (mut watch, mut beside) = (Watch::default(), Beside::default());
+        let (_, outcome) = compare(&mut linked, &call, &mut watch, &mut beside);
+        self.loads[usize::from(outcome.number != 0)] += 1;
     }
 
     fn call(&mut self, in_range: bool, call: &Call, outcome: &Outcome) {
@@ -231,6 +291,8 @@ impl Counts {
         let Counts {
             numbers,
             out_of_range,
+            saves,
+            loads,
             late,
             pages,
             too_often,
@@ -241,9 +303,10 @@ impl Counts {
         } = self;
         let made: usize = numbers.iter().sum();
         println!("{made} calls to damaged states in {seconds:.1} s");
-        println!("  numbers 0 to 15: {numbers:?}");
+        println!("  numbers 0 to 18: {numbers:?}");
         println!("  {out_of_range} out of range, {late} turns without a dummy or room");
         println!("  {pages} pages, {too_often} of a state that lists a block too often");
+        println!("  {saves} saves; of their forms some loaded and some did not: {loads:?}");
         println!("  {odd} requests held oddly; found nowhere, in the cache, in a level: {told:?}");
         println!("  beside a rebuild, before the damage: {left:?}");
         println!("  and after it: {beside:?}");
@@ -253,6 +316,7 @@ impl Counts {
         assert!(made >= calls && *out_of_range > calls / 20 && *late > calls / 1000);
         assert!(*pages > calls / 4 && *too_often > calls / 100 && *odd > calls / 100);
         assert!(told.iter().all(|count| *count > calls / 2000));
+        assert!(*saves > calls / 50 && loads.iter().all(|count| *count > calls / 1000));
         assert!(left.least()[0] > calls / 10_000 && left.damaged_only() == [0; 2]);
         assert!(beside.least().iter().all(|count| *count > calls / 10_000));
     }

@@ -83,7 +83,8 @@ fn errors_may_grow() {
     let at_fault = |error: &Error| match error {
         Error::Refused(_) => "caller",
         Error::Host(_) | Error::Unfinished => "host",
-        Error::Words(_) => "words",
+        Error::Words(_) | Error::NotRandom => "words",
+        Error::NotSaved(_) | Error::NotLoaded(_) => "file",
         _ => "new",
     };
     assert_eq!(at_fault(&Error::Unfinished), "host");
@@ -95,9 +96,11 @@ fn errors_may_grow() {
         Refusal::WindowFull | Refusal::NothingToSend => "turn",
         Refusal::NotOutstanding | Refusal::CompletionLength => "completion",
         Refusal::NoRequest | Refusal::NotFinished => "collect",
+        Refusal::NotAtRest => "save",
+        Refusal::FormDamaged | Refusal::NotAForm => "load",
         _ => "new",
     };
-    assert_eq!(Refusal::ALL.len(), 15);
+    assert_eq!(Refusal::ALL.len(), 18);
     assert!(
         Refusal::ALL
             .iter()
@@ -115,12 +118,16 @@ fn errors_have_sources() {
     let source = refused.source().unwrap().downcast_ref::<Refusal>();
     assert_eq!(source, Some(&Refusal::NoSuchBlock));
     let cut = || io::Error::other("the wire is cut");
-    for error in [Error::Host(cut()), Error::Words(cut())] {
+    for error in [Error::Host, Error::Words, Error::NotSaved, Error::NotLoaded] {
+        let error = error(cut());
         assert!(!error.to_string().contains("wire"), "{error}");
         let source = error.source().unwrap();
         assert!(source.is::<io::Error>() && source.to_string() == "the wire is cut");
     }
     assert!(Error::Unfinished.source().is_none());
+    let never = Error::Host(NotResumed::NeverSaved.into());
+    assert_eq!(never.not_resumed(), Some(&NotResumed::NeverSaved));
+    assert_eq!(Error::NotSaved(cut()).not_resumed(), None);
 }
 
 /// A number without a name is an error like any other.
@@ -129,8 +136,8 @@ fn numbers_without_a_name() {
     let kind: Result<Kind, Box<dyn std::error::Error>> = Kind::try_from(3).map_err(Into::into);
     assert_eq!(kind.unwrap_err().to_string(), "nothing has the number 3");
     assert_eq!(
-        Refusal::try_from(16).map_err(UnknownNumber::number),
-        Err(16)
+        Refusal::try_from(19).map_err(UnknownNumber::number),
+        Err(19)
     );
     assert_eq!(Found::try_from(10).map_err(UnknownNumber::number), Err(10));
     assert_eq!([calls::READ, calls::WRITE], [1, 2]);

@@ -4,15 +4,16 @@
 
 #[path = "common/folder.rs"]
 mod folder;
+#[path = "common/kills.rs"]
+mod kills;
 
 use folder::Folder;
+use kills::{WORKS, is_killed, kill, kills, start};
 use plain::rng::Rng;
 use rinwolfedd::{Command, FileHost, Host, Kind, Resumed, SaveId, Saves, Shape};
 use std::fs::{self, File};
-use std::io::{self, BufRead, BufReader, Write};
-use std::os::unix::process::ExitStatusExt;
+use std::io::{self, Write};
 use std::path::{Path, PathBuf};
-use std::process::{Child, Stdio};
 use std::time::{Duration, Instant};
 
 const SHAPE: Shape = Shape::new(32, 2, 5, 40);
@@ -20,11 +21,6 @@ const SHAPE: Shape = Shape::new(32, 2, 5, 40);
 /// The shape's slots, and all their bytes.
 const SLOTS: usize = 2 * 62;
 const LENGTH: usize = SLOTS * 40;
-
-/// What tells the program that is killed from the one that kills it: the folder
-/// of its files, and the seed of what it does.
-const FOLDER: &str = "RINWOLFEDD_KILLED_FOLDER";
-const SEED: &str = "RINWOLFEDD_KILLED_SEED";
 
 /// A client that knows what its slots should be. Its file has the id and all of
 /// that.
@@ -127,42 +123,6 @@ impl Client {
     }
 }
 
-/// Runs this test once more, as the program that is killed.
-fn start(folder: &Folder, seed: u64) -> Child {
-    std::process::Command::new(std::env::current_exe().unwrap())
-        .args(["--exact", "killed_at_any_moment", "--nocapture"])
-        .env(FOLDER, &folder.0)
-        .env(SEED, seed.to_string())
-        .stdout(Stdio::piped())
-        .stderr(Stdio::piped())
-        .spawn()
-        .unwrap()
-}
-
-/// What the program says once it has come back.
-const WORKS: &str = "it works";
-
-/// Lets a program run for so long, or work for so long, and kills it. It ended by
-/// that, and not because something was wrong.
-fn kill(mut child: Child, works: bool, after: Duration) {
-    let mut said = BufReader::new(child.stdout.take().unwrap()).lines();
-    if works {
-        said.find(|line| line.as_ref().is_ok_and(|line| line.ends_with(WORKS)));
-    }
-    std::thread::sleep(after);
-    child.kill().unwrap();
-    let ended = child.wait_with_output().unwrap();
-    let said = String::from_utf8_lossy(&ended.stderr);
-    assert_eq!(ended.status.signal(), Some(9), "{:?}: {said}", ended.status);
-}
-
-fn kills() -> u64 {
-    let asked = std::env::var("RINWOLFEDD_KILLS");
-    asked.map_or(200, |text| {
-        text.parse().expect("RINWOLFEDD_KILLS is a number")
-    })
-}
-
 /// Whether the journal has the mark of a commit that came to no end.
 fn is_committing(folder: &Folder) -> bool {
     let journal = fs::read(folder.path("store.journal")).unwrap_or_default();
@@ -171,8 +131,7 @@ fn is_committing(folder: &Folder) -> bool {
 
 #[test]
 fn killed_at_any_moment() {
-    if let Some(folder) = std::env::var_os(FOLDER) {
-        let seed = std::env::var(SEED).unwrap().parse().unwrap();
+    if let Some((folder, seed)) = is_killed() {
         let (mut client, _) = Client::load(Path::new(&folder)).unwrap();
         println!("{WORKS}");
         client.work(seed).unwrap();
@@ -181,7 +140,8 @@ fn killed_at_any_moment() {
     let (mut rng, mut midway, mut back, mut slots) = (Rng::new(1), 0, 0, 0);
     for round in 0..kills() {
         let after = Duration::from_micros(rng.below(15_000) as u64);
-        kill(start(&folder, round), rng.chance(70), after);
+        let program = start("killed_at_any_moment", &folder, round);
+        kill(program, rng.chance(70), after);
         midway += usize::from(is_committing(&folder));
         // else the next program goes back, and may be killed while it does
         if rng.chance(50) {

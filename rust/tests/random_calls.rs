@@ -1,6 +1,6 @@
 //! Random calls, compared with the independent model one by one: numbers,
-//! words, commands, where blocks were found and every lent byte are equal, and no
-//! other byte changes.
+//! words, commands, where blocks were found, saved forms and every lent byte are
+//! equal, and no other byte changes. The store is saved and loaded in between.
 //!
 //! `RINWOLFEDD_CALLS` says how many are made; without it, few enough for every
 //! day.
@@ -19,8 +19,10 @@ mod view;
 use linked::Linked;
 use plain::calls::Ask;
 use plain::mistakes::Mistake;
+use plain::saves::Saved;
 use plain::shape::Shape;
-use random::{Random, SLACK};
+use random::Random;
+use std::collections::BTreeMap;
 use std::time::Instant;
 use view::decode;
 use view::met::{Counts, Watch};
@@ -54,41 +56,37 @@ const WATCHED: usize = 8192;
 
 /// What was met: how often each number was answered, and a block found at each
 /// place, by its number; the most jobs queued, the rebuilds of a full partition,
-/// and those with all levels filled; look-ups while a partition is rebuilt, in
-/// stores of the smaller shapes.
+/// and those with all levels filled; in stores of the smaller shapes look-ups
+/// while a partition is rebuilt, and what occurs in saves and loads.
 #[derive(Default)]
 struct Met {
-    numbers: [usize; 16],
+    numbers: [usize; 19],
     found: [usize; 10],
     most_jobs: usize,
     full: usize,
     wraps: usize,
     beside: Counts,
+    saved: BTreeMap<Saved, usize>,
 }
 
 /// Makes so many calls and says where the linked calls first depart from the
 /// model.
-fn compare(
-    shape: Shape,
-    mistake: Mistake,
-    seed: u64,
-    calls: usize,
-    met: &mut Met,
-) -> Result<(), String> {
-    let mut random = Random::new(shape, mistake, seed);
-    let mut linked = Linked::new(shape.needed() + SLACK);
+fn compare(mut random: Random, calls: usize, met: &mut Met) -> Result<(), String> {
+    let shape = random.home;
+    let mut linked = Linked::new(random.most_memory());
     let (mut watch, mut before) = (Watch::default(), None);
     for index in 0..calls {
         let (call, outcome) = random.next();
         let told = linked.compare(&call, &outcome);
-        told.map_err(|told| format!("{shape:?}, seed {seed}, call {index}: {told}"))?;
+        told.map_err(|told| format!("{shape:?}, call {index}: {told}"))?;
         met.numbers[usize::from(outcome.number)] += 1;
         if shape.needed() <= WATCHED {
             let after = decode(linked.state.bytes(), linked.memory.bytes());
             if let (Some(before), Some(after)) = (&before, &after) {
                 met.beside.add(watch.call(before, &call, &outcome, after));
             }
-            before = after;
+            // of states that calls left, and no others
+            before = after.filter(|_| !random.is_away());
         }
         if outcome.number == 0 && call.ask == Ask::Collect {
             met.found[outcome.found.number()] += 1;
@@ -97,6 +95,9 @@ fn compare(
     met.most_jobs = met.most_jobs.max(random.most_jobs);
     met.full += random.full;
     met.wraps += random.wraps;
+    for saved in random.saving.iter().flat_map(|saving| saving.met()) {
+        *met.saved.entry(*saved).or_default() += 1;
+    }
     Ok(())
 }
 
@@ -105,10 +106,19 @@ fn random_calls_answer_as_the_model_does() {
     let (start, calls) = (Instant::now(), random::calls(FEW));
     let mut met = Met::default();
     for (seed, (shape, share)) in SHAPES.into_iter().enumerate() {
-        let length = (calls * share).div_ceil(100);
-        let told = compare(shape, Mistake::None, seed as u64, length, &mut met);
-        told.unwrap_or_else(|told| panic!("{told}"));
+        // loads take stores back, and so keep them from what comes late
+        let length = (calls * share).div_ceil(200);
+        let [without, with] = [Random::new, Random::saving];
+        for random in [without, with].map(|make| make(shape, Mistake::None, seed as u64)) {
+            let told = compare(random, length, &mut met);
+            told.unwrap_or_else(|told| panic!("seed {seed}: {told}"));
+        }
     }
+    check(&met, calls, start.elapsed().as_secs_f64());
+}
+
+/// Prints what was met, and asks that nothing was met too rarely in so many calls.
+fn check(met: &Met, calls: usize, seconds: f64) {
     let Met {
         numbers,
         found,
@@ -116,32 +126,40 @@ fn random_calls_answer_as_the_model_does() {
         full,
         wraps,
         beside,
+        saved,
     } = met;
     let made: usize = numbers.iter().sum();
-    let seconds = start.elapsed().as_secs_f64();
     println!("{made} calls in {seconds:.1} s");
-    println!("  numbers 0 to 15: {numbers:?}");
+    println!("  numbers 0 to 18: {numbers:?}");
     println!("  found nowhere, in the cache, in level 0 to 7: {found:?}");
     println!("  rebuilds: {full} of a full partition, {wraps} with all levels filled");
     println!("  beside a rebuild: {beside:?}");
-    assert!(made >= calls && most_jobs == 64);
+    println!("  saves and loads: {saved:?}");
+    assert!(made >= calls && *most_jobs == 64);
     assert!(found[..5].iter().all(|count| *count > calls / 2000));
-    assert!(full > calls / 2000 && wraps > calls / 2000);
+    assert!(*full > calls / 2000 && *wraps > calls / 2000);
     assert!(beside.least()[0] > calls / 4000 && beside.damaged_only() == [0; 2]);
     for (number, count) in numbers.iter().enumerate() {
         assert!(*count > calls / 20_000, "{number} is answered too rarely");
     }
+    // sessions are made for the last, in saved_sessions.rs
+    for situation in Saved::ALL.iter().filter(|met| **met != Saved::TooMany) {
+        let times = saved.get(situation).copied().unwrap_or(0);
+        assert!(times > calls / 20_000, "{situation:?} is met {times} times");
+    }
 }
 
 /// The comparison can fail: it tells a model with any planted mistake of the
-/// five calls.
+/// five calls. (Those in saving are told in saved_sessions.rs.)
 #[test]
 fn every_mistake_of_a_model_is_told() {
     let saves = |mistake: &Mistake| Mistake::SAVED.contains(mistake);
     for mistake in Mistake::ALL.into_iter().filter(|mistake| !saves(mistake)) {
         let small = SHAPES.iter().filter(|(shape, _)| shape.blocks <= 64);
-        let told = { small }
-            .any(|(shape, _)| compare(*shape, mistake, 1, 20_000, &mut Met::default()).is_err());
+        let told = { small }.any(|(shape, _)| {
+            let random = Random::new(*shape, mistake, 1);
+            compare(random, 20_000, &mut Met::default()).is_err()
+        });
         assert!(told, "{mistake:?} is not told");
     }
 }

@@ -1,20 +1,23 @@
-//! Bytes that a host in between seals: what is written is read back, and the
-//! file has neither what was written nor two slots that are alike. Without
-//! it, and with contents that are sealed before they are written, it has both.
+//! Bytes that a host in between seals: what is written is read back, also by a
+//! reader that was saved, and the file has neither what was written nor two slots
+//! that are alike. Without it, and with contents that are sealed before they are
+//! written, it has both.
 
 #[path = "common/folder.rs"]
 mod folder;
 
 use folder::Folder;
-use rinwolfedd::{Command, FileHost, Host, Kind, Reader, Shape, Slots};
+use rinwolfedd::{Command, FileHost, Host, Kind, Reader};
+use rinwolfedd::{Resumed, SaveId, Saves, Shape, Slots};
 use std::collections::{HashMap, HashSet};
-use std::io;
+use std::fs::File;
+use std::io::{self, Read};
 use std::path::Path;
 
 const BYTES: usize = 16;
 const SHAPE: Shape = Shape::new(32, 4, 5, BYTES).with_window(8);
 
-/// The bytes that sealing adds: a number that no other write has.
+/// The bytes that sealing adds: a number that hardly any other write has.
 const MORE: usize = 8;
 
 /// Numbers from a seed (splitmix64).
@@ -28,12 +31,13 @@ fn stream(mut seed: u64) -> impl Iterator<Item = u8> {
     .flatten()
 }
 
-/// **A toy**, to show where sealing goes: a counter, and the bytes xored with
-/// what a small generator makes of it. It keeps nothing from anybody; a real
-/// one is authenticated encryption with a nonce for each write.
+/// **A toy**, to show where sealing goes: a random number, and the bytes xored with
+/// what a small generator makes of it. It keeps nothing from anybody; a real one is
+/// authenticated encryption with a random nonce for each write. (A counter would
+/// begin anew with each program, and seal two writes alike.)
 struct ToySealed<H> {
     below: H,
-    writes: u64,
+    random: File,
     sealed: Vec<u8>,
 }
 
@@ -41,17 +45,17 @@ impl<H: Host> ToySealed<H> {
     fn new(below: H) -> ToySealed<H> {
         ToySealed {
             below,
-            writes: 0,
+            random: File::open("/dev/urandom").unwrap(),
             sealed: vec![0; BYTES + MORE],
         }
     }
 }
 
-fn xored(bytes: &[u8], counter: u64) -> impl Iterator<Item = u8> {
+fn xored(bytes: &[u8], nonce: u64) -> impl Iterator<Item = u8> {
     let key = 0x746F_7920_6B65_7921;
     bytes
         .iter()
-        .zip(stream(key ^ counter << 20))
+        .zip(stream(key ^ nonce << 20))
         .map(|(a, b)| a ^ b)
 }
 
@@ -64,23 +68,39 @@ impl<H: Host> Host for ToySealed<H> {
         if command.kind == Kind::Read {
             return self.below.submit(command, &[]);
         }
-        self.writes += 1;
-        let mut sealed = self.writes.to_le_bytes().to_vec();
-        sealed.extend(xored(bytes, self.writes));
+        let mut nonce = [0; MORE];
+        self.random.read_exact(&mut nonce)?;
+        let mut sealed = nonce.to_vec();
+        sealed.extend(xored(bytes, u64::from_le_bytes(nonce)));
         self.below.submit(command, &sealed)
     }
 
     fn next_completed(&mut self, buffer: &mut [u8]) -> io::Result<Command> {
         let command = self.below.next_completed(&mut self.sealed)?;
         if command.kind == Kind::Read {
-            let (counter, bytes) = self.sealed.split_first_chunk().unwrap();
-            let opened = xored(bytes, u64::from_le_bytes(*counter));
+            let (nonce, bytes) = self.sealed.split_first_chunk().unwrap();
+            let opened = xored(bytes, u64::from_le_bytes(*nonce));
             buffer
                 .iter_mut()
                 .zip(opened)
                 .for_each(|(to, byte)| *to = byte);
         }
         Ok(command)
+    }
+}
+
+/// A save is the host's below, of the slots as they are sealed.
+impl<H: Saves> Saves for ToySealed<H> {
+    fn prepare(&mut self, id: SaveId) -> io::Result<()> {
+        self.below.prepare(id)
+    }
+
+    fn commit(&mut self, id: SaveId) -> io::Result<()> {
+        self.below.commit(id)
+    }
+
+    fn resume(&mut self, id: SaveId) -> io::Result<Resumed> {
+        self.below.resume(id)
     }
 }
 
@@ -166,6 +186,39 @@ fn contents_sealed_before_they_are_written_are_followed() {
     };
     let seen = look_ups(&path, BYTES, host, sealed);
     assert!(!seen.plain && seen.followed, "{seen:?}");
+}
+
+/// Neither the file nor its journal has the contents, whatever is saved and lost;
+/// the client's file has those that wait.
+#[test]
+fn a_sealed_store_is_saved() {
+    let folder = Folder::new("saved");
+    let (path, client) = (folder.path("file"), folder.path("client"));
+    let slots = Slots::of(SHAPE).with_bytes(BYTES + MORE);
+    let host = ToySealed::new(FileHost::create(&path, slots).unwrap());
+    let mut reader = Reader::open(SHAPE, host).unwrap();
+    reader.write_all((0..32).map(contents)).unwrap();
+    for round in 0..8 {
+        reader.leave_jobs(2 * round);
+        reader.save(&client).unwrap();
+        reader.write(round, b"and this is lost").unwrap();
+        for name in ["file", "file.journal"] {
+            let bytes = std::fs::read(folder.path(name)).unwrap();
+            let has = |text: &[u8]| bytes.windows(7).any(|seven| seven == text);
+            assert!(!has(b" is hot") && !has(b"is lost"), "{name}");
+        }
+        drop(reader);
+        let host = ToySealed::new(FileHost::open(&path, slots).unwrap());
+        let (again, resumed) = Reader::load(&client, host).unwrap();
+        assert!(
+            round > 0 || resumed != Resumed::AsSaved,
+            "its jobs were run"
+        );
+        reader = again;
+        for block in 0..32 {
+            assert_eq!(reader.read(block).unwrap().contents, contents(block));
+        }
+    }
 }
 
 /// A host that seals does not fit one whose slots are as short as blocks.

@@ -108,6 +108,7 @@ fn only_a_shape_within_bounds_needs_memory() {
             assert_eq!(shape.needed().is_some(), there, "{shape}");
             assert_eq!(shape.slots().is_some(), there, "{shape}");
             assert_eq!(shape.page_bytes().is_some(), there, "{shape}");
+            assert_eq!(shape.longest_form().is_some(), there, "{shape}");
             within += usize::from(there);
         }
     }
@@ -115,4 +116,23 @@ fn only_a_shape_within_bounds_needs_memory() {
     let far = usize::MAX;
     let far = Shape::new(far, far, far, far);
     assert_eq!((far.needed(), far.page_bytes()), (None, None));
+    assert_eq!(far.longest_form(), None);
+}
+
+/// The formula of docs/MEMORY.md, and that of the independent implementation.
+#[test]
+fn the_longest_form_is_that_of_the_formula() {
+    let of = |n, p, l, b| Shape::new(n, p, l, b).longest_form();
+    assert_eq!(of(1, 1, 1, 1), Some(512));
+    assert_eq!(of(64, 4, 5, 64), Some(5632));
+    assert_eq!(of(1024, 16, 7, 256), Some(280_064));
+    assert_eq!(of(4096, 64, 8, 512), Some(2_208_768));
+    for blocks in 1..=4096 {
+        let shape = Shape::hiding(blocks, 1 + 7 * blocks % 512).unwrap();
+        let smaller = shape.with_smaller_cache(1).with_window(1);
+        let [n, p, l, b, e, w] = smaller.numbers();
+        let plain = plain::form::longest(&plain::shape::Shape::new(n, p, l, b, e, w));
+        assert_eq!(smaller.longest_form(), Some(plain));
+        assert_eq!(shape.longest_form(), Some(plain), "E has no part in it");
+    }
 }

@@ -93,6 +93,24 @@ pub fn passable(rng: &mut Rng, shape: Shape) -> Form {
     form
 }
 
+/// A form as long as one of the shape can be if E is N: all blocks wait, all
+/// levels are filled, and as many jobs are queued as may be.
+pub fn longest(rng: &mut Rng, shape: Shape) -> Form {
+    let (p, n) = (shape.partitions, shape.blocks);
+    let mut form = Form {
+        number: Layout::of(&shape).number,
+        shape,
+        counters: vec![(1 << shape.levels) - 1; p],
+        queue: (0..JOBS).map(|_| rng.below(p)).collect(),
+        blocks: (0..n).map(|_| (rng.below(p), Spot::Waiting)).collect(),
+        levels: Vec::new(),
+        records: Vec::new(),
+    };
+    form.fill_levels(rng);
+    form.record(rng);
+    form
+}
+
 /// A form that is passable but for some fields that were changed; it may still
 /// be.
 pub fn almost(rng: &mut Rng, shape: Shape) -> Form {

@@ -1,13 +1,14 @@
 //! What whole look-ups cost beside the plain implementation, in the same run:
 //! for each shape the commands of a look-up, nanoseconds per command of both,
 //! and their ratio; with a host in memory, and with one that does nothing. Then
-//! for how many commands look-ups through the reader wait, and what a page costs,
-//! and how that grows with N and with P.
+//! for how many commands look-ups through the reader wait, what a page costs and
+//! how that grows with N and with P, and what a save and a load cost.
 //!
 //! `cargo bench` prints the tables. `cargo bench -- --docs ../docs` also puts
 //! them into MEASUREMENTS.md there, between its two marks, and writes the plot
 //! measurements.svg. `cargo bench -- --waits` prints for how many commands
-//! look-ups wait, and nothing else is done.
+//! look-ups wait, `-- --saves` what a save and a load cost, and nothing else is
+//! done.
 
 #[path = "../../tests/common/convert.rs"]
 mod convert;
@@ -16,6 +17,7 @@ mod plot;
 mod proved;
 mod reader;
 mod report;
+mod saves;
 mod waits;
 
 use plain::fast;
@@ -123,16 +125,25 @@ fn docs() -> Option<String> {
     arguments.nth(1)
 }
 
+fn is_asked(name: &str) -> bool {
+    std::env::args().any(|argument| argument == name)
+}
+
 fn run() -> Result<(), Box<dyn Error>> {
+    if is_asked("--saves") {
+        print!("{}", report::saves(&saves::all()));
+        return Ok(());
+    }
     let streams = waits::all()?;
-    if std::env::args().any(|argument| argument == "--waits") {
+    if is_asked("--waits") {
         print!("{}", report::waits(&streams));
         return Ok(());
     }
     let shapes: Vec<Row> = SHAPES.into_iter().map(row).collect();
     let growing: Vec<Row> = GROWING.into_iter().map(row).collect();
     let looks: Result<Vec<Look>, _> = SHAPES.into_iter().map(reader::look).collect();
-    let text = report::text(&shapes, &growing, &looks?, &streams, &pages::all()?);
+    let (pages, saves) = (pages::all()?, saves::all());
+    let text = report::text(&shapes, &growing, &looks?, &streams, &pages, &saves);
     print!("{text}");
     if let Some(docs) = docs() {
         let docs = Path::new(&docs);

@@ -26,6 +26,17 @@ impl Proved {
         ]))
     }
 
+    /// The saved form, at the start of the buffer.
+    #[inline]
+    pub fn save(&self, buffer: &mut [u8]) -> Answer {
+        calls::save(&self.state, &self.memory, buffer)
+    }
+
+    #[inline]
+    pub fn load(&mut self, form: &[u8]) -> Answer {
+        calls::load(&mut self.state, &mut self.memory, form)
+    }
+
     /// The page, at the start of the buffer.
     #[inline]
     pub fn page(&self, buffer: &mut [u8]) -> Answer {

@@ -3,6 +3,7 @@
 use crate::Row;
 use crate::pages::{Page, Pages};
 use crate::reader::Look;
+use crate::saves::Saves;
 use crate::waits::Stream;
 use plain::shape::Shape;
 use std::io;
@@ -151,17 +152,46 @@ fn pages(pages: &Pages) -> String {
     )
 }
 
+/// Saves and loads in microseconds, beside a copy of as many bytes.
+pub fn saves(all: &[Saves]) -> String {
+    let mut text = String::new();
+    text += "| N | P | L | B | waiting | form | copy | save | save / copy | load | load / copy | plain save | plain load |\n";
+    text += "|--:|--:|--:|--:|--:|--:|--:|--:|--:|--:|--:|--:|--:|\n";
+    for saves in all {
+        let h = saves.shape;
+        text += &format!(
+            "| {} | {} | {} | {} | {} | {} | {:.2} | {:.2} | {:.1} | {:.2} | {:.1} | {:.1} | {:.1} |\n",
+            h.blocks,
+            h.partitions,
+            h.levels,
+            h.bytes,
+            saves.waiting,
+            saves.length,
+            saves.copy / 1e3,
+            saves.save / 1e3,
+            saves.save / saves.copy,
+            saves.load / 1e3,
+            saves.load / saves.copy,
+            saves.plain_save / 1e3,
+            saves.plain_load / 1e3,
+        );
+    }
+    text
+}
+
 pub fn text(
     shapes: &[Row],
     growing: &[Row],
     looks: &[Look],
     streams: &[Stream],
     pages: &Pages,
+    saves: &[Saves],
 ) -> String {
     format!(
         "Machine: {}.\n\n{}\n{}\nN alone grows; P = 64, L = 8 and B = 64 throughout:\n\n{}\n{}\n\
          Look-ups through the reader, in microseconds each:\n\n{}\n\
-         Commands for which look-ups through the reader wait, of those asked one after the other:\n\n{}\n{}",
+         Commands for which look-ups through the reader wait, of those asked one after the other:\n\n{}\n{}\n\
+         Saves and loads, in microseconds each, of a store after look-ups and of the longest form:\n\n{}",
         machine(),
         table(shapes),
         growth(shapes),
@@ -170,6 +200,7 @@ pub fn text(
         reader(looks),
         waits(streams),
         self::pages(pages),
+        self::saves(saves),
     )
 }
 

@@ -3,6 +3,7 @@
 
 use super::simulated::{Fault, Loss, Simulated};
 use super::{Kept, beside};
+use crate::client_file::ClientFile;
 use crate::disk::{Bytes, Disk};
 use crate::journal::Layout;
 use crate::saves::{NotResumed, SaveId};
@@ -102,7 +103,7 @@ impl Session {
     /// not have it after a power cut, the folder is synced first.
     fn resumed(disk: &Simulated, id: SaveId, saved: &Saved) -> io::Result<Session> {
         if client(disk) == Some(id) {
-            disk.sync_folder(client_path())?;
+            ClientFile::read(disk, client_path())?;
         }
         let mut kept = opened(disk)?;
         let _ = kept.resume(id)?;
@@ -145,14 +146,14 @@ impl Session {
         self.kept.write(at as u64, &bytes)
     }
 
-    /// Here a client is its save's id.
+    /// Here a client's form is what its slots should be.
     fn write_client(&mut self, id: SaveId) -> io::Result<()> {
-        let new = Path::new("clients/new");
-        let file = self.disk.create(new)?;
-        file.write(0, &id.bytes())?;
-        file.sync()?;
-        self.disk.rename(new, client_path())?;
-        self.disk.sync_folder(client_path())
+        let client = ClientFile {
+            first: SaveId::new([1; 16]),
+            id,
+            form: self.slots.clone(),
+        };
+        client.write(&self.disk, client_path())
     }
 }
 
@@ -170,10 +171,15 @@ pub(super) fn contents(kept: &Kept<Simulated>) -> Vec<u8> {
     all
 }
 
-/// The save of the client's file on this disk.
-pub(super) fn client(disk: &Simulated) -> Option<SaveId> {
+/// The client's file on this disk.
+fn client_file(disk: &Simulated) -> Option<ClientFile> {
     let bytes = disk.bytes(client_path())?;
-    Some(SaveId::new(bytes.try_into().expect("it is whole")))
+    Some(ClientFile::of(&bytes).expect("it is whole"))
+}
+
+/// The save of which it is.
+pub(super) fn client(disk: &Simulated) -> Option<SaveId> {
+    client_file(disk).map(|client| client.id)
 }
 
 /// The saves to which these slots go back: each gives what the slots were, and
@@ -206,8 +212,10 @@ fn goes_back(disk: &Simulated, saved: &Saved, what: &str) -> Vec<SaveId> {
 /// Of these saves the client's is one.
 pub(super) fn client_goes_on(disk: &Simulated, saved: &Saved, what: &str) -> Vec<SaveId> {
     let good = goes_back(disk, saved, what);
-    let client = client(disk);
-    assert!(client.is_none_or(|id| good.contains(&id)), "{what}: lost");
+    if let Some(client) = client_file(disk) {
+        assert!(good.contains(&client.id), "{what}: lost");
+        assert_eq!(client.form, saved[&client.id].0, "{what}: another's slots");
+    }
     good
 }
 

@@ -286,6 +286,10 @@ impl Bytes for Open {
         Ok(())
     }
 
+    fn keep_private(&self) -> io::Result<()> {
+        Ok(())
+    }
+
     fn length(&self) -> io::Result<u64> {
         Ok(self.0.borrow().files[self.1].now.len() as u64)
     }

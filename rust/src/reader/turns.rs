@@ -126,7 +126,7 @@ impl<H: Host, R: Read> Reader<H, R> {
 
     /// Runs jobs until at most so many are queued, and waits for the host only
     /// where no command can be sent.
-    fn run_jobs(&mut self, most: usize) -> Result<(), Error> {
+    pub(super) fn run_jobs(&mut self, most: usize) -> Result<(), Error> {
         while self.store.queued() > most {
             self.step()?;
         }

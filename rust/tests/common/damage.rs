@@ -41,6 +41,14 @@ pub fn damage_state(state: &mut [u8], shape: Shape, rng: &mut Rng) {
     }
 }
 
+/// No request is in hand, no command outstanding and no job begun, whatever else
+/// the state says.
+pub fn put_to_rest(state: &mut [u8]) {
+    for k in [6, 14, 18] {
+        state[4 * k..4 * k + 2].fill(0);
+    }
+}
+
 fn put(memory: &mut [u8], at: usize, number: u16) {
     memory[2 * at..2 * at + 2].copy_from_slice(&number.to_le_bytes());
 }

@@ -1,5 +1,10 @@
 //! Random calls to the independent model, with an honest host that completes
-//! in random order: calls that get on, and refused ones of every number.
+//! in random order: calls that get on, and refused ones of every number. If
+//! asked for, the store is saved and loaded in between.
+
+#[path = "saving.rs"]
+#[allow(dead_code)] // not every test saves
+mod saving;
 
 use plain::calls::{Ask, Call, Outcome, Store};
 use plain::host::Host;
@@ -7,8 +12,12 @@ use plain::mistakes::Mistake;
 use plain::rng::Rng;
 use plain::shape::Shape;
 use plain::state::{Command, READ, State, Step, WRITE};
+use saving::Saving;
 
 pub struct Random {
+    /// The shape with which stores are opened, and that of the store, which may
+    /// have been loaded.
+    pub home: Shape,
     shape: Shape,
     pub rng: Rng,
     pub model: Store,
@@ -25,6 +34,8 @@ pub struct Random {
     pub most_jobs: usize,
     pub full: usize,
     pub wraps: usize,
+    /// What is saved and loaded, if anything is.
+    pub saving: Option<Saving>,
 }
 
 /// The bytes of memory that may be lent beyond those needed.
@@ -52,6 +63,7 @@ fn gathers(state: &State, q: usize) -> bool {
 impl Random {
     pub fn new(shape: Shape, mistake: Mistake, seed: u64) -> Random {
         Random {
+            home: shape,
             shape,
             rng: Rng::new(seed),
             model: Store::new(mistake),
@@ -62,6 +74,7 @@ impl Random {
             most_jobs: 0,
             full: 0,
             wraps: 0,
+            saving: None,
         }
     }
 
@@ -74,12 +87,24 @@ impl Random {
         }
         let call = self.call();
         let (full, wraps) = self.rebuilds(&call);
+        let before = self
+            .saving
+            .as_ref()
+            .and_then(|saving| saving.before(&self.model));
         let outcome = self.model.call(&call);
+        if let Some(saving) = &mut self.saving {
+            saving.note(before, &call, &outcome);
+        }
+        self.shape = self
+            .model
+            .state
+            .as_ref()
+            .map_or(self.home, |state| state.shape);
         if outcome.number == 0 {
             self.full += usize::from(full);
             self.wraps += usize::from(wraps);
             match &call.ask {
-                Ask::Open(_) => self.host.pending.clear(),
+                Ask::Open(_) | Ask::Load(_) | Ask::Reload => self.host.pending.clear(),
                 Ask::Turn => self.host.send(outcome.command, outcome.bytes.clone()),
                 Ask::Completion { command, .. } => self.host.done(*command),
                 _ => {}
@@ -106,6 +131,9 @@ impl Random {
     /// A random call, which is not made. Opens are so rare that the counters
     /// of small and middling shapes wrap in between.
     pub fn call(&mut self) -> Call {
+        if let Some(call) = self.saving_call() {
+            return call;
+        }
         let jobs = self.shape.partitions << self.shape.levels;
         match self.rng.below(100 * jobs) {
             0 => return self.open(),
@@ -169,20 +197,28 @@ impl Random {
     fn lend(&mut self, ask: Ask, words: usize, buffer: usize) -> Call {
         let slack = [0, 0, 0, self.rng.below(SLACK + 1)][self.rng.below(4)];
         Call {
+            memory: self.needed(&ask) + slack,
             ask,
-            memory: self.shape.needed() + slack,
             words: self.rng.tape(words),
             buffer,
         }
     }
 
+    /// The memory that a call needs.
+    fn needed(&self, ask: &Ask) -> usize {
+        match ask {
+            Ask::Open(_) => self.home.needed(),
+            _ => self.shape.needed(),
+        }
+    }
+
     fn open(&mut self) -> Call {
-        let words = self.shape.blocks + self.rng.below(2);
-        self.lend(Ask::Open(self.shape), words, 0)
+        let words = self.home.blocks + self.rng.below(2);
+        self.lend(Ask::Open(self.home), words, 0)
     }
 
     fn odd_open(&mut self) -> Call {
-        let (mut shape, mut words) = (self.shape, self.shape.blocks);
+        let (mut shape, mut words) = (self.home, self.home.blocks);
         match self.rng.below(8) {
             0 => shape.partitions = 3,
             1 => shape.blocks = shape.partitions * shape.capacity() + 1,
@@ -204,8 +240,8 @@ impl Random {
             3 => self.odd_completion(),
             _ => self.odd_turn(),
         };
-        let less = [1, 1, 2, self.shape.needed()][self.rng.below(4)];
-        call.memory = self.shape.needed() - less;
+        let needed = self.needed(&call.ask);
+        call.memory = needed - [1, 1, 2, needed][self.rng.below(4)];
         call
     }
 
@@ -293,6 +329,10 @@ impl Random {
         let (command, mut bytes) = self.host.answer(index);
         if self.rng.chance(2) {
             bytes = self.rng.bytes(bytes.len());
+        }
+        if command.kind == READ {
+            // a loaded store may read what another one wrote, or nobody
+            bytes.resize(self.shape.bytes, 0);
         }
         self.lend(Ask::Completion { command, bytes }, 0, 0)
     }

@@ -2,9 +2,11 @@
 //! docs/MEMORY.md: every content stands for one, as an entry out of its range
 //! reads as 0. `step` has what the rules say of it, also of states that no
 //! call left (docs/DECISIONS.md), `beside` of look-ups while a partition is
-//! rebuilt, `met` what of these occurs, and `page` its page.
+//! rebuilt, `met` what of these occurs, `form` of saving and loading, and `page`
+//! its page.
 
 mod beside;
+mod form;
 pub mod met;
 mod page;
 pub mod step;

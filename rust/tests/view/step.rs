@@ -20,22 +20,15 @@ enum Step {
     Write(Command),
 }
 
-/// The outcome of a call other than an open, and the state after it; a refusal
-/// leaves it as it was. Without a state in range it is 2.
+/// The outcome of a call, and the state after it; a refusal leaves it as it was,
+/// or closed if it is one of an open or a load. Without a state in range it is 2,
+/// but for those. A load of what was just saved comes as the load of a form.
 pub fn step(view: &mut Option<View>, call: &Call) -> Outcome {
     let mut bounds = Vec::new();
     let mut draws = Draws::new(&call.words, &mut bounds);
     let answer = match (&call.ask, &mut *view) {
-        (Ask::Open(shape), _) => match View::open(*shape, call.memory, &mut draws) {
-            Ok(fresh) => {
-                *view = Some(fresh);
-                Ok(Default::default())
-            }
-            Err(number) => {
-                *view = None;
-                Err(number)
-            }
-        },
+        (Ask::Open(shape), _) => replaced(view, View::open(*shape, call.memory, &mut draws)),
+        (Ask::Load(form), _) => replaced(view, View::load(form, call.memory)),
         (_, None) => Err(2),
         (_, Some(state)) if call.memory < state.shape.needed() => Err(2),
         (_, Some(state)) => state.call(call, &mut draws),
@@ -45,15 +38,26 @@ pub fn step(view: &mut Option<View>, call: &Call) -> Outcome {
             number: 0,
             taken: draws.taken(),
             command,
+            length: if call.ask == Ask::Save {
+                bytes.len()
+            } else {
+                0
+            },
             bytes,
             found,
-            length: 0,
         },
         Err(number) => Outcome {
             number,
             ..Outcome::default()
         },
     }
+}
+
+/// The state is another one, or closed.
+fn replaced(view: &mut Option<View>, by: Result<View, u8>) -> Result<Handed, u8> {
+    let number = by.as_ref().err().copied();
+    *view = by.ok();
+    number.map_or(Ok(Handed::default()), Err)
 }
 
 /// A command, what goes into the buffer, and where a block was found.
@@ -87,7 +91,8 @@ impl View {
     /// After every accepted call a request is released that nothing holds.
     fn call(&mut self, call: &Call, draws: &mut Draws) -> Result<Handed, u8> {
         let handed = match &call.ask {
-            Ask::Open(_) | Ask::Save | Ask::Load(_) | Ask::Reload => Err(2),
+            Ask::Save => return Ok((Command::default(), self.save(call.buffer)?, Found::Nowhere)),
+            Ask::Open(_) | Ask::Load(_) | Ask::Reload => unreachable!("they ask for no state"),
             Ask::Request {
                 kind,
                 block,
