@@ -1,5 +1,5 @@
 -- Numbers put into a table one after the other, from an entry on.
-use mathlib.Core.Path.{_≡_, refl, ap, sym, _∙_}
+use mathlib.Core.Path.{_≡_, ap, sym, _∙_}
 use mathlib.Core.List.{List, [], _∷_}
 use Prim.Native.Nat.{ℕ, _+_}
 use Rattle.lists.specs.Entries.{putAll-none, put-first}

@@ -64,16 +64,20 @@ record-put p B at b a v t t₁ t₂ e d w k l =
 
 -- ---- All of them at once
 
-unfoldable pub byAge : (ℕ → ℕ) → List Waiter → ℕ → ℕ
-byAge f [] = f
-byAge f (r ∷ rs) = byAge (put (r .age) (r .block) f) rs
+-- each record puts its value into the place of its key
+module _ {A : Type 0} (key : Waiter → ℕ) (value : Waiter → A) where
+  unfoldable pub byKey : (ℕ → A) → List Waiter → ℕ → A
+  byKey f [] = f
+  byKey f (r ∷ rs) = byKey (put (key r) (value r) f) rs
 
-unfoldable pub byBlock : (ℕ → List ℕ) → List Waiter → ℕ → List ℕ
-byBlock f [] = f
-byBlock f (r ∷ rs) = byBlock (put (r .block) (r .bytes) f) rs
+abbrev pub byAge : (ℕ → ℕ) → List Waiter → ℕ → ℕ
+byAge f rs = byKey (λ (r : Waiter). r .age) (λ (r : Waiter). r .block) f rs
+
+abbrev pub byBlock : (ℕ → List ℕ) → List Waiter → ℕ → List ℕ
+byBlock f rs = byKey (λ (r : Waiter). r .block) (λ (r : Waiter). r .bytes) f rs
 
 pub records-are : (rs : List Waiter) (t : Tables) → putRecords rs t ≡ withBlocks (byBlock (t .blocks) rs) (withWaiting (byAge (t .waiting) rs) t)
-unfolding putRecords putRecord byAge byBlock
+unfolding putRecords putRecord byKey
 records-are [] t = refl
 records-are (r ∷ rs) t = records-are rs (putRecord r t)
 

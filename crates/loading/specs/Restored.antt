@@ -1,24 +1,21 @@
 -- The state that client and memory stand for when all of a form is put into cleared tables.
 use mathlib.Core.Path.{_≡_, refl, ap, sym, _∙_, fun-ext}
-use mathlib.Core.Bool.{Bool, true, false}
 use mathlib.Core.List.{List, [], _∷_, map}
 use mathlib.Core.Option.{none}
 use Prim.Native.Nat.{ℕ, zero, suc, _+_, _-_, _^_, _≤_, _<_}
 use native.Mathlib.Decide.{decLt}
 use native.Mathlib.Omega.{arith}
-use lib.Dec.{ltb}
 use lib.ListN.{length, getD, replicate}
 use lib.Pow.{pow-pos}
 use borrow.Author.Tests.{lt-ltb, le-ltb}
-use Rattle.lists.specs.All.{All, all-map, all-both, all-getD}
+use Rattle.lists.specs.All.{all-map, all-both, all-getD}
 use Rattle.lists.specs.Distinct.{Mem}
 use Rattle.lists.specs.Members.{all-mem}
 use Rattle.lists.specs.Places.{map-getD, map-same}
 use Rattle.lists.specs.Search.{below, count}
 use Rattle.lists.specs.Tables.{putAll, putAll-in, putAll-behind}
-use Rattle.lists.specs.Tests.{if_then_else_}
 use Rattle.rules.specs.Form.Loading as F
-use Rattle.rules.specs.Form.Loading.{blockAt, layOver, lay, heldFrom, ordersOf, marksOf, loaded, aged, ofBlock, blockIn}
+use Rattle.rules.specs.Form.Loading.{blockAt, lay, heldFrom, ordersOf, marksOf, loaded, aged, ofBlock, blockIn}
 use Rattle.rules.specs.Form.Payload.{Waiter}
 use Rattle.rules.specs.Form.Reading.{Spot, absent, waits, at, Level, Form}
 use Rattle.rules.specs.Laws.Form.Tables.{Covers, all-mapped}
@@ -29,7 +26,7 @@ use Rattle.memory.specs.declared.Shape.{Shape as Numbers}
 use Rattle.memory.specs.declared.tables.Table.the-variants.{Queue, Counter}
 use Rattle.memory.specs.Fits.{shapeOf, Fits, fits, fit, fit-in, fit-zero}
 use Rattle.memory.specs.Parts.{empty}
-use Rattle.memory.specs.Tables.{Tables, withQueue, withCounter, withWaiting, withBlocks}
+use Rattle.memory.specs.Tables.{Tables, withQueue, withWaiting, withBlocks}
 use Rattle.rules.specs.Memory.{needed}
 use Rattle.client.specs.declared.Client.{Client}
 use Rattle.client.specs.View.{view, rows, requestOf, bytesIn, placeOf, levelAt, commandBy}
@@ -37,13 +34,13 @@ use Rattle.client.specs.Changes.{place-is, place-nowhere, cell-level}
 use Rattle.client.specs.Moves.{noRequest}
 use Rattle.forms.specs.Bytes.{getD-past}
 use Rattle.forms.specs.Cells.{PlacedIn, SpotIn, lay-few}
-use Rattle.forms.specs.Facts.{counterOf, agesOf, namesOf, Known, Sized, Ordered, Made, Facts, levels-known}
+use Rattle.forms.specs.Facts.{counterOf, namesOf, Known, Sized, Ordered, Made, Facts, levels-known}
 use Rattle.forms.specs.Laid.{lay-every}
 use Rattle.loading.specs.Laid.{laid, laid-is}
 use Rattle.loading.specs.Blocks.{placeNumber, putBlocks, blocksLaid, blocks-are}
 use Rattle.loading.specs.Levels.{putLevels}
 use Rattle.loading.specs.Records.{putRecords, byAge, byBlock, records-are}
-use Rattle.loading.specs.Waiting.{age-is, age-lt, block-else, block-is}
+use Rattle.loading.specs.Waiting.{key-else, age-is, age-lt, block-is}
 
 -- no request in hand, no command outstanding, no job begun
 abbrev pub restingClient : Numbers → ℕ → ℕ → Client
@@ -138,7 +135,7 @@ module _ (h : Numbers) (number : ℕ) (cs qs : List ℕ) (xs : List (ℕ × Spot
       where
         go : (b : ℕ) → Dec (b < h .n) → bytesIn H (byBlock (λ _. replicate (h .b) 0) ws) b ≡ F.bytesIn (replicate (h .b) 0) (ofBlock ws b)
         go b (yes l) = rw (lt-ltb b (h .n) l) (block-is (λ _. replicate (h .b) 0) ws b (replicate (h .b) 0) refl (k .names))
-        go b (no l) = rw (le-ltb b (h .n) (omega arith)) (sym (block-else (λ _. replicate (h .b) 0) ws b (named b (omega arith))) ∙ block-is (λ _. replicate (h .b) 0) ws b (replicate (h .b) 0) refl (k .names))
+        go b (no l) = rw (le-ltb b (h .n) (omega arith)) (sym (key-else (λ (r : Waiter). r .block) (λ (r : Waiter). r .bytes) (λ _. replicate (h .b) 0) ws b (named b (omega arith))) ∙ block-is (λ _. replicate (h .b) 0) ws b (replicate (h .b) 0) refl (k .names))
 
     waiting-are : rows (λ i. fit (h .n) (byAge (λ _. 0) ws i)) (length ws) ≡ map (λ a. blockIn (aged ws a)) (below (length ws))
     unfolding rows

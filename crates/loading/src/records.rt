@@ -6,7 +6,6 @@ ghost use mathlib.Core.Path.{_≡_};
 ghost use Prim.Native.Nat.{_+_, _%_, _*_, _<_, _≤_};
 ghost use lib.ListN.{length};
 ghost use Rattle.lists.specs.All.{All};
-ghost use Rattle.lists.specs.Search.{below};
 ghost use Rattle.rules.specs.Form.Sums.{outOfBlocks};
 ghost use Rattle.memory.specs.Fits.{shapeOf, Fits};
 ghost use Rattle.memory.specs.Tables.{tablesOf};

@@ -6,14 +6,14 @@ use Prim.Native.Nat.{ℕ, _+_, _*_, _≤_, _<_}
 use native.Mathlib.Omega.{arith}
 use native.Mathlib.Decide.{ℕ-discrete, decLt}
 use lib.Dec.{eqb}
-use lib.ListN.{length, drop}
+use lib.ListN.{length}
 use borrow.Author.Tests.{eq-eqb, ne-eqb}
 use Rattle.lists.specs.Tests.{if_then_else_}
 use Rattle.lists.specs.Tables.{put}
 use Rattle.rules.specs.Shape.{Shape}
 use Rattle.rules.specs.Memory.{needed}
 use Rattle.memory.specs.Words.{wordAt, setWord, wordAt-lt, window, window-in, window-set, window-else}
-use Rattle.memory.specs.Blocks.{blocksAt, blockTable, block-else, drop-else}
+use Rattle.memory.specs.Blocks.{blocksAt, block-else, drop-else}
 use Rattle.memory.specs.Layout.{ends-before, ends-within}
 use Rattle.memory.specs.declared.tables.Table.{Table}
 use Rattle.memory.specs.Tables.{Tables, tablesOf, tablesBy, tableAt, table-by, startOf, sizeOf, sizes, index, pick, withTable}

@@ -5,7 +5,7 @@ use native.Mathlib.Omega.{arith}
 use lib.ListN.{length}
 use Rattle.rules.specs.Draws.{draws}
 use Rattle.rules.specs.Questions.{load, bounds}
-use Rattle.rules.specs.Run.{refuse, sentCommand, handed, handedFound, takenOf, numbersOf}
+use Rattle.rules.specs.Run.{refuse, sentCommand, handed, handedFound, takenOf}
 use Rattle.rules.specs.State.{closed, foundNumber}
 use Rattle.client.specs.View.{stateOf, view}
 use Rattle.contract.specs.Answers.{clearedClient}

@@ -3,7 +3,7 @@ use lib.ListN.{getD}
 use Rattle.rules.specs.Laws.Layout.{offset-lt}
 use Rattle.forms.specs.Blocks.{counterIn}
 use borrow.Author.Needs.{needs}
-use mathlib.Core.Path.{_≡_, refl, ap, _∙_}
+use mathlib.Core.Path.{refl, ap}
 use Prim.Native.Nat.{_+_}
 use native.Mathlib.Omega.{arith}
 use Rattle.rules.specs.Form.Sums.{outOfBlocks}
