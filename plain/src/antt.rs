@@ -1,10 +1,13 @@
 //! The text of a session in the proof checker's language: its calls, its
-//! outcomes and the theorem that running the calls gives the outcomes.
+//! outcomes and the theorem that running the calls gives the outcomes. Other
+//! files may name the calls.
 
 use crate::calls::{Ask, Call, Outcome};
 use crate::found::Found;
 use crate::state::Command;
 use std::fmt::Display;
+
+pub mod reads;
 
 /// The lines of a header.
 pub const HEADER_LINES: usize = 7;
@@ -123,20 +126,22 @@ fn outcome(o: &Outcome) -> String {
     }
 }
 
-fn definition(name: &str, kind: &str, lines: Vec<String>) -> String {
+fn definition(marks: &str, name: &str, kind: &str, lines: Vec<String>) -> String {
     let body = lines.join("\n    ∷ ");
-    format!("{name} : List {kind}\n{name} =\n    ({body}\n    ∷ [])\n")
+    format!("{marks}{name} : List {kind}\n{name} =\n    ({body}\n    ∷ [])\n")
 }
 
 /// The session of this name.
 pub fn session(name: &str, calls: &[Call], outcomes: &[Outcome]) -> String {
     let lists = [
         definition(
+            "unfoldable pub ",
             &format!("{name}-calls"),
             "Call",
             calls.iter().map(call).collect(),
         ),
         definition(
+            "",
             &format!("{name}-outcomes"),
             "Outcome",
             outcomes.iter().map(outcome).collect(),

@@ -1,9 +1,10 @@
 //! A plain implementation of document 01's block store and of document 02's
 //! page on its state (P1), where a block was found (P2), even draws (P3),
-//! look-ups while a partition is rebuilt (P4) and saving the client (P5). It is
-//! written from these documents alone and made to be read, so that other
-//! implementations and definitions can be compared with it. Beside it is a fast
-//! implementation of the same rules but P5's, for benchmarks.
+//! look-ups while a partition is rebuilt (P4), saving the client (P5) and the
+//! partition reader in the paper's order (P6). It is written from these
+//! documents alone and made to be read, so that other implementations and
+//! definitions can be compared with it. Beside it is a fast implementation of
+//! the same rules but P5's and P6's, for benchmarks.
 
 pub mod antt;
 pub mod array;
@@ -23,6 +24,8 @@ pub mod mistakes;
 mod mixer;
 pub mod page;
 pub mod random_session;
+pub mod reader;
+pub mod releases;
 pub mod rng;
 pub mod saves;
 pub mod saving;
@@ -31,6 +34,7 @@ pub mod session;
 pub mod shape;
 pub mod situations;
 pub mod state;
+pub mod told;
 pub mod transcripts;
 pub mod turn;
 pub mod walk;

@@ -10,7 +10,7 @@ use plain::script::{Script, replay};
 use plain::session::{self, Session};
 use plain::shape::Shape;
 use plain::situations::{Situation, Watch, is_released};
-use plain::state::{Command, Place, READ, Request, State, Step};
+use plain::state::{Command, Place, READ, Request, State};
 use std::collections::{BTreeMap, HashSet};
 use std::io::sink;
 use std::panic::catch_unwind;
@@ -131,40 +131,10 @@ fn random_sessions_tell_mistakes() {
     assert!(told.iter().all(|(_, times)| *times >= 3), "{told:?}");
 }
 
-/// The reads of the request in hand, all decided when it is released: in each
-/// filled level one of its unread items.
-fn reads(state: &State) -> Vec<[usize; 2]> {
-    let Some(block) = state.request.as_ref().map(|request| request.block) else {
-        return Vec::new();
-    };
-    let p = state.partition[block];
-    let sources = match state.queue.front() == Some(&p) {
-        true => state.counter[p].trailing_ones() as usize,
-        false => 0,
-    };
-    let read_in = |level: usize| {
-        let table = &state.levels[p][level];
-        let own = match state.place[block] {
-            Place::Stored { level: there, item } if there == level => Some(item),
-            _ => None,
-        };
-        let unread = |item: &usize| !table.read[table.slot_of[*item]];
-        let may_be_any =
-            |item: &usize| level < sources || table.block_at[table.slot_of[*item]].is_none();
-        let mut others = (0..table.slots()).filter(unread).filter(may_be_any);
-        let item = own.filter(unread).or_else(|| others.next())?;
-        Some([level, table.slot_of[item]])
-    };
-    let filled = |level: &usize| state.counter[p] >> level & 1 == 1;
-    let levels = (0..state.shape.levels).filter(filled);
-    levels.filter_map(read_in).collect()
-}
-
 /// What is followed from call to call.
 #[derive(Default)]
 struct Follow {
-    /// The reads that the request in hand has still to send.
-    due: Vec<[usize; 2]>,
+    /// Where the block of the released request was found.
     place: Option<Place>,
     /// The slots that were read since they were written.
     read: HashSet<[usize; 3]>,
@@ -174,38 +144,28 @@ struct Follow {
 impl Follow {
     fn call(&mut self, store: &mut Store, call: &Call) {
         let released = is_released(store);
-        let step = store.state.as_ref().and_then(State::step);
         let outcome = store.call(call);
         let Some(state) = store.state.as_ref().filter(|_| outcome.number == 0) else {
             return;
         };
         match call.ask {
             Ask::Open(_) => *self = Follow::default(),
-            Ask::Turn => self.sent(outcome.command, step),
-            Ask::Collect => {
-                assert!(self.due.is_empty());
-                self.place = None;
-            }
+            Ask::Turn => self.sent(outcome.command),
+            Ask::Collect => self.place = None,
             _ => {}
         }
-        if is_released(store) && !released {
-            self.due = reads(state);
-            self.beside += usize::from(state.is_beside());
-        }
+        let releases = is_released(store) && !released;
+        self.beside += usize::from(releases && state.is_beside());
         self.stays(state);
     }
 
-    /// A slot is read once, a request's reads are those that were decided, and
-    /// a level written anew is unread.
-    fn sent(&mut self, command: Command, step: Option<Step>) {
+    /// A slot is read once, and a level written anew is unread.
+    fn sent(&mut self, command: Command) {
         let slot = [command.partition, command.level, command.slot];
         if command.kind == READ {
             assert!(self.read.insert(slot), "{command:?} is sent twice");
         } else {
             self.read.remove(&slot);
-        }
-        if let Some(Step::RequestRead(_)) = step {
-            assert_eq!(self.due.remove(0), slot[1..]);
         }
     }
 
@@ -249,7 +209,7 @@ fn no_level_is_read_too_often() {
 }
 
 #[test]
-fn a_request_sends_the_reads_decided_at_its_release() {
+fn no_slot_is_read_twice_and_a_found_block_stays() {
     let mut beside = 0;
     for script in scripts() {
         let mut follow = Follow::default();

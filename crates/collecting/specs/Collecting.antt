@@ -18,7 +18,8 @@ use Rattle.rules.specs.State.{State, Command, write, nowhere, foundNowhere, fou
 use Rattle.rules.specs.Setters.{_▷_, setPartition, setPlace, setBytes, setWaiting, setHolds, setQueue, setRequest}
 use Rattle.rules.specs.Ranges.{others}
 use Rattle.rules.specs.Blocks.{isNowhere, zeros, contents}
-use Rattle.rules.specs.Request.{held, costs, levelsLeft, release}
+use Rattle.rules.specs.Request.{held, release}
+use Rattle.rules.specs.Reader.{costs, levelsLeft}
 use Rattle.rules.specs.Collect.{finished, emptied, finish, collected, answer, carried}
 use Rattle.rules.specs.Questions.{collect, Call, inHand, questions, number}
 use Rattle.rules.specs.Laws.Answers.{accepted-passed}

@@ -10,7 +10,8 @@ use Rattle.lists.specs.Search.{any, keep, below, count}
 use Rattle.rules.specs.Shape.{Shape, slots}
 use Rattle.rules.specs.State.{State, Request}
 use Rattle.rules.specs.Levels.{sources, target}
-use Rattle.rules.specs.Request.{held, costs, levelsLeft, slotRead, releasedFor}
+use Rattle.rules.specs.Request.{held, releasedFor}
+use Rattle.rules.specs.Reader.{costs, levelsLeft, slotRead}
 use Rattle.rules.specs.Rebuild.{unread}
 use Rattle.rules.specs.Turn as Turn
 use Rattle.rules.specs.Turn.{requestStep, readStep, firstRead, jobStep, gatherStep, rebuildStep, writeStep}

@@ -6,11 +6,12 @@ ghost use mathlib.Core.Path.{_≡_};
 ghost use Prim.Native.Nat.{_-_, _<_};
 ghost use Rattle.lists.specs.Search.{keep, count};
 ghost use Rattle.rules.specs.Levels.{sources as sourcesOf, target as targetOf};
-ghost use Rattle.rules.specs.Request.{costs, slotRead, releasedFor};
+ghost use Rattle.rules.specs.Request.{releasedFor};
+ghost use Rattle.rules.specs.Reader.{costs, slotRead};
 ghost use Rattle.rules.specs.Rebuild.{unread};
 ghost use Rattle.rules.specs.Turn.{decide as decideOf, requestStep, firstRead, jobStep, gatherStep, rebuildStep, writeStep};
 ghost use Rattle.memory.specs.Fits.{shapeOf};
-ghost use Rattle.client.specs.View.{stateOf, foundOf};
+ghost use Rattle.client.specs.View.{stateOf};
 ghost use Rattle.ready.specs.Usable.{Usable};
 ghost use Rattle.reading.specs.Slots.{Reads};
 ghost use Rattle.deciding.specs.Steps.{stepOf, dueOf};
@@ -32,18 +33,24 @@ enum Due {
     Nothing,
 }
 
-// The read of the first level that is left and costs one. A block that waits or is nowhere has its own slot in none.
-fn first_read(c: Client, m: &[u8], q: usize) -> Due
+// ReadPartition(p*, blockid) of document 001 (Figure 6) for the levels that are left, where p* is q. A turn sends one read: that of the first of them that
+// costs one.
+fn read_partition(c: Client, m: &[u8], q: usize) -> Due
     requires { ⌜ Usable c (now m) × Reads c (now m) q ⌝ }
     ensures { λ r. ⌜ dueOf r ≡ firstRead q (slotRead (stateOf c (now (m .entry))) q (stateOf c (now (m .entry)) .place (c .request .block))) (keep (costs (stateOf c (now (m .entry))) q) (count (c .request .level) (c .shape .l - c .request .level))) ⌝ }
 {
+    // 1) the level where the block resides
+    let x = memory::tables::place(c.shape, m, c.request.block);
+    let found = reading::level_of(x);
+    // 2) the conditions of the levels
     let sources = reading::sources(c, m, q);
     let l = reading::next_level(c, m, q, sources);
     if l == c.shape.l {
         return Due::Nothing;
     }
-    let found = reading::slot(c, m, q, l, sources);
-    match found {
+    // 3) in the level that was found the real block, in any other a fake
+    let slot = reading::read_level(c, m, q, l, x, found, sources);
+    match slot {
         Found::At(i) => Due::Read(q, l, i),
         Found::Nothing => Due::NoDummy,
     }
@@ -62,7 +69,7 @@ fn request_step(c: Client, m: &[u8]) -> Due
         return Due::Nothing;
     }
     let q = memory::tables::partition(c.shape, m, r.block);
-    first_read(c, m, q)
+    read_partition(c, m, q)
 }
 
 // Whether a request that is no longer held is in hand for a block of partition q.

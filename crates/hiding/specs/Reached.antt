@@ -29,7 +29,7 @@ use Rattle.lists.specs.Tests.{if_then_else_}
 use Rattle.rules.specs.Laws.Range.{facts-range}
 use Rattle.rules.specs.Collect.{finished}
 use Rattle.rules.specs.Laws.Kept.{fresh-in}
-use Rattle.rules.specs.Request.{slotIn}
+use Rattle.rules.specs.Laws.Reader.{slotIn}
 use Rattle.rules.specs.Levels
 use Rattle.rules.specs.Laws.Decided.{decide-in}
 use Rattle.rules.specs.Turn.{readForRequest, rebuild, decide}

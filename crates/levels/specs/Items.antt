@@ -12,7 +12,7 @@ use Rattle.lists.specs.Tests.{if_then_else_}
 use Rattle.rules.specs.Shape.{slots, cell}
 use Rattle.rules.specs.State.{State}
 use Rattle.rules.specs.Blocks.{holder, isUnread}
-use Rattle.rules.specs.Request.{dummy, lowest}
+use Rattle.rules.specs.Reader.{dummy, lowest}
 use Rattle.memory.specs.Words.{wordAt, Numbers}
 use Rattle.memory.specs.Tables.{tablesOf}
 use Rattle.memory.specs.Fits.{shapeOf, fit, fit-lt}

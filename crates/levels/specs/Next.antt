@@ -1,10 +1,11 @@
 -- What the searches of levels find.
 use mathlib.Core.Path.{_≡_, refl, ap, sym, _∙_}
 use mathlib.Core.Bool.{Bool, true, false}
-use mathlib.Core.List.{[], _∷_}
+use mathlib.Core.List.{List, [], _∷_}
 use mathlib.Core.Option.{Option, none, some}
 use Prim.Native.Nat.{ℕ, zero, suc, _-_, _≤_, _<_}
 use native.Mathlib.Omega.{arith}
+use Rattle.lists.specs.All.{All, cons, keep-passes}
 use Rattle.lists.specs.Search.{keep, count, keep-yes, keep-no}
 use Rattle.levels.specs.declared.Spot.{Spot}
 use Rattle.levels.specs.declared.Spot.the-variants.{At, Nothing}
@@ -19,6 +20,13 @@ pub record NextLevel (p : ℕ → Bool) (levels from r : ℕ) : Type 0 where
   pub end : r ≤ levels
   pub some : r < levels → keep p (count from (levels - from)) ≡ r ∷ keep p (count (suc r) (levels - suc r))
   pub none : r ≡ levels → keep p (count from (levels - from)) ≡ []
+
+-- such a level passes
+pub next-passes : {p : ℕ → Bool} {levels from r : ℕ} → NextLevel p levels from r → r < levels → p r ≡ true
+next-passes {p} {levels} {from} n l = go (rw (n .some l) at (keep-passes p (count from (levels - from))))
+  where
+    go : {x : ℕ} {xs : List ℕ} → All (λ y. p y ≡ true) (x ∷ xs) → p x ≡ true
+    go (cons h t) = h
 
 -- tests that agree from there on find the same
 module _ (p q : ℕ → Bool) (from : ℕ) (h : (k : ℕ) → from ≤ k → p k ≡ q k) where

@@ -9,7 +9,7 @@ ghost use Rattle.lists.specs.Tests.{if_then_else_};
 ghost use Rattle.rules.specs.Shape.{slots, cell as cellOf};
 ghost use Rattle.rules.specs.Levels.{filled, sources as sourcesOf};
 ghost use Rattle.rules.specs.Blocks.{blocksIn, isUnread, readsOf};
-ghost use Rattle.rules.specs.Request.{dummy, lowest};
+ghost use Rattle.rules.specs.Reader.{dummy, lowest};
 ghost use Rattle.rules.specs.Rebuild.{unread as unreadOf};
 ghost use Rattle.rules.specs.Turn.{markRead};
 ghost use Rattle.memory.specs.Words.{wordAt};

@@ -4,7 +4,7 @@ use mathlib.Core.Logic.{_⊎_, inl, inr, ⊎-elim, ite}
 use mathlib.Core.Bool.{Bool, true, false, _||_, true≢false}
 use mathlib.Core.List.{List, [], _∷_, _++_, map}
 use mathlib.Core.Option.{none, some}
-use Prim.Native.Nat.{ℕ, zero, suc, _+_, _≤_, _<_}
+use Prim.Native.Nat.{ℕ, zero, suc, _+_, _-_, _≤_, _<_}
 use native.Mathlib.Omega.{arith}
 use lib.ListN.{length, getD}
 use native.Mathlib.Decide.{ℕ-discrete}
@@ -303,7 +303,7 @@ keep-same p g (x ∷ xs) h = go (p x) refl (keep-same p g xs (λ y m. h y (inr m
     go true e k = keep-yes p x xs e ∙ ap (λ l. x ∷ l) k ∙ sym (keep-yes g x xs (sym (h x (inl refl)) ∙ e))
     go false e k = keep-no p x xs e ∙ k ∙ sym (keep-no g x xs (sym (h x (inl refl)) ∙ e))
 
--- the first of the kept numbers; none is kept
+-- the first of the kept numbers
 pub keep-first : (p : ℕ → Bool) (a n x : ℕ) (xs : List ℕ) → keep p (count a n) ≡ x ∷ xs → (y : ℕ) → a ≤ y → y < x → p y ≡ false
 unfolding count
 keep-first p a zero x xs e y l m = absurd (let z : _≡_ {A = ℕ} 0 1 = unfold keep in (cc) in omega arith)
@@ -316,6 +316,24 @@ keep-first p a (suc n) x xs e y l m = go (p a) refl (ℕ-discrete y a) (λ k j. 
     go false f (yes d) k = rw d f
     go false f (no d) k = k (sym (keep-no p a (count (suc a) n) f) ∙ e) (omega arith)
 
+-- .. and those behind it
+pub keep-rest : (p : ℕ → Bool) (a n x : ℕ) (xs : List ℕ) → keep p (count a n) ≡ x ∷ xs → xs ≡ keep p (count (suc x) (a + n - suc x))
+unfolding count
+keep-rest p a zero x xs e = absurd (let z : _≡_ {A = ℕ} 0 1 = unfold keep in (cc) in omega arith)
+keep-rest p a (suc n) x xs e = go (p a) refl (keep-rest p (suc a) n x xs)
+  where
+    go : (t : Bool) → p a ≡ t → (keep p (count (suc a) n) ≡ x ∷ xs → xs ≡ keep p (count (suc x) (suc a + n - suc x))) → xs ≡ keep p (count (suc x) (a + suc n - suc x))
+    go true f k =
+        let w : a ∷ keep p (count (suc a) n) ≡ x ∷ xs = sym (keep-yes p a (count (suc a) n) f) ∙ e in
+        let y : a ≡ x = cc in
+        let z : xs ≡ keep p (count (suc a) n) = cc in
+        let m : n ≡ a + suc n - suc a = omega arith in
+        z ∙ ap (λ m. keep p (count (suc a) m)) m ∙ ap (λ b. keep p (count (suc b) (a + suc n - suc b))) y
+    go false f k =
+        let m : suc a + n - suc x ≡ a + suc n - suc x = omega arith in
+        k (sym (keep-no p a (count (suc a) n) f) ∙ e) ∙ ap (λ m. keep p (count (suc x) m)) m
+
+-- none is kept
 pub kept-none : (p : ℕ → Bool) (a n y : ℕ) → length (keep p (count a n)) ≡ 0 → a ≤ y → y < a + n → p y ≡ false
 unfolding count
 kept-none p a zero y e l m = absurd (omega arith)

@@ -22,6 +22,8 @@ use Rattle.rules.specs.Collect
 use Rattle.rules.specs.Laws.Levels.{levels-pos, sources-le}
 use Rattle.rules.specs.Laws.Range.{RequestIn}
 use Rattle.rules.specs.Levels.{filled, sources}
+use Rattle.rules.specs.Reader
+use Rattle.rules.specs.Laws.Reader.{slotIn, costs-is}
 use Rattle.rules.specs.Request
 use Rattle.rules.specs.Shape.{cell, slots, offset}
 use Rattle.rules.specs.State.{State, Command, stored, Request, cmd, read, Place, nowhere}
@@ -34,8 +36,8 @@ use Rattle.reachable.specs.Live.{passedBy, front-mem, counted, counted-o
 use Rattle.reachable.specs.Pending.{passed-none, passed-why}
 use Rattle.reachable.specs.Terms.{Elsewhere}
 
-pub slot-own : (ℓ i : ℕ) (x : Place) → Request.slotIn ℓ x ≡ some i → x ≡ stored ℓ i
-unfolding Request.slotIn
+pub slot-own : (ℓ i : ℕ) (x : Place) → slotIn ℓ x ≡ some i → x ≡ stored ℓ i
+unfolding slotIn
 slot-own ℓ i nowhere e = let z : _≡_ {A = ℕ} 0 1 = cc in absurd (omega arith)
 slot-own ℓ i (stored m j) e = go (eqb m ℓ) refl e
   where
@@ -43,8 +45,8 @@ slot-own ℓ i (stored m j) e = go (eqb m ℓ) refl e
     go true k e = let w : j ≡ i = cc in let v : m ≡ ℓ = eqb-true m ℓ k in rw (w, v)
     go false k e = let z : _≡_ {A = ℕ} 0 1 = cc in absurd (omega arith)
 
-pub own-slot : (ℓ i : ℕ) → Request.slotIn ℓ (stored ℓ i) ≡ none → ⊥
-unfolding Request.slotIn
+pub own-slot : (ℓ i : ℕ) → slotIn ℓ (stored ℓ i) ≡ none → ⊥
+unfolding slotIn
 own-slot ℓ i e = let e′ : some i ≡ none = rw (eq-eqb ℓ ℓ refl) at e in let z : _≡_ {A = ℕ} 0 1 = cc in omega arith
 
 pub named-zero : (n : ℕ) → Search.isNone (Blocks.named n) ≡ true → n ≡ 0
@@ -61,12 +63,12 @@ unfolding Blocks.isUnread
 read-mark s q ℓ i e = eqb-false (s .mark (cell (s .shape) q ℓ i)) 1 e
 
 -- no item is unread
-pub lowest-none : (s : State) (q ℓ : ℕ) → Request.lowest s q ℓ ≡ none → All (λ j. Blocks.isUnread s q ℓ j ≡ false) (map (λ j. s .order (cell (s .shape) q ℓ j)) (below (slots ℓ)))
-unfolding Request.lowest
+pub lowest-none : (s : State) (q ℓ : ℕ) → Reader.lowest s q ℓ ≡ none → All (λ j. Blocks.isUnread s q ℓ j ≡ false) (map (λ j. s .order (cell (s .shape) q ℓ j)) (below (slots ℓ)))
+unfolding Reader.lowest
 lowest-none s q ℓ e = All.find-none _ _ e
 
-pub dummy-free : (s : State) (q ℓ i : ℕ) → Request.dummy s q ℓ ≡ some i → (s .mark (cell (s .shape) q ℓ i) ≡ 1) × (s .holds (cell (s .shape) q ℓ i) ≡ 0)
-unfolding Request.dummy Blocks.isUnread Blocks.holder
+pub dummy-free : (s : State) (q ℓ i : ℕ) → Reader.dummy s q ℓ ≡ some i → (s .mark (cell (s .shape) q ℓ i) ≡ 1) × (s .holds (cell (s .shape) q ℓ i) ≡ 0)
+unfolding Reader.dummy Blocks.isUnread Blocks.holder
 dummy-free s q ℓ i e = go (find test slotsOf) e (All.find-passes test slotsOf)
   where
     test : ℕ → Bool
@@ -82,8 +84,8 @@ dummy-free s q ℓ i e = go (find test slotsOf) e (All.find-passes test slotsOf)
           named-zero (s .holds (cell (s .shape) q ℓ i)) (and-r (eqb (s .mark (cell (s .shape) q ℓ i)) 1) (Search.isNone (Blocks.named (s .holds (cell (s .shape) q ℓ i)))) h′),
         )
 
-pub lowest-unread : (s : State) (q ℓ i : ℕ) → Request.lowest s q ℓ ≡ some i → s .mark (cell (s .shape) q ℓ i) ≡ 1
-unfolding Request.lowest Blocks.isUnread
+pub lowest-unread : (s : State) (q ℓ i : ℕ) → Reader.lowest s q ℓ ≡ some i → s .mark (cell (s .shape) q ℓ i) ≡ 1
+unfolding Reader.lowest Blocks.isUnread
 lowest-unread s q ℓ i e = go (find test slotsOf) e (All.find-passes test slotsOf)
   where
     test : ℕ → Bool
@@ -134,11 +136,11 @@ module _ (s : State) (f : Reached s) where
           ⊎-elim (λ w. omega (arith, y .1, w)) (λ w. busy (released-calm r z w (rw (y .0) e))) (f .unheld r z)
 
   -- a filled level that costs nothing has been read throughout
-  pub costless-read : (q ℓ j : ℕ) → q < s .shape .P → ℓ < s .shape .L → j < slots ℓ → filled (s .counter q) ℓ ≡ true → Request.costs s q ℓ ≡ false → s .mark (cell (s .shape) q ℓ j) ≡ 0
+  pub costless-read : (q ℓ j : ℕ) → q < s .shape .P → ℓ < s .shape .L → j < slots ℓ → filled (s .counter q) ℓ ≡ true → Reader.costs s q ℓ ≡ false → s .mark (cell (s .shape) q ℓ j) ≡ 0
   costless-read q ℓ j hq hℓ hj full e = go (Blocks.isUnread s q ℓ j) refl
     where
       none : Search.any (Blocks.isUnread s q ℓ) (below (slots ℓ)) ≡ false
-      none = by (filled (s .counter q) ℓ) (not (Request.isSource s q ℓ)) (Search.any (Blocks.isUnread s q ℓ) (below (slots ℓ))) full (unfold Request.costs in e)
+      none = by (filled (s .counter q) ℓ) (not (Request.isSource s q ℓ)) (Search.any (Blocks.isUnread s q ℓ) (below (slots ℓ))) full (sym (costs-is s q ℓ) ∙ e)
         where
           by : (a b c : Bool) → a ≡ true → (a && (b || c)) ≡ false → c ≡ false
           by true true c w z = absurd (true≢false z)
@@ -152,8 +154,8 @@ module _ (s : State) (f : Reached s) where
           omega (arith, f .range .marks q ℓ j hq hℓ hj)
 
   -- A request that is not held and has no level left has read its block's slot, or the job has
-  pub behind-read : (r : Request) (ℓ i : ℕ) → s .request ≡ some r → Request.held r ≡ false → Request.levelsLeft s r ≡ [] → s .place (r .block) ≡ stored ℓ i → s .mark (cell (s .shape) (s .partition (r .block)) ℓ i) ≡ 0
-  unfolding Request.levelsLeft
+  pub behind-read : (r : Request) (ℓ i : ℕ) → s .request ≡ some r → Request.held r ≡ false → Reader.levelsLeft s r ≡ [] → s .place (r .block) ≡ stored ℓ i → s .mark (cell (s .shape) (s .partition (r .block)) ℓ i) ≡ 0
+  unfolding Reader.levelsLeft
   behind-read r ℓ i e u left p = go (decLt ℓ (r .level))
     where
       q : ℕ
@@ -171,16 +173,16 @@ module _ (s : State) (f : Reached s) where
       go : Dec (ℓ < r .level) → s .mark (cell (s .shape) q ℓ i) ≡ 0
       go (yes l) = f .fetched r ℓ i e p l
       go (no l) = costless-read q ℓ i (f .range .partitions (r .block) hb) (top .0) (top .1) full
-          (kept-none (Request.costs s q) (r .level) (s .shape .L - r .level) ℓ (ap length left) (omega arith) (omega (arith, top .0)))
+          (kept-none (Reader.costs s q) (r .level) (s .shape .L - r .level) ℓ (ap length left) (omega arith) (omega (arith, top .0)))
 
   -- A finished request: it is not held, has no level left, and its block's slot has been read, by it or for the job
   pub finished-unheld : (r : Request) → Collect.finished s r ≡ true → Request.held r ≡ false
   unfolding Collect.finished
-  finished-unheld r done = not-true (Request.held r) (and-l (not (Request.held r)) (eqb (length (Request.levelsLeft s r)) 0) (and-l (not (Request.held r) && eqb (length (Request.levelsLeft s r)) 0) _ done))
+  finished-unheld r done = not-true (Request.held r) (and-l (not (Request.held r)) (eqb (length (Reader.levelsLeft s r)) 0) (and-l (not (Request.held r) && eqb (length (Reader.levelsLeft s r)) 0) _ done))
 
-  finished-left : (r : Request) → Collect.finished s r ≡ true → Request.levelsLeft s r ≡ []
+  pub finished-left : (r : Request) → Collect.finished s r ≡ true → Reader.levelsLeft s r ≡ []
   unfolding Collect.finished
-  finished-left r done = nil-of (Request.levelsLeft s r) (eqb-true (length (Request.levelsLeft s r)) 0 (and-r (not (Request.held r)) (eqb (length (Request.levelsLeft s r)) 0) (and-l (not (Request.held r) && eqb (length (Request.levelsLeft s r)) 0) _ done)))
+  finished-left r done = nil-of (Reader.levelsLeft s r) (eqb-true (length (Reader.levelsLeft s r)) 0 (and-r (not (Request.held r)) (eqb (length (Reader.levelsLeft s r)) 0) (and-l (not (Request.held r) && eqb (length (Reader.levelsLeft s r)) 0) _ done)))
     where
       nil-of : (l : List ℕ) → length l ≡ 0 → l ≡ []
       nil-of [] e = refl
@@ -196,7 +198,7 @@ module _ (s : State) (f : Reached s) where
     where
       awaited : All (Aside s r) (take (r .awaits) (s .outstanding))
       awaited = all-map (λ (c : Command) k w. absurd (eqb-false (c .partition) (s .partition (r .block)) k w)) (any-none _ (take (r .awaits) (s .outstanding)) (not-true (any (λ (c : Command). eqb (c .partition) (s .partition (r .block))) (take (r .awaits) (s .outstanding)))
-          (and-r (not (Request.held r) && eqb (length (Request.levelsLeft s r)) 0) (not (any (λ (c : Command). eqb (c .partition) (s .partition (r .block))) (take (r .awaits) (s .outstanding)))) done)))
+          (and-r (not (Request.held r) && eqb (length (Reader.levelsLeft s r)) 0) (not (any (λ (c : Command). eqb (c .partition) (s .partition (r .block))) (take (r .awaits) (s .outstanding)))) done)))
 
   -- When an order is drawn, every slot of the sources is read
   pub sources-read : (q t : ℕ) → Rebuilds s q t → (ℓ i : ℕ) → ℓ < sources (s .shape) (s .counter q) → i < slots ℓ → s .mark (cell (s .shape) q ℓ i) ≡ 0

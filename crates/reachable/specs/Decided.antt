@@ -18,6 +18,8 @@ use Rattle.rules.specs.Laws.Decided.{places-in}
 use Rattle.rules.specs.Levels.{filled, sources, target}
 use Rattle.rules.specs.Rebuild
 use Rattle.rules.specs.Rebuild.{places}
+use Rattle.rules.specs.Reader
+use Rattle.rules.specs.Laws.Reader.{slotIn, ifUnread, slotSaid, costs-is, slotRead-is}
 use Rattle.rules.specs.Request
 use Rattle.rules.specs.Shape.{offset, slots}
 use Rattle.rules.specs.State.{State, Command, Request, stored}
@@ -33,58 +35,56 @@ pub record Lacks (s : State) : Type 0 where
   pub unheld : Request.held asked ≡ false
   pub left : asked .level ≤ level
   pub top : level < s .shape .L
-  pub cost : Request.costs s (s .partition (asked .block)) level ≡ true
-  pub none : Request.slotRead s (s .partition (asked .block)) (s .place (asked .block)) level ≡ nothing
+  pub cost : Reader.costs s (s .partition (asked .block)) level ≡ true
+  pub none : Reader.slotRead s (s .partition (asked .block)) (s .place (asked .block)) level ≡ nothing
 
 -- the slot that a request for block b reads of level ℓ of q: its block's, which in a source is unread; else in no source the lowest dummy's; and in
 -- a source, where its block is not unread, the lowest item's
 abbrev pub OwnSlot : State → ℕ → ℕ → ℕ → ℕ → Type 0
-OwnSlot s b q ℓ i = (Request.slotIn ℓ (s .place b) ≡ some i) × ((Request.isSource s q ℓ ≡ false) ⊎ (Blocks.isUnread s q ℓ i ≡ true))
+OwnSlot s b q ℓ i = (slotIn ℓ (s .place b) ≡ some i) × ((Request.isSource s q ℓ ≡ false) ⊎ (Blocks.isUnread s q ℓ i ≡ true))
 
 abbrev pub DummySlot : State → ℕ → ℕ → ℕ → ℕ → Type 0
-DummySlot s b q ℓ i = (Request.isSource s q ℓ ≡ false) × (Request.slotIn ℓ (s .place b) ≡ none) × (Request.dummy s q ℓ ≡ some i)
+DummySlot s b q ℓ i = (Request.isSource s q ℓ ≡ false) × (slotIn ℓ (s .place b) ≡ none) × (Reader.dummy s q ℓ ≡ some i)
 
 abbrev pub ItemSlot : State → ℕ → ℕ → ℕ → ℕ → Type 0
-ItemSlot s b q ℓ i = (Request.isSource s q ℓ ≡ true) × (Request.ifUnread (Blocks.isUnread s q ℓ) (Request.slotIn ℓ (s .place b)) ≡ none) × (Request.lowest s q ℓ ≡ some i)
+ItemSlot s b q ℓ i = (Request.isSource s q ℓ ≡ true) × (ifUnread (Blocks.isUnread s q ℓ) (slotIn ℓ (s .place b)) ≡ none) × (Reader.lowest s q ℓ ≡ some i)
 
 -- the block's slot if its place is there; in a source, if the block is there unread
-pub slot-here : (ℓ i : ℕ) → Request.slotIn ℓ (stored ℓ i) ≡ some i
-unfolding Request.slotIn
+pub slot-here : (ℓ i : ℕ) → slotIn ℓ (stored ℓ i) ≡ some i
+unfolding slotIn
 slot-here ℓ i = rw (eq-eqb ℓ ℓ refl)
 
-pub if-unread : (p : ℕ → Bool) (i : ℕ) → p i ≡ true → Request.ifUnread p (some i) ≡ some i
-unfolding Request.ifUnread
+pub if-unread : (p : ℕ → Bool) (i : ℕ) → p i ≡ true → ifUnread p (some i) ≡ some i
+unfolding ifUnread
 if-unread p i e = rw e
 
-pub costs-filled : (s : State) (q ℓ : ℕ) → Request.costs s q ℓ ≡ true → filled (s .counter q) ℓ ≡ true
-unfolding Request.costs
-costs-filled s q ℓ e = and-l (filled (s .counter q) ℓ) (not (Request.isSource s q ℓ) || Search.any (Blocks.isUnread s q ℓ) (Search.below (slots ℓ))) e
+pub costs-filled : (s : State) (q ℓ : ℕ) → Reader.costs s q ℓ ≡ true → filled (s .counter q) ℓ ≡ true
+costs-filled s q ℓ e = and-l (filled (s .counter q) ℓ) (not (Request.isSource s q ℓ) || Search.any (Blocks.isUnread s q ℓ) (Search.below (slots ℓ))) (sym (costs-is s q ℓ) ∙ e)
 
-slot-cases : (s : State) (b q ℓ i : ℕ) → Request.slotRead s q (s .place b) ℓ ≡ some i → OwnSlot s b q ℓ i ⊎ (DummySlot s b q ℓ i ⊎ ItemSlot s b q ℓ i)
-unfolding Request.slotRead
-slot-cases s b q ℓ i e = go (Request.isSource s q ℓ) refl e
+slot-cases : (s : State) (b q ℓ i : ℕ) → Reader.slotRead s q (s .place b) ℓ ≡ some i → OwnSlot s b q ℓ i ⊎ (DummySlot s b q ℓ i ⊎ ItemSlot s b q ℓ i)
+slot-cases s b q ℓ i e = go (Reader.costs s q ℓ) (Request.isSource s q ℓ) refl (sym (slotRead-is s q (s .place b) ℓ) ∙ e)
   where
-    other : Request.isSource s q ℓ ≡ false → (a c : Option ℕ) → Request.slotIn ℓ (s .place b) ≡ a → Request.dummy s q ℓ ≡ c → orElse a c ≡ some i → OwnSlot s b q ℓ i ⊎ (DummySlot s b q ℓ i ⊎ ItemSlot s b q ℓ i)
+    other : Request.isSource s q ℓ ≡ false → (a c : Option ℕ) → slotIn ℓ (s .place b) ≡ a → Reader.dummy s q ℓ ≡ c → orElse a c ≡ some i → OwnSlot s b q ℓ i ⊎ (DummySlot s b q ℓ i ⊎ ItemSlot s b q ℓ i)
     other u none c ea ec w = inr (inl (u, ea, ec ∙ unfold orElse in w))
     other u (some j) c ea ec w = inl (ea ∙ unfold orElse in w, inl u)
 
-    source : Request.isSource s q ℓ ≡ true → (a c : Option ℕ) → Request.ifUnread (Blocks.isUnread s q ℓ) (Request.slotIn ℓ (s .place b)) ≡ a → Request.lowest s q ℓ ≡ c → orElse a c ≡ some i → OwnSlot s b q ℓ i ⊎ (DummySlot s b q ℓ i ⊎ ItemSlot s b q ℓ i)
+    source : Request.isSource s q ℓ ≡ true → (a c : Option ℕ) → ifUnread (Blocks.isUnread s q ℓ) (slotIn ℓ (s .place b)) ≡ a → Reader.lowest s q ℓ ≡ c → orElse a c ≡ some i → OwnSlot s b q ℓ i ⊎ (DummySlot s b q ℓ i ⊎ ItemSlot s b q ℓ i)
     source u none c ea ec w = inr (inr (u, ea, ec ∙ unfold orElse in w))
-    source u (some j) c ea ec w = own (Request.slotIn ℓ (s .place b)) refl (ea ∙ unfold orElse in w)
+    source u (some j) c ea ec w = own (slotIn ℓ (s .place b)) refl (ea ∙ unfold orElse in w)
       where
-        own : (o : Option ℕ) → Request.slotIn ℓ (s .place b) ≡ o → Request.ifUnread (Blocks.isUnread s q ℓ) o ≡ some i → OwnSlot s b q ℓ i ⊎ (DummySlot s b q ℓ i ⊎ ItemSlot s b q ℓ i)
-        own none eo w = let z : _≡_ {A = ℕ} 0 1 = unfold Request.ifUnread in (cc) in absurd (omega arith)
-        own (some k) eo w = by (Blocks.isUnread s q ℓ k) refl (unfold Request.ifUnread in w)
+        own : (o : Option ℕ) → slotIn ℓ (s .place b) ≡ o → ifUnread (Blocks.isUnread s q ℓ) o ≡ some i → OwnSlot s b q ℓ i ⊎ (DummySlot s b q ℓ i ⊎ ItemSlot s b q ℓ i)
+        own none eo w = let z : _≡_ {A = ℕ} 0 1 = unfold ifUnread in (cc) in absurd (omega arith)
+        own (some k) eo w = by (Blocks.isUnread s q ℓ k) refl (unfold ifUnread in w)
           where
             by : (t : Bool) → Blocks.isUnread s q ℓ k ≡ t → (if t then some k else none) ≡ some i → OwnSlot s b q ℓ i ⊎ (DummySlot s b q ℓ i ⊎ ItemSlot s b q ℓ i)
             by true v w = let x : k ≡ i = cc in inl (eo ∙ w, inr (rw (← x) v))
             by false v w = let z : _≡_ {A = ℕ} 0 1 = cc in absurd (omega arith)
 
-    go : (t : Bool) → Request.isSource s q ℓ ≡ t
-        → (if t then orElse (Request.ifUnread (Blocks.isUnread s q ℓ) (Request.slotIn ℓ (s .place b))) (Request.lowest s q ℓ) else orElse (Request.slotIn ℓ (s .place b)) (Request.dummy s q ℓ)) ≡ some i
+    go : (k t : Bool) → Request.isSource s q ℓ ≡ t → (if k then slotSaid t (Blocks.isUnread s q ℓ) (Reader.dummy s q ℓ) (Reader.lowest s q ℓ) (s .place b) ℓ else none) ≡ some i
         → OwnSlot s b q ℓ i ⊎ (DummySlot s b q ℓ i ⊎ ItemSlot s b q ℓ i)
-    go true u e = source u (Request.ifUnread (Blocks.isUnread s q ℓ) (Request.slotIn ℓ (s .place b))) (Request.lowest s q ℓ) refl refl e
-    go false u e = other u (Request.slotIn ℓ (s .place b)) (Request.dummy s q ℓ) refl refl e
+    go false t u e = let z : _≡_ {A = ℕ} 0 1 = cc in absurd (omega arith)
+    go true true u e = source u (ifUnread (Blocks.isUnread s q ℓ) (slotIn ℓ (s .place b))) (Reader.lowest s q ℓ) refl refl (unfold slotSaid in e)
+    go true false u e = other u (slotIn ℓ (s .place b)) (Reader.dummy s q ℓ) refl refl (unfold slotSaid in e)
 
 -- a request's read
 pub record RequestReads (s : State) (q ℓ i : ℕ) : Type 0 where
@@ -95,12 +95,12 @@ pub record RequestReads (s : State) (q ℓ i : ℕ) : Type 0 where
   pub left : asked .level ≤ ℓ
   pub top : ℓ < s .shape .L
   pub full : filled (s .counter q) ℓ ≡ true
-  pub first : (m : ℕ) → asked .level ≤ m → m < ℓ → Request.costs s q m ≡ false
+  pub first : (m : ℕ) → asked .level ≤ m → m < ℓ → Reader.costs s q m ≡ false
   pub slot : OwnSlot s (asked .block) q ℓ i ⊎ (DummySlot s (asked .block) q ℓ i ⊎ ItemSlot s (asked .block) q ℓ i)
 
 -- a request that is not held has no level left
 abbrev pub Behind : State → Type 0
-Behind s = (r : Request) → s .request ≡ some r → Request.held r ≡ false → Request.levelsLeft s r ≡ []
+Behind s = (r : Request) → s .request ≡ some r → Request.held r ≡ false → Reader.levelsLeft s r ≡ []
 
 -- a job's read
 pub record JobReads (s : State) (q ℓ i : ℕ) : Type 0 where
@@ -141,8 +141,8 @@ Decided s (rebuild q t) = Rebuilds s q t
 Decided s (writeNext q t i) = Writes s q t i
 
 module _ (s : State) where
-  levels-left : (r : Request) → All (λ ℓ. (r .level ≤ ℓ) × (ℓ < s .shape .L) × (Request.costs s (s .partition (r .block)) ℓ ≡ true)) (Request.levelsLeft s r)
-  unfolding Request.levelsLeft
+  pub levels-left : (r : Request) → All (λ ℓ. (r .level ≤ ℓ) × (ℓ < s .shape .L) × (Reader.costs s (s .partition (r .block)) ℓ ≡ true)) (Reader.levelsLeft s r)
+  unfolding Reader.levelsLeft
   levels-left r = all-map (λ x k. (k .0 .0, omega (arith, k .0 .0, k .0 .1), k .1))
       (all-both (all-keep _ (all-both (count-from (r .level) (s .shape .L - r .level)) (count-below (r .level) (s .shape .L - r .level)))) (keep-passes _ _))
 
@@ -154,27 +154,27 @@ module _ (s : State) where
       q : ℕ
       q = s .partition (r .block)
 
-      slot : (ℓ : ℕ) → Request.held r ≡ false → ((m : ℕ) → r .level ≤ m → m < ℓ → Request.costs s q m ≡ false) → (r .level ≤ ℓ) × (ℓ < s .shape .L) × (Request.costs s q ℓ ≡ true) → (a : Option ℕ) → Request.slotRead s q (s .place (r .block)) ℓ ≡ a
+      slot : (ℓ : ℕ) → Request.held r ≡ false → ((m : ℕ) → r .level ≤ m → m < ℓ → Reader.costs s q m ≡ false) → (r .level ≤ ℓ) × (ℓ < s .shape .L) × (Reader.costs s q ℓ ≡ true) → (a : Option ℕ) → Reader.slotRead s q (s .place (r .block)) ℓ ≡ a
           → Decided s (Turn.readStep q ℓ a)
       slot ℓ u v k none ea = record { asked = r; level = ℓ; inHand = e; unheld = u; left = k .0; top = k .1; cost = k .2; none = ea }
       slot ℓ u v k (some i) ea = record { asked = r; inHand = e; part = refl; unheld = u; left = k .0; top = k .1; full = costs-filled s q ℓ (k .2); first = v; slot = slot-cases s (r .block) q ℓ i ea }
 
-      first : (ls : List ℕ) → Request.levelsLeft s r ≡ ls → Request.held r ≡ false → All (λ ℓ. (r .level ≤ ℓ) × (ℓ < s .shape .L) × (Request.costs s q ℓ ≡ true)) ls
-          → IfSome (Decided s) (Turn.firstRead q (Request.slotRead s q (s .place (r .block))) ls)
+      first : (ls : List ℕ) → Reader.levelsLeft s r ≡ ls → Request.held r ≡ false → All (λ ℓ. (r .level ≤ ℓ) × (ℓ < s .shape .L) × (Reader.costs s q ℓ ≡ true)) ls
+          → IfSome (Decided s) (Turn.firstRead q (Reader.slotRead s q (s .place (r .block))) ls)
       first [] e u nil = tt
-      first (ℓ ∷ ls) e u (cons k t) = slot ℓ u (λ m a b. unfold Request.levelsLeft in (keep-first (Request.costs s q) (r .level) (s .shape .L - r .level) ℓ ls e m a b)) k (Request.slotRead s q (s .place (r .block)) ℓ) refl
+      first (ℓ ∷ ls) e u (cons k t) = slot ℓ u (λ m a b. unfold Reader.levelsLeft in (keep-first (Reader.costs s q) (r .level) (s .shape .L - r .level) ℓ ls e m a b)) k (Reader.slotRead s q (s .place (r .block)) ℓ) refl
 
-      go : (t : Bool) → Request.held r ≡ t → IfSome (Decided s) (if t then none else Turn.firstRead q (Request.slotRead s q (s .place (r .block))) (Request.levelsLeft s r))
+      go : (t : Bool) → Request.held r ≡ t → IfSome (Decided s) (if t then none else Turn.firstRead q (Reader.slotRead s q (s .place (r .block))) (Reader.levelsLeft s r))
       go true u = tt
-      go false u = first (Request.levelsLeft s r) refl u (levels-left r)
+      go false u = first (Reader.levelsLeft s r) refl u (levels-left r)
 
   -- where the request has no step, a request that is not held has no level left
   step-behind : (o : Option Request) → s .request ≡ o → Turn.requestStep s o ≡ none → Behind s
   unfolding Turn.requestStep Turn.firstRead
   step-behind none e w r k u = let z : _≡_ {A = ℕ} 0 1 = cc in absurd (omega arith)
-  step-behind (some x) e w r k u = let v : x ≡ r = cc in rw (← v) (go (Request.held x) (Request.levelsLeft s x) (ap Request.held v ∙ u) w)
+  step-behind (some x) e w r k u = let v : x ≡ r = cc in rw (← v) (go (Request.held x) (Reader.levelsLeft s x) (ap Request.held v ∙ u) w)
     where
-      go : (t : Bool) (ls : List ℕ) → t ≡ false → (if t then none else Turn.firstRead (s .partition (x .block)) (Request.slotRead s (s .partition (x .block)) (s .place (x .block))) ls) ≡ none → ls ≡ []
+      go : (t : Bool) (ls : List ℕ) → t ≡ false → (if t then none else Turn.firstRead (s .partition (x .block)) (Reader.slotRead s (s .partition (x .block)) (s .place (x .block))) ls) ≡ none → ls ≡ []
       go true ls f w = absurd (true≢false f)
       go false [] f w = refl
       go false (ℓ ∷ ls) f w = let z : _≡_ {A = ℕ} 0 1 = cc in absurd (omega arith)

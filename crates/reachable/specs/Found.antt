@@ -20,6 +20,8 @@ use Rattle.rules.specs.Laws.Layout.{offset-in}
 use Rattle.rules.specs.Levels.{filled, sources}
 use Rattle.rules.specs.Questions.{Ask, opening, request, turn, completion, collect, save, load, Call, number}
 use Rattle.rules.specs.Rebuild.{places, unread}
+use Rattle.rules.specs.Reader
+use Rattle.rules.specs.Laws.Reader.{slotIn, ifUnread}
 use Rattle.rules.specs.Request
 use Rattle.rules.specs.Run
 use Rattle.rules.specs.Run.{step}
@@ -62,7 +64,7 @@ module _ (s : State) (f : Reached s) where
       go (yes k) = over-read q (d .rest) (d .front) (d .calm) m j (before l .0) hj k
       go (no k) = d .next m j (before l .0) hj (omega arith) (before l .1)
 
-  pub lowest-dummy : (q ℓ i : ℕ) → RequestReads s q ℓ i → Request.isSource s q ℓ ≡ false → (r : Request) → s .request ≡ some r → Request.slotIn ℓ (s .place (r .block)) ≡ none
+  pub lowest-dummy : (q ℓ i : ℕ) → RequestReads s q ℓ i → Request.isSource s q ℓ ≡ false → (r : Request) → s .request ≡ some r → slotIn ℓ (s .place (r .block)) ≡ none
       → (n : ℕ) × (Numbered (s .shape) (s .order) (s .mark) (s .holds) q ℓ n × LowestUnread (s .shape) (s .order) (s .mark) q ℓ n i)
   lowest-dummy q ℓ i d o r e u = (
     n .0,
@@ -91,11 +93,11 @@ module _ (s : State) (f : Reached s) where
       test : ℕ → Bool
       test j = Blocks.isUnread s q ℓ j && isNone (Blocks.holder s q ℓ j)
 
-      is-dummy : Request.dummy s q ℓ ≡ some i
-      is-dummy = ⊎-elim (λ z. let w : r ≡ d .asked = cc (e, d .inHand) in absurd (let v : none ≡ some i = sym u ∙ ap (λ (y : Request). Request.slotIn ℓ (s .place (y .block))) w ∙ z .0 in let y : _≡_ {A = ℕ} 0 1 = cc in omega arith)) (⊎-elim (λ z. z .2) (λ z. absurd (true≢false (sym (z .0) ∙ o)))) (d .slot)
+      is-dummy : Reader.dummy s q ℓ ≡ some i
+      is-dummy = ⊎-elim (λ z. let w : r ≡ d .asked = cc (e, d .inHand) in absurd (let v : none ≡ some i = sym u ∙ ap (λ (y : Request). slotIn ℓ (s .place (y .block))) w ∙ z .0 in let y : _≡_ {A = ℕ} 0 1 = cc in omega arith)) (⊎-elim (λ z. z .2) (λ z. absurd (true≢false (sym (z .0) ∙ o)))) (d .slot)
 
       x : (k : ℕ) × ((0 ≤ k) × (k < 0 + slots ℓ) × (order k ≡ i) × (test (order k) ≡ true) × ((j : ℕ) → 0 ≤ j → j < k → test (order j) ≡ false))
-      x = find-first order test 0 (slots ℓ) i (unfold Request.dummy below in is-dummy)
+      x = find-first order test 0 (slots ℓ) i (unfold Reader.dummy below in is-dummy)
 
       k : ℕ
       k = x .0
@@ -120,7 +122,7 @@ module _ (s : State) (f : Reached s) where
           let y : s .mark (cell (s .shape) q ℓ (order j)) ≡ 1 → ⊥ = λ w. true≢false (sym (free-is (order j) w z) ∙ t) in
           omega (arith, f .range .marks q ℓ (order j) hq (d .top) (f .range .orders q ℓ j hq (d .top) (omega arith)))
 
-  pub lowest-item : (q ℓ i : ℕ) → RequestReads s q ℓ i → Request.isSource s q ℓ ≡ true → (r : Request) → s .request ≡ some r → Request.ifUnread (Blocks.isUnread s q ℓ) (Request.slotIn ℓ (s .place (r .block))) ≡ none
+  pub lowest-item : (q ℓ i : ℕ) → RequestReads s q ℓ i → Request.isSource s q ℓ ≡ true → (r : Request) → s .request ≡ some r → ifUnread (Blocks.isUnread s q ℓ) (slotIn ℓ (s .place (r .block))) ≡ none
       → LowestUnread (s .shape) (s .order) (s .mark) q ℓ 0 i
   lowest-item q ℓ i d o r e u = record {
     item = x .0;
@@ -140,19 +142,19 @@ module _ (s : State) (f : Reached s) where
       same : r ≡ d .asked
       same = cc (e, d .inHand)
 
-      is-lowest : OwnSlot s (d .asked .block) q ℓ i ⊎ (DummySlot s (d .asked .block) q ℓ i ⊎ ItemSlot s (d .asked .block) q ℓ i) → Request.lowest s q ℓ ≡ some i
+      is-lowest : OwnSlot s (d .asked .block) q ℓ i ⊎ (DummySlot s (d .asked .block) q ℓ i ⊎ ItemSlot s (d .asked .block) q ℓ i) → Reader.lowest s q ℓ ≡ some i
       is-lowest (inl z) = absurd (⊎-elim (λ w. true≢false (sym o ∙ w)) (λ w. own-unread z w) (z .1))
         where
           own-unread : OwnSlot s (d .asked .block) q ℓ i → Blocks.isUnread s q ℓ i ≡ true → ⊥
           own-unread z w =
-              let v : Request.ifUnread (Blocks.isUnread s q ℓ) (some i) ≡ none = ap (Request.ifUnread (Blocks.isUnread s q ℓ)) (sym (z .0)) ∙ ap (λ (y : Request). Request.ifUnread (Blocks.isUnread s q ℓ) (Request.slotIn ℓ (s .place (y .block)))) (sym same) ∙ u in
+              let v : ifUnread (Blocks.isUnread s q ℓ) (some i) ≡ none = ap (ifUnread (Blocks.isUnread s q ℓ)) (sym (z .0)) ∙ ap (λ (y : Request). ifUnread (Blocks.isUnread s q ℓ) (slotIn ℓ (s .place (y .block)))) (sym same) ∙ u in
               let v′ : some i ≡ none = sym (if-unread (Blocks.isUnread s q ℓ) i w) ∙ v in
               let y : _≡_ {A = ℕ} 0 1 = cc in omega arith
       is-lowest (inr (inl z)) = absurd (true≢false (sym o ∙ z .0))
       is-lowest (inr (inr z)) = z .2
 
       x : (k : ℕ) × ((0 ≤ k) × (k < 0 + slots ℓ) × (order k ≡ i) × (Blocks.isUnread s q ℓ (order k) ≡ true) × ((j : ℕ) → 0 ≤ j → j < k → Blocks.isUnread s q ℓ (order j) ≡ false))
-      x = find-first order (Blocks.isUnread s q ℓ) 0 (slots ℓ) i (unfold Request.lowest below in (is-lowest (d .slot)))
+      x = find-first order (Blocks.isUnread s q ℓ) 0 (slots ℓ) i (unfold Reader.lowest below in (is-lowest (d .slot)))
 
       passed : (j : ℕ) → j < x .0 → x .0 < slots ℓ → s .mark (cell (s .shape) q ℓ (order j)) ≡ 0
       passed j m hk =
@@ -194,13 +196,13 @@ sent-turn s k q ℓ i e = go (eqb (number s k) 0) refl
     go false z = absurd (no-read (unfold Run.refused in (rw (step-refused s k (eqb-false (number s k) 0 z)) at e)))
 
 -- a request that isn't held and has a level left is read for
-pub request-decides : (s : State) (r : Request) → s .request ≡ some r → Request.held r ≡ false → (ℓ : ℕ) (ls : List ℕ) → Request.levelsLeft s r ≡ ℓ ∷ ls
-    → decide s ≡ Turn.readStep (s .partition (r .block)) ℓ (Request.slotRead s (s .partition (r .block)) (s .place (r .block)) ℓ)
+pub request-decides : (s : State) (r : Request) → s .request ≡ some r → Request.held r ≡ false → (ℓ : ℕ) (ls : List ℕ) → Reader.levelsLeft s r ≡ ℓ ∷ ls
+    → decide s ≡ Turn.readStep (s .partition (r .block)) ℓ (Reader.slotRead s (s .partition (r .block)) (s .place (r .block)) ℓ)
 unfolding decide Turn.requestStep Turn.firstRead
 request-decides s r e u ℓ ls v =
     ap (λ o. Option·getD (Turn.requestStep s o) (Turn.jobStep s (s .queue))) e
-    ∙ ap (λ t. Option·getD (if t then none else Turn.firstRead q (Request.slotRead s q (s .place (r .block))) (Request.levelsLeft s r)) (Turn.jobStep s (s .queue))) u
-    ∙ ap (λ l. Option·getD (Turn.firstRead q (Request.slotRead s q (s .place (r .block))) l) (Turn.jobStep s (s .queue))) v
+    ∙ ap (λ t. Option·getD (if t then none else Turn.firstRead q (Reader.slotRead s q (s .place (r .block))) (Reader.levelsLeft s r)) (Turn.jobStep s (s .queue))) u
+    ∙ ap (λ l. Option·getD (Turn.firstRead q (Reader.slotRead s q (s .place (r .block))) l) (Turn.jobStep s (s .queue))) v
   where
     q : ℕ
     q = s .partition (r .block)

@@ -16,7 +16,7 @@ use Rattle.lists.specs.Distinct.{Mem}
 use Rattle.lists.specs.Members.{all-mem, below-mem, decMem, nodup-le, nodup-sub, mem-member, map-mem, append-right, member-append}
 use Rattle.lists.specs.Search
 use Rattle.lists.specs.Search.{below, member}
-use Rattle.lists.specs.Tests.{if_then_else_, and-l, and-r, and-true, or-left, or-right}
+use Rattle.lists.specs.Tests.{and-l, and-r, and-true, or-left, or-right}
 use Rattle.lists.specs.Totals.{total-gap}
 use Rattle.rules.specs.Blocks
 use Rattle.rules.specs.Laws.Levels.{sources-le}
@@ -25,6 +25,8 @@ use Rattle.rules.specs.Questions
 use Rattle.rules.specs.Questions.{request, turn, possible, questions, firstNo}
 use Rattle.rules.specs.Ranges.{isKind}
 use Rattle.rules.specs.Rebuild.{gathered, chosen}
+use Rattle.rules.specs.Reader
+use Rattle.rules.specs.Laws.Reader.{slotIn, ifUnread, slotSaid, costs-is, slotRead-is}
 use Rattle.rules.specs.Request
 use Rattle.rules.specs.Shape.{cell, slots}
 use Rattle.rules.specs.State.{State, stored, Request}
@@ -55,8 +57,8 @@ else-none (some x) b e = let z : _≡_ {A = ℕ} 0 1 = cc in absurd (omega arith
 
 -- A request always finds a slot to read: in a source that costs, an unread item; in another level an unread dummy
 never-lacks : (s : State) → Reached s → Lacks s → ⊥
-unfolding readsOf holdsOf
-never-lacks s f k = go (Request.isSource s q ℓ) refl (unfold Request.slotRead in (k .none))
+unfolding readsOf holdsOf slotSaid
+never-lacks s f k = go (Request.isSource s q ℓ) refl (rw (k .cost) at (sym (slotRead-is s q (s .place (r .block)) ℓ) ∙ k .none))
   where
     r : Request
     r = k .asked
@@ -82,9 +84,9 @@ never-lacks s f k = go (Request.isSource s q ℓ) refl (unfold Request.slotRead 
         let o = f .orders .each q ℓ i hq (k .top) live hi in
         rw (o .1 .1) at (map-mem (λ j. s .order (cell (s .shape) q ℓ j)) (o .0) (below (slots ℓ)) (below-mem (slots ℓ) (o .0) (o .1 .0)))
 
-    found : Request.dummy s q ℓ ≡ none → (i : ℕ) → i < slots ℓ → s .mark (cell (s .shape) q ℓ i) ≡ 1 → taken (s .holds (cell (s .shape) q ℓ i)) ≡ 0 → ⊥
+    found : Reader.dummy s q ℓ ≡ none → (i : ℕ) → i < slots ℓ → s .mark (cell (s .shape) q ℓ i) ≡ 1 → taken (s .holds (cell (s .shape) q ℓ i)) ≡ 0 → ⊥
     found n i hi hm ht =
-        let a : All (λ j. (Blocks.isUnread s q ℓ j && Search.isNone (Blocks.holder s q ℓ j)) ≡ false) (map (λ j. s .order (cell (s .shape) q ℓ j)) (below (slots ℓ))) = unfold Request.dummy in (find-none _ _ n) in
+        let a : All (λ j. (Blocks.isUnread s q ℓ j && Search.isNone (Blocks.holder s q ℓ j)) ≡ false) (map (λ j. s .order (cell (s .shape) q ℓ j)) (below (slots ℓ))) = unfold Reader.dummy in (find-none _ _ n) in
         let yes-i : (Blocks.isUnread s q ℓ i && Search.isNone (Blocks.holder s q ℓ i)) ≡ true = unfold Blocks.isUnread Blocks.holder in (and-true (eq-eqb _ 1 hm) (named-none _ (taken-none _ ht))) in
         true≢false (sym yes-i ∙ all-mem a i (item i hi))
 
@@ -92,22 +94,22 @@ never-lacks s f k = go (Request.isSource s q ℓ) refl (unfold Request.slotRead 
     few u = f .unworn r (k .inHand) (k .unheld) ℓ (k .left) (k .top) full (λ g. true≢false (sym (gathers-source s q ℓ g) ∙ u))
 
     go : (t : Bool) → Request.isSource s q ℓ ≡ t
-        → (if t then Search.orElse (Request.ifUnread (Blocks.isUnread s q ℓ) (Request.slotIn ℓ (s .place (r .block)))) (Request.lowest s q ℓ) else Search.orElse (Request.slotIn ℓ (s .place (r .block))) (Request.dummy s q ℓ)) ≡ none → ⊥
+        → slotSaid t (Blocks.isUnread s q ℓ) (Reader.dummy s q ℓ) (Reader.lowest s q ℓ) (s .place (r .block)) ℓ ≡ none → ⊥
     go true u e =
-        let n : Request.lowest s q ℓ ≡ none = else-none (Request.ifUnread (Blocks.isUnread s q ℓ) (Request.slotIn ℓ (s .place (r .block)))) (Request.lowest s q ℓ) e in
+        let n : Reader.lowest s q ℓ ≡ none = else-none (ifUnread (Blocks.isUnread s q ℓ) (slotIn ℓ (s .place (r .block)))) (Reader.lowest s q ℓ) e in
         let a : All (λ j. Blocks.isUnread s q ℓ j ≡ false) (map (λ j. s .order (cell (s .shape) q ℓ j)) (below (slots ℓ))) = lowest-none s q ℓ n in
         let some-open : Search.any (Blocks.isUnread s q ℓ) (below (slots ℓ)) ≡ true = cost-open u in
         let x = any-all (Blocks.isUnread s q ℓ) (below-below (slots ℓ)) some-open in
         true≢false (sym (x .1 .0) ∙ all-mem a (x .0) (item (x .0) (x .1 .1)))
       where
         cost-open : Request.isSource s q ℓ ≡ true → Search.any (Blocks.isUnread s q ℓ) (below (slots ℓ)) ≡ true
-        cost-open u = by (Request.isSource s q ℓ) (Search.any (Blocks.isUnread s q ℓ) (below (slots ℓ))) u (and-r (filled (s .counter q) ℓ) (not (Request.isSource s q ℓ) || Search.any (Blocks.isUnread s q ℓ) (below (slots ℓ))) (unfold Request.costs in (k .cost)))
+        cost-open u = by (Request.isSource s q ℓ) (Search.any (Blocks.isUnread s q ℓ) (below (slots ℓ))) u (and-r (filled (s .counter q) ℓ) (not (Request.isSource s q ℓ) || Search.any (Blocks.isUnread s q ℓ) (below (slots ℓ))) (sym (costs-is s q ℓ) ∙ k .cost))
           where
             by : (a c : Bool) → a ≡ true → (not a || c) ≡ true → c ≡ true
             by true c w z = z
             by false c w z = absurd (true≢false (sym w))
     go false u e =
-        let n : Request.dummy s q ℓ ≡ none = else-none (Request.slotIn ℓ (s .place (r .block))) (Request.dummy s q ℓ) e in
+        let n : Reader.dummy s q ℓ ≡ none = else-none (slotIn ℓ (s .place (r .block))) (Reader.dummy s q ℓ) e in
         let t = f .taken q ℓ hq (k .top) in
         let gap = total-gap (slots ℓ) (λ i. 1 - s .mark (cell (s .shape) q ℓ i)) (λ i. taken (s .holds (cell (s .shape) q ℓ i)))
         (omega (arith, few u, t, pow-mono {i = ℓ + 1} {j = suc ℓ} (omega arith), pow-mono {i = suc ℓ} {j = ℓ + 1} (omega arith))) in

@@ -22,7 +22,7 @@ use Rattle.lists.specs.All.{All, nil, cons, keep-passes, all-map, below-below}
 use Rattle.lists.specs.Distinct.{Mem}
 use Rattle.lists.specs.Members.{mem-below, keep-mem, mem-count, all-mem, mem-all}
 use Rattle.lists.specs.Places.{map-same}
-use Rattle.lists.specs.Search.{find, below, count, keep, isNone, orElse}
+use Rattle.lists.specs.Search.{find, below, count, keep, isNone}
 use Rattle.lists.specs.Tables.{putAll}
 use Rattle.lists.specs.Tests.{if_then_else_}
 use Rattle.rules.specs.Blocks
@@ -32,6 +32,8 @@ use Rattle.rules.specs.Levels.{filled}
 use Rattle.rules.specs.Questions
 use Rattle.rules.specs.Questions.{Ask, opening, request, turn, completion, collect, save, load, questions, possible, firstNo, bounds, Call, number}
 use Rattle.rules.specs.Rebuild
+use Rattle.rules.specs.Reader
+use Rattle.rules.specs.Laws.Reader.{readBy}
 use Rattle.rules.specs.Request
 use Rattle.rules.specs.Shape.{cell, slots}
 use Rattle.rules.specs.State.{State, Request, Place}
@@ -57,28 +59,28 @@ module _ (s : State) (f : Reached s) (y : ℕ → List ℕ) (o : ℕ → ℕ) (g
   ready-same m = ready-memory t m g ∙ sym (ready-memory s m f)
 
   -- a dummy of a live level is the same
-  dummy-same : (q ℓ : ℕ) → q < s .shape .P → ℓ < s .shape .L → filled (counted s q) ℓ ≡ true → Request.dummy t q ℓ ≡ Request.dummy s q ℓ
-  unfolding Request.dummy Blocks.isUnread Blocks.holder
+  dummy-same : (q ℓ : ℕ) → q < s .shape .P → ℓ < s .shape .L → filled (counted s q) ℓ ≡ true → Reader.dummy t q ℓ ≡ Reader.dummy s q ℓ
+  unfolding Reader.dummy Blocks.isUnread Blocks.holder
   dummy-same q ℓ hq hℓ e = ap (find (λ i. eqb (s .mark (cell (s .shape) q ℓ i)) 1 && isNone (Blocks.named (s .holds (cell (s .shape) q ℓ i)))))
       (map-same (λ j. o (cell (s .shape) q ℓ j)) (λ j. s .order (cell (s .shape) q ℓ j)) (below (slots ℓ)) (λ j m. k .orders q ℓ j hq hℓ e (mem-below (slots ℓ) j m)))
 
   -- ..and so is the lowest unread item
-  lowest-same : (q ℓ : ℕ) → q < s .shape .P → ℓ < s .shape .L → filled (counted s q) ℓ ≡ true → Request.lowest t q ℓ ≡ Request.lowest s q ℓ
-  unfolding Request.lowest Blocks.isUnread
+  lowest-same : (q ℓ : ℕ) → q < s .shape .P → ℓ < s .shape .L → filled (counted s q) ℓ ≡ true → Reader.lowest t q ℓ ≡ Reader.lowest s q ℓ
+  unfolding Reader.lowest Blocks.isUnread
   lowest-same q ℓ hq hℓ e = ap (find (λ i. eqb (s .mark (cell (s .shape) q ℓ i)) 1))
       (map-same (λ j. o (cell (s .shape) q ℓ j)) (λ j. s .order (cell (s .shape) q ℓ j)) (below (slots ℓ)) (λ j m. k .orders q ℓ j hq hℓ e (mem-below (slots ℓ) j m)))
 
-  slot-same : (q ℓ : ℕ) (x : Place) → q < s .shape .P → ℓ < s .shape .L → filled (counted s q) ℓ ≡ true → Request.slotRead t q x ℓ ≡ Request.slotRead s q x ℓ
-  unfolding Request.slotRead Request.isSource Blocks.isUnread
-  slot-same q ℓ x hq hℓ e = ap₂ (λ a b. if Request.isSource s q ℓ then orElse (Request.ifUnread (Blocks.isUnread s q ℓ) (Request.slotIn ℓ x)) a else orElse (Request.slotIn ℓ x) b) (lowest-same q ℓ hq hℓ e) (dummy-same q ℓ hq hℓ e)
+  slot-same : (q ℓ : ℕ) (x : Place) → q < s .shape .P → ℓ < s .shape .L → filled (counted s q) ℓ ≡ true → Reader.slotRead t q x ℓ ≡ Reader.slotRead s q x ℓ
+  unfolding Reader.slotRead Reader.readLevel Reader.readReal Reader.readFake Reader.condition Request.isSource Blocks.isUnread
+  slot-same q ℓ x hq hℓ e = ap₂ (λ a b. readBy (Reader.condition s q ℓ) (Blocks.isUnread s q ℓ (Reader.slotOf x)) b a x ℓ) (lowest-same q ℓ hq hℓ e) (dummy-same q ℓ hq hℓ e)
 
-  first-same : (q : ℕ) (x : Place) (ls : List ℕ) → ((ℓ : ℕ) → Mem ℓ ls → Request.slotRead t q x ℓ ≡ Request.slotRead s q x ℓ) → Turn.firstRead q (Request.slotRead t q x) ls ≡ Turn.firstRead q (Request.slotRead s q x) ls
+  first-same : (q : ℕ) (x : Place) (ls : List ℕ) → ((ℓ : ℕ) → Mem ℓ ls → Reader.slotRead t q x ℓ ≡ Reader.slotRead s q x ℓ) → Turn.firstRead q (Reader.slotRead t q x) ls ≡ Turn.firstRead q (Reader.slotRead s q x) ls
   unfolding Turn.firstRead
   first-same q x [] e = refl
   first-same q x (ℓ ∷ ls) e = ap (λ d. some (Turn.readStep q ℓ d)) (e ℓ (inl refl))
 
   request-same : (r : Option Request) → s .request ≡ r → Turn.requestStep t r ≡ Turn.requestStep s r
-  unfolding Turn.requestStep Request.levelsLeft Request.costs Request.isSource Blocks.isUnread
+  unfolding Turn.requestStep Reader.levelsLeft Reader.costs Reader.condition Request.isSource Blocks.isUnread
   request-same none e = refl
   request-same (some r) e = go (Request.held r) refl
     where
@@ -86,16 +88,16 @@ module _ (s : State) (f : Reached s) (y : ℕ → List ℕ) (o : ℕ → ℕ) (g
       q = s .partition (r .block)
 
       levels : List ℕ
-      levels = keep (Request.costs s q) (count (r .level) (s .shape .L - r .level))
+      levels = keep (Reader.costs s q) (count (r .level) (s .shape .L - r .level))
 
-      reads : Request.held r ≡ false → (ℓ : ℕ) → Mem ℓ levels → Request.slotRead t q (s .place (r .block)) ℓ ≡ Request.slotRead s q (s .place (r .block)) ℓ
+      reads : Request.held r ≡ false → (ℓ : ℕ) → Mem ℓ levels → Reader.slotRead t q (s .place (r .block)) ℓ ≡ Reader.slotRead s q (s .place (r .block)) ℓ
       reads u ℓ m =
-          let c = mem-count (r .level) (s .shape .L - r .level) ℓ (keep-mem (Request.costs s q) (count (r .level) (s .shape .L - r .level)) ℓ m) in
-          let full : filled (s .counter q) ℓ ≡ true = costs-filled s q ℓ (all-mem (keep-passes (Request.costs s q) (count (r .level) (s .shape .L - r .level))) ℓ m) in
+          let c = mem-count (r .level) (s .shape .L - r .level) ℓ (keep-mem (Reader.costs s q) (count (r .level) (s .shape .L - r .level)) ℓ m) in
+          let full : filled (s .counter q) ℓ ≡ true = costs-filled s q ℓ (all-mem (keep-passes (Reader.costs s q) (count (r .level) (s .shape .L - r .level))) ℓ m) in
           slot-same q ℓ (s .place (r .block)) (f .range .partitions (r .block) (block-lt s f r e)) (omega (arith, c .0, c .1))
           (ap (λ n. filled n ℓ) (released-count s f r e u) ∙ full)
 
-      go : (b : Bool) → Request.held r ≡ b → (if b then none else Turn.firstRead q (Request.slotRead t q (s .place (r .block))) levels) ≡ (if b then none else Turn.firstRead q (Request.slotRead s q (s .place (r .block))) levels)
+      go : (b : Bool) → Request.held r ≡ b → (if b then none else Turn.firstRead q (Reader.slotRead t q (s .place (r .block))) levels) ≡ (if b then none else Turn.firstRead q (Reader.slotRead s q (s .place (r .block))) levels)
       go true u = refl
       go false u = first-same q (s .place (r .block)) levels (reads u)
 
@@ -161,7 +163,7 @@ module _ (s : State) (f : Reached s) (y : ℕ → List ℕ) (o : ℕ → ℕ) (g
   number-of (request j b bs) m ws n e = rw (ready-same m)
   number-of turn m ws n e = rw (ready-same m, decide-same, possible-same (decide s))
   number-of (completion c bs) m ws n e = rw (ready-same m)
-  number-of collect m ws n e = rw (ready-same m) (unfold Collect.finished Request.levelsLeft Request.costs Request.isSource Blocks.isUnread in refl)
+  number-of collect m ws n e = rw (ready-same m) (unfold Collect.finished Reader.levelsLeft Reader.costs Reader.condition Request.isSource Blocks.isUnread in refl)
   number-of save m ws n e = rw (ready-same m, rest-same) (save-number m n (Questions.atRest s) refl)
   number-of (load form) m ws n e = absurd (true≢false e)
 

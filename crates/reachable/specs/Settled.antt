@@ -26,6 +26,9 @@ Settled s = (r : Request) → s .request ≡ some r → held r ≡ true → bloc
 pub no-request : (r : Request) → none ≡ some r → ⊥
 no-request r e = let z : _≡_ {A = ℕ} 0 1 = cc in omega arith
 
+pub closed-hand : (s : State) → s ≡ closed → (r : Request) → s .request ≡ some r → ⊥
+closed-hand s w r e = let z : s .request ≡ none = unfold closed in (ap (λ (x : State). x .request) w) in no-request r (sym z ∙ e)
+
 pub closed-settled : Settled closed
 closed-settled r e h = absurd (no-request r (unfold closed in e))
 

@@ -27,7 +27,9 @@ use Rattle.rules.specs.Memory.{needed}
 use Rattle.rules.specs.Questions
 use Rattle.rules.specs.Questions.{Ask, opening, request, turn, completion, collect, save, load, Call, possible, questions, firstNo, number}
 use Rattle.rules.specs.Rebuild.{places, unread, gathered, chosen}
-use Rattle.rules.specs.Request.{held, undrawnOnly, isSource, levelsLeft, slotIn, ifUnread, slotRead}
+use Rattle.rules.specs.Request.{held, undrawnOnly, isSource}
+use Rattle.rules.specs.Reader.{levelsLeft, slotRead}
+use Rattle.rules.specs.Laws.Reader.{slotIn, ifUnread}
 use Rattle.rules.specs.Run.{Outcome, step, run, after}
 use Rattle.rules.specs.Shape.{Shape, slots}
 use Rattle.rules.specs.State.{State, Command, cmd, read, write, Request, closed, nowhere}
@@ -43,7 +45,7 @@ use Rattle.reachable.specs.Never.{always-possible, never-many, late-two,
 use Rattle.reachable.specs.Reached.{Was, reachable, step-was, live, shut, ready-memory, was-reached}
 use Rattle.reachable.specs.LastSaved.{nothing}
 use Rattle.reachable.specs.Sends.{write-within, reads-after-writes, behind, read-is}
-use Rattle.reachable.specs.Settled.{Settled, no-request, left-settled}
+use Rattle.reachable.specs.Settled.{Settled, closed-hand, left-settled}
 use Rattle.reachable.specs.Slots.{front-in}
 use Rattle.reachable.specs.Worn.{blocked-why}
 use Rattle.reachable.specs.Terms.{Apart, none-apart, Numbered, LowestUnread, EachAfterWrite, CallsLeft, opened, called, loaded, OfSaved}
@@ -61,9 +63,6 @@ closed-decides s w x e y =
 closed-reads : (s : State) → s ≡ closed → (q ℓ i : ℕ) → command (decide s) ≡ cmd read q ℓ i → ⊥
 unfolding command
 closed-reads s w q ℓ i e = omega (arith, ap (λ (c : Command). c .kind) (sym (ap command (ap decide w ∙ closed-idle)) ∙ e))
-
-closed-hand : (s : State) → s ≡ closed → (r : Request) → s .request ≡ some r → ⊥
-closed-hand s w r e = let z : s .request ≡ none = unfold closed in (ap (λ (x : State). x .request) w) in no-request r (sym z ∙ e)
 
 no-queue : (q : ℕ) (rest : List ℕ) → [] ≡ q ∷ rest → ⊥
 no-queue q rest e = let z : _≡_ {A = ℕ} 0 1 = cc in omega arith

@@ -1,3 +1,3 @@
 pub mod Sources
-pub mod Costs
+pub mod Conditions
 pub mod Slots

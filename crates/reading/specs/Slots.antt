@@ -1,26 +1,29 @@
--- The slot that a look-up reads of a level, by the number of its block's place.
+-- The slot that a look-up reads of a level, by the level and the number of its block's place.
 use mathlib.Core.Path.{_≡_, refl, ap, sym, _∙_}
-use mathlib.Core.Bool.{Bool, true, false, _&&_, true≢false}
+use mathlib.Core.Bool.{Bool, true, false, not, _&&_, true≢false}
 use mathlib.Core.List.{List}
 use mathlib.Core.Option.{Option, none, some}
-use Prim.Native.Nat.{ℕ, _+_, _-_, _*_, _≤_, _<_}
+use Prim.Native.Nat.{ℕ, suc, _+_, _-_, _≤_, _<_}
 use native.Mathlib.Omega.{arith}
 use native.Mathlib.Decide.{decLt}
-use lib.Dec.{eqb, leb, ltb}
-use borrow.Author.Tests.{eq-eqb, eqb-true, leb-true, ltb-true, le-leb, lt-ltb, le-ltb}
-use Rattle.lists.specs.Tests.{if_then_else_, and-l, and-r, and-true}
-use Rattle.lists.specs.Search.{orElse}
+use lib.Dec.{ltb}
+use lib.Pow.{pow-pos, pow-mono}
+use borrow.Author.Tests.{eqb-true, lt-ltb, le-ltb}
+use Rattle.lists.specs.Tests.{if_then_else_}
 use Rattle.rules.specs.Shape.{slots}
 use Rattle.rules.specs.State.{State, Place, nowhere, stored}
 use Rattle.rules.specs.Blocks.{isUnread}
-use Rattle.rules.specs.Request.{isSource, slotIn, dummy, ifUnread, lowest, slotRead}
+use Rattle.rules.specs.Reader as Reader
+use Rattle.rules.specs.Reader.{slotOf, unmarked, someUnread, condition, dummy, lowest, fakeBy, readFake, isCachedIn, readReal, ifFilled, isLevel, readLevel, slotRead}
 use Rattle.rules.specs.Laws.Range.{PlaceIn}
-use Rattle.memory.specs.Fits.{shapeOf, fit}
+use Rattle.memory.specs.Fits.{shapeOf, fit, fit-lt}
 use Rattle.memory.specs.Tables.{tablesOf}
 use Rattle.client.specs.declared.Client.{Client}
-use Rattle.client.specs.View.{levelOf, placeOf, view, stateOf}
-use Rattle.client.specs.Changes.{place-is, level-le}
+use Rattle.client.specs.declared.Found.{Found}
+use Rattle.client.specs.View.{levelOf, placeOf, view, stateOf, foundOf}
+use Rattle.client.specs.Changes.{level-is, level-le}
 use Rattle.ready.specs.Usable.{Usable}
+use Rattle.reading.specs.Conditions.{ReadAs}
 
 -- a request is in hand, for a block of partition q
 pub record Reads (c : Client) (m : List ℕ) (q : ℕ) : Type 0 where
@@ -35,87 +38,95 @@ reads-lt c m q r u = rw (r .partition) (u .range .partitions (c .request .block)
 abbrev pub Placed : Client → List ℕ → ℕ → Type 0
 Placed c m x = x ≡ fit (slots (c .shape .l)) (tablesOf (shapeOf (c .shape)) m .place (c .request .block))
 
--- the block's own slot in level ℓ; in a source only if it is unread
-unfoldable pub ownIn : State → ℕ → Place → ℕ → Option ℕ
-ownIn s q place ℓ = if isSource s q ℓ then ifUnread (isUnread s q ℓ) (slotIn ℓ place) else slotIn ℓ place
+pub placed-lt : (c : Client) (m : List ℕ) (x : ℕ) → Placed c m x → x < slots (c .shape .l)
+placed-lt c m x e = rw e (fit-lt (slots (c .shape .l)) (tablesOf (shapeOf (c .shape)) m .place (c .request .block)) (pow-pos (c .shape .l + 1)))
 
--- that, else an item's
-pub slot-read : (s : State) (q : ℕ) (place : Place) (ℓ : ℕ) (t : Bool) → isSource s q ℓ ≡ t → slotRead s q place ℓ ≡ orElse (ownIn s q place ℓ) (if t then lowest s q ℓ else dummy s q ℓ)
-unfolding slotRead ownIn
-slot-read s q place ℓ true e = rw e
-slot-read s q place ℓ false e = rw e
+-- ---- The level where it resides
 
--- ---- The block's own slot
+-- found by the number x of a place, whatever the number n of levels
+abbrev pub LevelFound : ℕ → Found → Type 0
+LevelFound x found = (n : ℕ) → x < slots n → foundOf found ≡ Reader.levelOf (placeOf n x)
 
--- whether the number x is one of level ℓ
-abbrev isOwn : ℕ → ℕ → Bool
-isOwn ℓ x = leb (slots ℓ) x && ltb x (2 * slots ℓ)
+-- the level of a slot's number
+pub level-of : (n x ℓ : ℕ) → x < slots n → slots ℓ ≤ x → x < slots (suc ℓ) → levelOf n x ≡ ℓ
+level-of n x ℓ a b k =
+    let e : x ≡ slots ℓ + (x - slots ℓ) = omega arith in
+    ap (levelOf n) e ∙ level-is n ℓ (x - slots ℓ) (below (decLt ℓ n)) (omega (arith, pow-mono {i = suc ℓ + 1} {j = suc (ℓ + 1)} (omega arith)))
+  where
+    below : Dec (ℓ < n) → ℓ < n
+    below (yes l) = l
+    below (no l) = absurd (omega (arith, pow-mono {i = n + 1} {j = ℓ + 1} (omega arith)))
 
-module _ (n ℓ x : ℕ) where
-  own-slot : ℓ < n → isOwn ℓ x ≡ true → slotIn ℓ (placeOf n x) ≡ some (x - slots ℓ)
-  unfolding slotIn
-  own-slot top e =
-      let a = leb-true (slots ℓ) x (and-l (leb (slots ℓ) x) (ltb x (2 * slots ℓ)) e) in
-      let b = ltb-true x (2 * slots ℓ) (and-r (leb (slots ℓ) x) (ltb x (2 * slots ℓ)) e) in
-      let k : slots ℓ + (x - slots ℓ) ≡ x = omega arith in
-      ap (λ y. slotIn ℓ (placeOf n y)) (sym k) ∙ ap (slotIn ℓ) (place-is n ℓ (x - slots ℓ) top (omega arith)) ∙ rw (eq-eqb ℓ ℓ refl)
+module _ (n x : ℕ) where
+  pub in-none : x < 2 → none ≡ Reader.levelOf (placeOf n x)
+  unfolding placeOf Reader.levelOf
+  in-none l = sym (rw (lt-ltb x 2 l))
 
-  other-slot : PlaceIn n (placeOf n x) → isOwn ℓ x ≡ false → slotIn ℓ (placeOf n x) ≡ none
-  unfolding slotIn placeOf
-  other-slot h e = go (decLt x 2) h
+  pub in-level : (ℓ : ℕ) → 2 ≤ x → x < slots n → slots ℓ ≤ x → x < slots (suc ℓ) → some ℓ ≡ Reader.levelOf (placeOf n x)
+  unfolding placeOf Reader.levelOf
+  in-level ℓ l a b k = sym (rw (le-ltb x 2 l, level-of n x ℓ a b k))
+
+-- its slot there
+pub record SlotIn (n ℓ x : ℕ) : Type 0 where
+  pub begins : slots ℓ ≤ x
+  pub ends : x - slots ℓ < slots ℓ
+  pub slot : slotOf (placeOf n x) ≡ x - slots ℓ
+
+pub slot-in : (n ℓ x : ℕ) → PlaceIn n (placeOf n x) → isLevel (Reader.levelOf (placeOf n x)) ℓ ≡ true → SlotIn n ℓ x
+unfolding placeOf isLevel Reader.levelOf slotOf
+slot-in n ℓ x h e = go (decLt x 2) h e
+  where
+    place : Place
+    place = if ltb x 2 then nowhere else stored (levelOf n x) (x - slots (levelOf n x))
+
+    go : Dec (x < 2) → PlaceIn n place → isLevel (Reader.levelOf place) ℓ ≡ true → SlotIn n ℓ x
+    go (yes l) h e = absurd (true≢false (sym e ∙ rw (lt-ltb x 2 l)))
+    go (no l) h e =
+        let b = le-ltb x 2 (omega arith) in
+        let p : PlaceIn n (stored (levelOf n x) (x - slots (levelOf n x))) = rw b at h in
+        let z = eqb-true (levelOf n x) ℓ (rw b at e) in
+        record { begins = rw z at (level-le n x (omega arith)); ends = rw z at (p .1); slot = rw (b, z) }
+
+-- ---- What is read of level ℓ, which costs a read
+module _ (s : State) (q ℓ : ℕ) where
+  pub fake-is : (t : Bool) → ReadAs s q ℓ t → (if t then lowest s q ℓ else dummy s q ℓ) ≡ readFake s q ℓ (condition s q ℓ)
+  unfolding readFake fakeBy
+  fake-is true e = sym (ap (fakeBy (dummy s q ℓ) (lowest s q ℓ)) e)
+  fake-is false e = sym (ap (fakeBy (dummy s q ℓ) (lowest s q ℓ)) e)
+
+  -- whether its block was cached in
+  pub cached-is : (t unread : Bool) → ReadAs s q ℓ t → (not unread && t) ≡ isCachedIn (condition s q ℓ) unread
+  unfolding isCachedIn
+  cached-is t unread e = go t unread ∙ sym (ap (λ c. isCachedIn c unread) e)
     where
-      own : levelOf n x ≡ ℓ → 2 ≤ x → x - slots (levelOf n x) < slots (levelOf n x) → isOwn ℓ x ≡ true
-      own l g s =
-          let a = rw l at (level-le n x g) in
-          let b = rw l at s in
-          and-true (le-leb (slots ℓ) x a) (lt-ltb x (2 * slots ℓ) (omega arith))
+      go : (t u : Bool) → (not u && t) ≡ isCachedIn (if t then someUnread else unmarked) u
+      go true true = refl
+      go true false = refl
+      go false true = refl
+      go false false = refl
 
-      at : (t : Bool) → eqb (levelOf n x) ℓ ≡ t → 2 ≤ x → x - slots (levelOf n x) < slots (levelOf n x) → (if t then some (x - slots (levelOf n x)) else none) ≡ none
-      at true l g s = absurd (true≢false (sym (own (eqb-true (levelOf n x) ℓ l) g s) ∙ e))
-      at false l g s = refl
+  module _ (i : ℕ) where
+    pub real-fake : isCachedIn (condition s q ℓ) (isUnread s q ℓ i) ≡ true → readFake s q ℓ (condition s q ℓ) ≡ readReal s q ℓ i (condition s q ℓ)
+    unfolding readReal
+    real-fake e = sym (rw e)
 
-      go : Dec (x < 2) → PlaceIn n (if ltb x 2 then nowhere else stored (levelOf n x) (x - slots (levelOf n x))) → slotIn ℓ (if ltb x 2 then nowhere else stored (levelOf n x) (x - slots (levelOf n x))) ≡ none
-      go (yes l) h = rw (lt-ltb x 2 l)
-      go (no l) h =
-          let p : PlaceIn n (stored (levelOf n x) (x - slots (levelOf n x))) = rw (le-ltb x 2 (omega arith)) at h in
-          rw (le-ltb x 2 (omega arith)) (at (eqb (levelOf n x) ℓ) refl (omega arith) (p .1))
+    pub real-own : isCachedIn (condition s q ℓ) (isUnread s q ℓ i) ≡ false → some i ≡ readReal s q ℓ i (condition s q ℓ)
+    unfolding readReal
+    real-own e = sym (rw e)
 
--- by the number x of its place, for the n slots of level ℓ
-module _ (c : Client) (m : List ℕ) (q ℓ x n : ℕ) (e : n ≡ slots ℓ) (p : Placed c m x) where
-  abbrev place : Place
-  place = stateOf c m .place (c .request .block)
+  module _ (place : Place) (t : Bool) (r : ReadAs s q ℓ t) where
+    filled-is : (slot : Option ℕ) → slot ≡ ifFilled (condition s q ℓ) slot
+    unfolding ifFilled
+    filled-is slot = go t r
+      where
+        go : (t : Bool) → ReadAs s q ℓ t → slot ≡ ifFilled (condition s q ℓ) slot
+        go true e = sym (ap (λ c. ifFilled c slot) e)
+        go false e = sym (ap (λ c. ifFilled c slot) e)
 
-  own : (t : Bool) → (leb n x && ltb x (2 * n)) ≡ t → isOwn ℓ x ≡ t
-  own t k = ap (λ y. leb y x && ltb x (2 * y)) (sym e) ∙ k
+    pub level-real : (i : ℕ) → slotOf place ≡ i → isLevel (Reader.levelOf place) ℓ ≡ true → readReal s q ℓ i (condition s q ℓ) ≡ slotRead s q place ℓ
+    unfolding slotRead readLevel
+    level-real i e k = filled-is _ ∙ sym (rw (k, e))
 
-  here : ℓ < c .shape .l → (leb n x && ltb x (2 * n)) ≡ true → slotIn ℓ place ≡ some (x - n)
-  unfolding stateOf view
-  here top k = ap (λ y. slotIn ℓ (placeOf (c .shape .l) y)) (sym p) ∙ own-slot (c .shape .l) ℓ x top (own true k) ∙ ap (λ y. some (x - y)) (sym e)
-
-  elsewhere : PlaceIn (stateOf c m .shape .L) place → (leb n x && ltb x (2 * n)) ≡ false → slotIn ℓ place ≡ none
-  unfolding stateOf view
-  elsewhere h k =
-      let h′ : PlaceIn (c .shape .l) (placeOf (c .shape .l) x) = rw (← p) at h in
-      ap (λ y. slotIn ℓ (placeOf (c .shape .l) y)) (sym p) ∙ other-slot (c .shape .l) ℓ x h′ (own false k)
-
-  -- it is not there
-  pub own-none : PlaceIn (stateOf c m .shape .L) place → (leb n x && ltb x (2 * n)) ≡ false → none ≡ ownIn (stateOf c m) q place ℓ
-  unfolding ownIn ifUnread
-  own-none h k = rw (elsewhere h k) (go (isSource (stateOf c m) q ℓ))
-    where
-      go : (t : Bool) → _≡_ {A = Option ℕ} none (if t then none else none)
-      go true = refl
-      go false = refl
-
-  module _ (top : ℓ < c .shape .l) (k : (leb n x && ltb x (2 * n)) ≡ true) where
-    pub own-any : isSource (stateOf c m) q ℓ ≡ false → some (x - n) ≡ ownIn (stateOf c m) q place ℓ
-    unfolding ownIn
-    own-any b = rw (b, here top k)
-
-    pub own-unread : isSource (stateOf c m) q ℓ ≡ true → isUnread (stateOf c m) q ℓ (x - n) ≡ true → some (x - n) ≡ ownIn (stateOf c m) q place ℓ
-    unfolding ownIn ifUnread
-    own-unread b u = rw (b, here top k, u)
-
-    pub own-gone : isSource (stateOf c m) q ℓ ≡ true → isUnread (stateOf c m) q ℓ (x - n) ≡ false → none ≡ ownIn (stateOf c m) q place ℓ
-    unfolding ownIn ifUnread
-    own-gone b u = rw (b, here top k, u)
+    pub level-fake : isLevel (Reader.levelOf place) ℓ ≡ false → readFake s q ℓ (condition s q ℓ) ≡ slotRead s q place ℓ
+    unfolding slotRead readLevel
+    level-fake k = filled-is _ ∙ sym (rw k)

@@ -3,11 +3,11 @@ use mathlib.Core.Path.{_≡_, refl, ap, sym, _∙_}
 use mathlib.Core.Bool.{Bool, true, false, not, _&&_}
 use mathlib.Core.List.{List}
 use mathlib.Core.Option.{Option, none, some, Option·map}
-use Prim.Native.Nat.{ℕ, suc, _+_, _-_, _≤_, _<_}
+use Prim.Native.Nat.{ℕ, suc, _+_, _≤_, _<_}
 use native.Mathlib.Omega.{arith}
-use native.Mathlib.Decide.{decLt, ℕ-discrete}
+use native.Mathlib.Decide.{ℕ-discrete}
 use lib.ListN.{length}
-use lib.Pow.{pow-pos, pow-mono}
+use lib.Pow.{pow-pos}
 use lib.Dec.{eqb}
 use borrow.Author.Tests.{eqb-false, ne-eqb, lt-ltb, le-ltb}
 use Rattle.lists.specs.Search.{member}
@@ -22,11 +22,11 @@ use Rattle.rules.specs.Questions.{ready}
 use Rattle.memory.specs.Tables.{tablesOf}
 use Rattle.memory.specs.Fits.{shapeOf, fit, fit-lt}
 use Rattle.client.specs.declared.Client.{Client}
-use Rattle.client.specs.Changes.{level-is}
 use Rattle.client.specs.Moves.{withRequest, atFound, Room, Stands}
 use Rattle.client.specs.Readings.{handOf, hand-none, hand-some, hand-held, hand-released, place-as, as-number, out-count}
-use Rattle.client.specs.View.{stateOf, view, levelOf, placeOf, foundBy, handBy, requestOf}
+use Rattle.client.specs.View.{stateOf, view, placeOf, foundBy, handBy, requestOf}
 use Rattle.ready.specs.Usable.{usable}
+use Rattle.reading.specs.Slots.{level-of}
 
 -- the client's counts fit, and so does the block of a request in hand
 pub record Releasable (c : Client) (m : List ℕ) : Type 0 where
@@ -55,16 +55,6 @@ pub released-stands : {c r : Client} {m₀ m : List ℕ} {s : State} → Stands 
 released-stands a b = record { state = b .state ∙ ap release (a .state); tail = rw (ap (λ (x : Client). x .shape) (b .found)) (a .tail) }
 
 -- ---- Where a block is found
-
--- the level of a slot's number
-level-of : (n x ℓ : ℕ) → x < slots n → slots ℓ ≤ x → x < slots (suc ℓ) → levelOf n x ≡ ℓ
-level-of n x ℓ a b k =
-    let e : x ≡ slots ℓ + (x - slots ℓ) = omega arith in
-    ap (levelOf n) e ∙ level-is n ℓ (x - slots ℓ) (below (decLt ℓ n)) (omega (arith, pow-mono {i = suc ℓ + 1} {j = suc (ℓ + 1)} (omega arith)))
-  where
-    below : Dec (ℓ < n) → ℓ < n
-    below (yes l) = l
-    below (no l) = absurd (omega (arith, pow-mono {i = n + 1} {j = ℓ + 1} (omega arith)))
 
 module _ (c : Client) (m : List ℕ) (b x : ℕ) (e : x ≡ fit (slots (c .shape .l)) (tablesOf (shapeOf (c .shape)) m .place b)) where
   pub found-level : (ℓ : ℕ) → 2 ≤ x → slots ℓ ≤ x → x < slots (suc ℓ) → ℓ + 3 ≡ suc (foundNumber (lookUp (stateOf c m) b))

@@ -13,7 +13,8 @@ use Rattle.rules.specs.State.{write, Place, nowhere, stored, Found, foun
 use Rattle.rules.specs.Setters.{_▷_, setPartition, setPlace, setBytes, setWaiting, setHolds, setQueue, setRequest}
 use Rattle.rules.specs.Ranges.{others}
 use Rattle.rules.specs.Blocks.{contents}
-use Rattle.rules.specs.Request.{held, levelsLeft}
+use Rattle.rules.specs.Request.{held}
+use Rattle.rules.specs.Reader.{levelsLeft}
 
 -- "A request is finished when it isn't held and all its reads are sent and completed." P4: ".. only when every job read sent by that moment has
 -- completed too": of the commands that it awaits none is outstanding

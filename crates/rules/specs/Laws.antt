@@ -6,6 +6,7 @@ pub mod Levels
 pub mod Drawn
 pub mod Orders
 pub mod Waiting
+pub mod Reader
 pub mod Range
 pub mod RangeSetters
 pub mod Decided

@@ -9,6 +9,7 @@ pub mod Levels
 pub mod Blocks
 pub mod Open
 pub mod Request
+pub mod Reader
 pub mod Rebuild
 pub mod Turn
 pub mod Completion

@@ -1,17 +1,17 @@
--- Document 01, "Request": what is taken in hand, and which slot is read at each level. Document 02, P2: where its block was found; P4: beside a rebuild.
-use mathlib.Core.Bool.{Bool, false, not, _&&_, _||_}
-use mathlib.Core.List.{List, [], _∷_, map}
+-- Document 01, "Request": what is taken in hand, and what holds it. Document 02, P2: where its block was found; P4: beside a rebuild. What it reads
+-- is in Reader.
+use mathlib.Core.Bool.{Bool, false, not, _&&_}
+use mathlib.Core.List.{List, [], _∷_}
 use mathlib.Core.Option.{Option, none, some, Option·map}
-use Prim.Native.Nat.{ℕ, suc, _-_, _^_}
+use Prim.Native.Nat.{ℕ, suc, _^_}
 use lib.ListN.{length, getD}
 use lib.Dec.{ltb, leb, eqb}
 use Rattle.lists.specs.Tests.{if_then_else_}
-use Rattle.lists.specs.Search.{find, keep, any, isNone, orElse, below, count, member}
-use Rattle.rules.specs.Shape.{slots, cell}
-use Rattle.rules.specs.State.{Place, nowhere, stored, Found, Request, State}
+use Rattle.lists.specs.Search.{any, isNone, below, member}
+use Rattle.rules.specs.State.{Found, Request, State}
 use Rattle.rules.specs.Setters.{_▷_, setRequest}
 use Rattle.rules.specs.Levels.{filled, sources}
-use Rattle.rules.specs.Blocks.{holder, isUnread, readsOf, lookUp}
+use Rattle.rules.specs.Blocks.{readsOf, lookUp}
 
 -- "Request (read or write, block, contents) takes two draws below P: the block's next partition, then an eviction partition."
 unfoldable pub accept : ℕ → ℕ → List ℕ → List ℕ → State → State
@@ -65,36 +65,6 @@ releasedIn s r = if held r && not (blocked s r) then withFound (lookUp s (r .blo
 -- what is done to the state after every accepted call
 abbrev pub release : State → State
 release s = s ▷ setRequest (Option·map (releasedIn s) (s .request))
-
--- "One read to each filled level of p." P4: "A source level with none unread costs nothing."
-unfoldable pub costs : State → ℕ → ℕ → Bool
-costs s q ℓ = filled (s .counter q) ℓ && (not (isSource s q ℓ) || any (isUnread s q ℓ) (below (slots ℓ)))
-
--- "Then it sends one read to each filled level of p, level 0 first": the levels to which it has yet to send one
-unfoldable pub levelsLeft : State → Request → List ℕ
-levelsLeft s r = keep (costs s (s .partition (r .block))) (count (r .level) (s .shape .L - r .level))
-
--- "The block's slot if its place is there"
-unfoldable pub slotIn : ℕ → Place → Option ℕ
-slotIn ℓ nowhere = none
-slotIn ℓ (stored m i) = if eqb m ℓ then some i else none
-
--- "Else the slot of the lowest-numbered unread dummy item": items ascending, each by its slot
-unfoldable pub dummy : State → ℕ → ℕ → Option ℕ
-dummy s q ℓ = find (λ i. isUnread s q ℓ i && isNone (holder s q ℓ i)) (map (λ k. s .order (cell (s .shape) q ℓ k)) (below (slots ℓ)))
-
--- P4: "For a source level with unread slots it reads the block's slot if the block is there unread"
-unfoldable pub ifUnread : (ℕ → Bool) → Option ℕ → Option ℕ
-ifUnread p none = none
-ifUnread p (some i) = if p i then some i else none
-
--- ".. else the lowest-numbered unread item", block or dummy
-unfoldable pub lowest : State → ℕ → ℕ → Option ℕ
-lowest s q ℓ = find (isUnread s q ℓ) (map (λ k. s .order (cell (s .shape) q ℓ k)) (below (slots ℓ)))
-
--- the slot that is read of level ℓ, for a block that is at this place. P4: "Other levels are read as before"
-unfoldable pub slotRead : State → ℕ → Place → ℕ → Option ℕ
-slotRead s q place ℓ = if isSource s q ℓ then orElse (ifUnread (isUnread s q ℓ) (slotIn ℓ place)) (lowest s q ℓ) else orElse (slotIn ℓ place) (dummy s q ℓ)
 
 -- once its read to level ℓ is sent, n commands being outstanding then, the request goes on from the level above
 unfoldable pub passLevel : ℕ → ℕ → Option Request → Option Request

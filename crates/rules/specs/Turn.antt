@@ -13,7 +13,8 @@ use Rattle.rules.specs.State.{Command, cmd, read, write, Request, State}
 use Rattle.rules.specs.Setters.{_▷_, setMark, setBegun, setCursor, setSent, setOutstanding, setRequest}
 use Rattle.rules.specs.Draws.{newOrder, orderBounds}
 use Rattle.rules.specs.Levels.{target}
-use Rattle.rules.specs.Request.{held, isSource, levelsLeft, slotRead, passLevel, releasedFor}
+use Rattle.rules.specs.Request.{held, isSource, passLevel, releasedFor}
+use Rattle.rules.specs.Reader.{levelsLeft, slotRead}
 use Rattle.rules.specs.Rebuild.{unread, doRebuild}
 
 pub data Step : Type 0 where

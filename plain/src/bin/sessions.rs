@@ -3,14 +3,17 @@
 //! whose sessions tell the planted mistakes from the right rules: first by the
 //! rules of document 01, then by where blocks are found (document 02, P2), by
 //! which words draws pass over (P3) and by look-ups while a partition is
-//! rebuilt (P4).
+//! rebuilt (P4). Of some it also writes the reads told for each request (P6).
 
-use plain::antt;
+use plain::antt::{self, reads};
+use plain::calls::Store;
 use plain::choose::{Group, Kind, Plan, Session};
 use plain::marks::{DRAW_MARKS, FOUND_MARKS, Mark};
 use plain::mistakes::Mistake;
+use plain::releases::{Case, Releases, Taken};
 use plain::shape::Shape;
 use plain::situations::Situation;
+use plain::told;
 use std::path::Path;
 use std::process::ExitCode;
 
@@ -50,6 +53,23 @@ const SEEDS: u64 = 3000;
 const MORE_SEEDS: u64 = 9000;
 const MOST_SEEDS: u64 = 20_000;
 const MOST_LINES: usize = 399;
+/// The sessions whose reads are written.
+const READ_SESSIONS: usize = 4;
+
+/// What is to be met in these.
+const CASES: [(Case, &str); 8] = [
+    (Case::OwnInSource, "own slot in a source"),
+    (Case::EarlyBlock, "another block of a source"),
+    (Case::EarlyDummy, "dummy of a source"),
+    (
+        Case::OwnReadBefore,
+        "block read by the job, another item read",
+    ),
+    (Case::OwnSpent, "block read by the job, no item unread"),
+    (Case::Spent, "source with none unread"),
+    (Case::OwnUnmarked, "own slot in another level"),
+    (Case::Dummy, "dummy of another level"),
+];
 
 /// The numbers that have to occur; 7 needs 63 jobs queued.
 const NUMBERS: [u8; 15] = [0, 1, 2, 3, 4, 5, 6, 8, 9, 10, 11, 12, 13, 14, 15];
@@ -101,10 +121,12 @@ fn choose() -> Result<Vec<Session>, String> {
     Ok(all)
 }
 
-/// The files' texts, each with as many sessions as its lines allow.
-fn files(sessions: &[Session]) -> Vec<String> {
+/// The files' texts, each with as many sessions as its lines allow, and the
+/// file's number of each session.
+fn files(sessions: &[Session]) -> (Vec<String>, Vec<usize>) {
     let lines = |part: &str| part.lines().count();
     let mut files = vec![String::new()];
+    let mut of = Vec::new();
     for (index, session) in sessions.iter().enumerate() {
         let name = format!("session{index}");
         let text = antt::session(&name, &session.calls, &session.outcomes);
@@ -115,9 +137,59 @@ fn files(sessions: &[Session]) -> Vec<String> {
         let last = files.len() - 1;
         files[last] += "\n";
         files[last] += &text;
+        of.push(last);
     }
     let whole = |text: String| antt::header("sessions", &text) + &text;
-    files.into_iter().map(whole).collect()
+    (files.into_iter().map(whole).collect(), of)
+}
+
+fn file_name(number: usize) -> String {
+    let letter = ('A'..='Z').nth(number).unwrap_or('Z');
+    format!("Sessions{letter}")
+}
+
+/// Which of the cases are met in the reads of a session.
+fn cases(session: &Session) -> Vec<(Case, &'static str)> {
+    let mut store = Store::new(Mistake::None);
+    let mut releases = Releases::new(Taken::AtRelease);
+    for call in &session.calls {
+        let outcome = store.call(call);
+        let told = releases.call(call, &outcome, store.state.as_ref());
+        told.expect("the reads are those of the list");
+    }
+    let met = |(case, _): &(Case, &str)| releases.times.contains_key(case);
+    CASES.into_iter().filter(met).collect()
+}
+
+/// The reads of some sessions in which every released request is collected:
+/// one after the other that in which most is met that was not before.
+fn read(sessions: &[Session], file_of: &[usize]) -> Result<Vec<reads::Told>, String> {
+    let told = |number: usize| Some((number, told::reads(&sessions[number].calls)?));
+    let mut left: Vec<_> = (0..sessions.len()).filter_map(told).collect();
+    let mut unmet = CASES.to_vec();
+    let mut chosen = Vec::new();
+    while chosen.len() < READ_SESSIONS && !unmet.is_empty() && !left.is_empty() {
+        let new = |number: usize| {
+            let met = cases(&sessions[number]);
+            met.iter().filter(|case| unmet.contains(case)).count()
+        };
+        let best = (0..left.len()).max_by_key(|at| new(left[*at].0));
+        let (number, reads) = left.remove(best.unwrap_or(0));
+        let met = cases(&sessions[number]);
+        unmet.retain(|case| !met.contains(case));
+        let words: Vec<&str> = met.iter().map(|(_, words)| *words).collect();
+        chosen.push(reads::Told {
+            number,
+            file: file_name(file_of[number]),
+            met: words.join("; "),
+            reads,
+        });
+    }
+    chosen.sort_by_key(|told| told.number);
+    match unmet.is_empty() {
+        true => Ok(chosen),
+        false => Err(format!("not met in the reads: {unmet:?}")),
+    }
 }
 
 fn print_told(sessions: &[Session]) {
@@ -149,12 +221,19 @@ fn those(sessions: &[Session], holds: impl Fn(&Session) -> bool) -> Vec<usize> {
 }
 
 fn write(directory: &str, sessions: &[Session]) -> Result<(), String> {
-    for (text, letter) in files(sessions).iter().zip('A'..='Z') {
-        let path = Path::new(directory).join(format!("Sessions{letter}.antt"));
-        let written = std::fs::write(&path, text);
-        written.map_err(|error| format!("{}: {error}", path.display()))?;
-        println!("{}: {} lines", path.display(), text.lines().count());
+    let (texts, file_of) = files(sessions);
+    for (number, text) in texts.iter().enumerate() {
+        write_file(directory, &file_name(number), text)?;
     }
+    let read = read(sessions, &file_of)?;
+    write_file(directory, "Reads", &reads::text(&read))
+}
+
+fn write_file(directory: &str, name: &str, text: &str) -> Result<(), String> {
+    let path = Path::new(directory).join(format!("{name}.antt"));
+    let written = std::fs::write(&path, text);
+    written.map_err(|error| format!("{}: {error}", path.display()))?;
+    println!("{}: {} lines", path.display(), text.lines().count());
     Ok(())
 }
 

@@ -20,16 +20,16 @@ reads : (c : tie.After-partition) → let a = c .before .before .before .before 
 unfolding stateOf view
 reads c = record { some = c .before .before .before .if1 .left; partition = c .partition .ensures }
 
-first-read-requires : tie.Need-first-read-requires
-first-read-requires c κs = (c .before .before .before .before .before .before .before .pre, reads c)
+read-partition-requires : tie.Need-read-partition-requires
+read-partition-requires c κs = (c .before .before .before .before .before .before .before .pre, reads c)
 
 returns-3 : tie.Need-returns-3
 returns-3 c =
     let p = c .before in
     let a = p .before .before .before .before .before .before .before .args in
-    c .first-read .ensures ∙ sym (request-free (a .c) (a .m .now) (p .partition .result) (reads p) (p .before .if2 .left))
+    c .read-partition .ensures ∙ sym (request-free (a .c) (a .m .now) (p .partition .result) (reads p) (p .before .if2 .left))
 
 pub request-step-spec : {M : Type 1} → statement M
 request-step-spec =
     tie.close
-    (tie.spec returns returns-2 partition-requires first-read-requires returns-3)
+    (tie.spec returns returns-2 partition-requires read-partition-requires returns-3)

@@ -21,7 +21,7 @@ use Rattle.rules.specs.Open.{fresh}
 use Rattle.rules.specs.Collect.{finished}
 use Rattle.rules.specs.Turn.{readForRequest, rebuild, decide}
 use Rattle.rules.specs.Levels.{sources}
-use Rattle.rules.specs.Request.{slotIn}
+use Rattle.rules.specs.Laws.Reader.{slotIn}
 use Rattle.rules.specs.Questions.{bounds, possible, atRest}
 use Rattle.rules.specs.Ranges.{inRange}
 use Rattle.hiding.specs.Machines.Middle.{chosenM, gatheredM}

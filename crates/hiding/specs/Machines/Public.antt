@@ -19,7 +19,8 @@ use Rattle.rules.specs.Shape.{Shape, within, slots, cell}
 use Rattle.rules.specs.Setters.{setPartition, setPlace, setBytes, setWaiting, setOrder, setHolds, setRequest, _▷_}
 use Rattle.rules.specs.State.{Command, read, write, nowhere, Request, State, Found, foundNowhere}
 use Rattle.rules.specs.Collect.{finished}
-use Rattle.rules.specs.Request.{held, levelsLeft}
+use Rattle.rules.specs.Request.{held}
+use Rattle.rules.specs.Reader.{levelsLeft}
 use Rattle.matching.specs.Keyed.{Key}
 
 -- ---- The calls of a list: an open, which comes first, and later ones; each with the memory and the words lent, and a later one's buffer

@@ -23,7 +23,8 @@ use Rattle.rules.specs.Laws.Kept.{kind-read}
 use Rattle.rules.specs.Blocks
 use Rattle.rules.specs.Levels
 use Rattle.rules.specs.Laws.Range.{range-facts}
-use Rattle.rules.specs.Request.{held, isSource, costs, levelsLeft, slotRead, releasedFor}
+use Rattle.rules.specs.Request.{held, isSource, releasedFor}
+use Rattle.rules.specs.Reader.{condition, slotRead, costs, levelsLeft}
 use Rattle.rules.specs.Shape.{Shape, within}
 use Rattle.rules.specs.Rebuild
 use Rattle.rules.specs.State.{State, Request, read}
@@ -76,7 +77,7 @@ job-slotless s (q ∷ qs) = go (eqb (s .sent) 0) (Rebuild.unread s q) (any (λ c
     go false o a false = refl
 
 costs-hide : (s : State) (r : Request) → s .request ≡ some r → costs (hide s) ((hide s) .partition 0) ≡ costs s (s .partition (r .block))
-unfolding costs isSource Blocks.isUnread
+unfolding costs condition isSource Blocks.isUnread
 costs-hide s r e = rw e
 
 left-hide : (s : State) (r : Request) → s .request ≡ some r → levelsLeft (hide s) (publicRequest (r .evict) (r .level) (r .found) (r .awaits)) ≡ levelsLeft s r

@@ -14,7 +14,9 @@ use Rattle.lists.specs.Distinct.{Mem, index, index-mem, index-at, index-here, i
 use Rattle.lists.specs.Places.{index-map}
 use Rattle.lists.specs.Members.{member-mem, mem-member, mem-below, map-mem, mem-map}
 use Rattle.rules.specs.Laws.Range.{range-facts}
-use Rattle.rules.specs.Request.{isSource, slotIn, dummy, ifUnread, lowest}
+use Rattle.rules.specs.Request.{isSource}
+use Rattle.rules.specs.Reader.{dummy, lowest}
+use Rattle.rules.specs.Laws.Reader.{slotIn, ifUnread}
 use Rattle.rules.specs.Laws.Decided.{StepIn, decide-in}
 use Rattle.rules.specs.Turn
 use Rattle.rules.specs.Turn.{readForRequest, decide}

@@ -15,6 +15,7 @@ use Rattle.lists.specs.Tables.{put, put-same, put-other}
 use Rattle.rules.specs.Laws.Layout.{cell-inj}
 use Rattle.rules.specs.Laws.Range.{InRange}
 use Rattle.rules.specs.Levels.{filled}
+use Rattle.rules.specs.Laws.Reader.{slotIn, ifUnread}
 use Rattle.rules.specs.Request
 use Rattle.rules.specs.Shape.{slots, Shape, cell}
 use Rattle.rules.specs.State.{State, Command, read, Request, cmd, stored}
@@ -171,14 +172,14 @@ module _ (s : State) (f : Reached s) (q ℓ i : ℕ) (d : RequestReads s q ℓ i
           let same : cell h (s .partition (r .block)) m j ≡ cell h q ℓ i = rw (w, ← z) own-cell in
           marks (cell h (s .partition (r .block)) m j) ∙ ap (put (cell h q ℓ i) 0 (s .mark)) same ∙ put-same (cell h q ℓ i) 0 (s .mark)
       here w (inr (inl k)) =
-          let v : Request.slotIn ℓ (stored ℓ j) ≡ none = ap (Request.slotIn ℓ) (ap (λ n. stored n j) (sym w) ∙ sym e) ∙ k .1 in
+          let v : slotIn ℓ (stored ℓ j) ≡ none = ap (slotIn ℓ) (ap (λ n. stored n j) (sym w) ∙ sym e) ∙ k .1 in
           absurd (own-slot ℓ j v)
       here w (inr (inr k)) = still (gone (Blocks.isUnread s q ℓ j) refl)
         where
           gone : (t : Bool) → Blocks.isUnread s q ℓ j ≡ t → s .mark (cell h (s .partition (r .block)) m j) ≡ 0
           gone true u =
-              let v : Request.slotIn ℓ (s .place (r .block)) ≡ some j = ap (Request.slotIn ℓ) (e ∙ ap (λ n. stored n j) w) ∙ slot-here ℓ j in
-              let x : some j ≡ none = sym (if-unread (Blocks.isUnread s q ℓ) j u) ∙ ap (Request.ifUnread (Blocks.isUnread s q ℓ)) (sym v) ∙ k .1 in
+              let v : slotIn ℓ (s .place (r .block)) ≡ some j = ap (slotIn ℓ) (e ∙ ap (λ n. stored n j) w) ∙ slot-here ℓ j in
+              let x : some j ≡ none = sym (if-unread (Blocks.isUnread s q ℓ) j u) ∙ ap (ifUnread (Blocks.isUnread s q ℓ)) (sym v) ∙ k .1 in
               let z : _≡_ {A = ℕ} 0 1 = cc in absurd (omega arith)
           gone false u =
               let v = read-mark s q ℓ j u in

@@ -6,7 +6,7 @@ use borrow.Author.Count.{below-more}
 use Rattle.rules.specs.Request.{worn}
 use Rattle.client.specs.View.{stateOf}
 use Rattle.reading.specs.Sources.{above, beneath}
-use Rattle.reading.specs.Costs.{some-below, none-below, worn-source}
+use Rattle.reading.specs.Conditions.{some-below, none-below, worn-source}
 use Rattle.reading.proofs.is_worn.Statement.{statement}
 use Rattle.reading.proofs.is_worn.Tie as tie
 use Rattle.memory.proofs.tables.counter.Reads as counter-reads

@@ -3,12 +3,12 @@ use Prim.Native.Nat.{_-_, _≤_}
 use native.Mathlib.Omega.{arith}
 use Rattle.lists.specs.Search.{keep, count}
 use Rattle.rules.specs.Levels.{filled}
-use Rattle.rules.specs.Request.{costs}
+use Rattle.rules.specs.Reader.{costing, costs}
 use Rattle.client.specs.Readings.{counter-is}
 use Rattle.client.specs.View.{stateOf}
 use Rattle.levels.specs.Next.{next-same}
 use Rattle.levels.specs.Walks.{kept-hit, kept-miss, kept-done}
-use Rattle.reading.specs.Costs.{costs-above}
+use Rattle.reading.specs.Conditions.{costs-above}
 use Rattle.reading.specs.Sources.{above}
 use Rattle.reading.proofs.next_level.Statement.{statement}
 use Rattle.reading.proofs.next_level.Tie as tie
@@ -39,16 +39,24 @@ returns c =
 loop-holds : tie.Need-loop-holds Inv-loop μ-loop
 loop-holds c = (omega arith, omega arith, refl)
 
+condition-of-requires : tie.Need-condition-of-requires Inv-loop μ-loop
+condition-of-requires c κs = let a = c .before .before .before .before .before .pre in (a .0, a .1, c .loop-test .taken, c .before .before .before .counter .ensures, a .3)
+
 costs-requires : tie.Need-costs-requires Inv-loop μ-loop
-costs-requires c κs = let a = c .before .before .before .before .before .pre in (a .0, a .1, c .loop-test .taken, c .before .before .before .counter .ensures, a .3)
+costs-requires c κs = tt
+
+-- what the loop's level costs, by its condition
+cost : (c : tie.After-costs Inv-loop μ-loop) → let a = c .before .before .before .before .before .before .before .args in c .costs .result ≡ costs (stateOf (a .c) (a .m .now)) (a .q) (c .before .before .before .loop .l)
+unfolding costs
+cost c = c .costs .ensures ∙ ap costing (c .before .condition-of .ensures)
 
 returns-2 : tie.Need-returns-2 Inv-loop μ-loop
 returns-2 c =
-    let l = c .before .before .before .loop in
+    let l = c .before .before .before .before .loop in
     record {
       start = omega arith;
       end = omega arith;
-      some = λ h. l .inv .2 ∙ kept-hit _ _ (l .l) h (sym (c .before .costs .ensures) ∙ c .if2 .taken);
+      some = λ h. l .inv .2 ∙ kept-hit _ _ (l .l) h (sym (cost (c .before)) ∙ c .if2 .taken);
       none = λ h. absurd (omega arith);
     }
 
@@ -60,8 +68,8 @@ loop-less c = omega arith
 
 loop-again : tie.Need-loop-again Inv-loop μ-loop
 loop-again c =
-    let l = c .before .before .before .loop in
-    (omega arith, omega arith, l .inv .2 ∙ kept-miss _ _ (l .l) (omega arith) (sym (c .before .costs .ensures) ∙ c .if2 .left))
+    let l = c .before .before .before .before .loop in
+    (omega arith, omega arith, l .inv .2 ∙ kept-miss _ _ (l .l) (omega arith) (sym (cost (c .before)) ∙ c .if2 .left))
 
 returns-3 : tie.Need-returns-3 Inv-loop μ-loop
 returns-3 c =
@@ -69,4 +77,4 @@ returns-3 c =
     record { start = omega arith; end = omega arith; some = λ h. absurd (omega arith); none = λ h. l .inv .2 ∙ kept-done _ _ (l .l) (omega arith) }
 
 pub next-level-spec : {M : Type 1} → statement M
-next-level-spec = tie.close (tie.spec Inv-loop μ-loop counter-requires next-filled-requires returns loop-holds costs-requires returns-2 add-l loop-less loop-again returns-3)
+next-level-spec = tie.close (tie.spec Inv-loop μ-loop counter-requires next-filled-requires returns loop-holds condition-of-requires costs-requires returns-2 add-l loop-less loop-again returns-3)

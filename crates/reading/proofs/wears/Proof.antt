@@ -5,7 +5,7 @@ use borrow.Author.Tests.{not-true, not-false}
 use Rattle.rules.specs.Levels.{filled}
 use Rattle.client.specs.Readings.{counter-is}
 use Rattle.client.specs.View.{stateOf, view}
-use Rattle.reading.specs.Costs.{worn-empty, worn-other}
+use Rattle.reading.specs.Conditions.{worn-empty, worn-other}
 use Rattle.reading.proofs.wears.Statement.{statement}
 use Rattle.reading.proofs.wears.Tie as tie
 use Rattle.bits.proofs.filled.Reads as filled-reads

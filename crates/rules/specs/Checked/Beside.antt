@@ -1,14 +1,14 @@
--- Document 02, P4, on states that no calls left: what the rules answer to a look-up beside a job that holds it though it has not drawn, and to one that is
--- held and no job is queued. (docs/DECISIONS.md)
+-- Documents 01 and 02 (P4), on states that no calls left: what the rules answer to a look-up beside a job that holds it though it has not drawn, to one
+-- that is held and no job is queued, and to one whose block's slot was read. (docs/DECISIONS.md)
 use mathlib.Core.Path.{_≡_, refl}
 use mathlib.Core.List.{[], _∷_}
 use mathlib.Core.Option.{none, some}
 use Prim.Native.Nat.{ℕ, _-_}
-use lib.Dec.{ltb}
+use lib.Dec.{eqb, ltb}
 use Rattle.lists.specs.Tests.{if_then_else_}
 use Rattle.rules.specs.Shape.{Shape, cell}
-use Rattle.rules.specs.State.{State, cmd, read}
-use Rattle.rules.specs.Setters.{_▷_, setCounter, setOrder, setMark, setQueue, setOutstanding, setRequest}
+use Rattle.rules.specs.State.{State, nowhere, stored, cmd, read}
+use Rattle.rules.specs.Setters.{_▷_, setPlace, setCounter, setOrder, setMark, setHolds, setQueue, setOutstanding, setRequest}
 use Rattle.rules.specs.Open.{fresh}
 use Rattle.rules.specs.Questions.{request, turn, completion, collect, Call}
 use Rattle.rules.specs.Run.{run}
@@ -52,3 +52,11 @@ stuck-released : run stuck (turns ∷ collects ∷ call (completion (cmd read 0 
     ≡ out 10 0 (cmd 0 0 0 0) [] ∷ out 14 0 (cmd 0 0 0 0) [] ∷ out 0 0 (cmd 0 0 0 0) [] ∷ out 0 0 (cmd 1 0 1 1) [] ∷ []
 unfolding model small half turns collects stuck
 stuck-released = refl
+
+-- "The block's slot if its place is there", in a level that is no source, though it was read: block 0 is in slot 0 of level 1
+seen : State
+seen = half 1 ▷ setPlace (λ b. if eqb b 0 then stored 1 0 else nowhere) ▷ setHolds (λ c. if eqb c (cell small 0 1 0) then 1 else 0)
+
+seen-again : run seen (asks ∷ turns ∷ []) ≡ out 0 2 (cmd 0 0 0 0) [] ∷ out 0 0 (cmd 1 0 1 0) [] ∷ []
+unfolding model small half seen asks turns
+seen-again = refl

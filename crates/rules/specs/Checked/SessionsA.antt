@@ -6,7 +6,7 @@ use Rattle.rules.specs.Questions.{opening, request, turn, completion, co
 use Rattle.rules.specs.Run.{Outcome, run}
 use Rattle.rules.specs.Unfold.{model, shape, call, out, outFound}
 
-session0-calls : List Call
+unfoldable pub session0-calls : List Call
 session0-calls =
     (call (opening (shape 1 1 1 1 2 1)) 416 (17782 ∷ []) 0
     ∷ call (request 1 0 []) 416 (65461 ∷ 41340 ∷ 7175 ∷ []) 0
@@ -106,7 +106,7 @@ session0 : run closed session0-calls ≡ session0-outcomes
 unfolding model session0-calls session0-outcomes
 session0 = refl
 
-session1-calls : List Call
+unfoldable pub session1-calls : List Call
 session1-calls =
     (call (opening (shape 3 2 1 2 1 2)) 450 (65293 ∷ 33611 ∷ []) 0
     ∷ call (request 1 0 []) 450 (63446 ∷ 25675 ∷ []) 0
@@ -250,7 +250,7 @@ session1 : run closed session1-calls ≡ session1-outcomes
 unfolding model session1-calls session1-outcomes
 session1 = refl
 
-session2-calls : List Call
+unfoldable pub session2-calls : List Call
 session2-calls =
     (call (opening (shape 2 1 2 1 1 2)) 447 (65482 ∷ 55532 ∷ 41445 ∷ []) 0
     ∷ call (request 1 0 []) 447 (64548 ∷ 21444 ∷ 65522 ∷ []) 0

@@ -6,7 +6,7 @@ use Rattle.rules.specs.Questions.{opening, request, turn, completion, co
 use Rattle.rules.specs.Run.{Outcome, run}
 use Rattle.rules.specs.Unfold.{model, shape, call, out, outFound}
 
-session3-calls : List Call
+unfoldable pub session3-calls : List Call
 session3-calls =
     (call (opening (shape 4 2 2 1 4 2)) 509 (6650 ∷ 58931 ∷ 12528 ∷ 35152 ∷ []) 0
     ∷ call (request 2 1 (20 ∷ [])) 509 (36798 ∷ 29094 ∷ 45194 ∷ []) 0
@@ -178,7 +178,7 @@ session3 : run closed session3-calls ≡ session3-outcomes
 unfolding model session3-calls session3-outcomes
 session3 = refl
 
-session4-calls : List Call
+unfoldable pub session4-calls : List Call
 session4-calls =
     (call (opening (shape 3 2 2 2 2 3)) 506 (65534 ∷ 15947 ∷ 27615 ∷ []) 0
     ∷ call (request 3 2 (54 ∷ 90 ∷ [])) 507 (44546 ∷ 65535 ∷ []) 0

@@ -6,7 +6,7 @@ use Rattle.rules.specs.Questions.{opening, request, turn, completion, co
 use Rattle.rules.specs.Run.{Outcome, run}
 use Rattle.rules.specs.Unfold.{model, shape, call, out, outFound}
 
-session5-calls : List Call
+unfoldable pub session5-calls : List Call
 session5-calls =
     (call (opening (shape 4 1 3 1 3 0)) 509 (4721 ∷ 38390 ∷ 49447 ∷ 64069 ∷ []) 0
     ∷ call (request 1 0 []) 509 (33989 ∷ 44154 ∷ 65534 ∷ []) 0
@@ -186,7 +186,7 @@ session5 : run closed session5-calls ≡ session5-outcomes
 unfolding model session5-calls session5-outcomes
 session5 = refl
 
-session6-calls : List Call
+unfoldable pub session6-calls : List Call
 session6-calls =
     (call (opening (shape 8 4 2 1 8 3)) 633 (44979 ∷ 33960 ∷ 46963 ∷ 65535 ∷ 65535 ∷ 24928 ∷ 6737 ∷ 65353 ∷ []) 0
     ∷ call (request 1 7 (189 ∷ [])) 633 (23783 ∷ 7994 ∷ []) 0

@@ -6,7 +6,7 @@ use Rattle.rules.specs.Questions.{opening, request, turn, completion, co
 use Rattle.rules.specs.Run.{Outcome, run}
 use Rattle.rules.specs.Unfold.{model, shape, call, out, outFound}
 
-session7-calls : List Call
+unfoldable pub session7-calls : List Call
 session7-calls =
     (call (opening (shape 2 3 2 1 2 2)) 495 (41552 ∷ 63928 ∷ []) 0
     ∷ call (request 2 1 (190 ∷ [])) 495 (59473 ∷ 17160 ∷ 1293 ∷ []) 0
@@ -138,7 +138,7 @@ session7 : run closed session7-calls ≡ session7-outcomes
 unfolding model session7-calls session7-outcomes
 session7 = refl
 
-session8-calls : List Call
+unfoldable pub session8-calls : List Call
 session8-calls =
     (call (opening (shape 1 2 3 1 1 3)) 584 (42853 ∷ []) 0
     ∷ call (request 2 0 (244 ∷ [])) 584 (26408 ∷ 44266 ∷ 65534 ∷ []) 0

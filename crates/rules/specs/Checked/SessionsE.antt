@@ -6,7 +6,7 @@ use Rattle.rules.specs.Questions.{opening, request, turn, completion, co
 use Rattle.rules.specs.Run.{Outcome, run}
 use Rattle.rules.specs.Unfold.{model, shape, call, out, outFound}
 
-session9-calls : List Call
+unfoldable pub session9-calls : List Call
 session9-calls =
     (call (opening (shape 1 1 3 1 1 3)) 488 (10947 ∷ 38568 ∷ []) 0
     ∷ call (request 1 0 []) 488 (46358 ∷ 8008 ∷ 40807 ∷ []) 0
@@ -130,7 +130,7 @@ session9 : run closed session9-calls ≡ session9-outcomes
 unfolding model session9-calls session9-outcomes
 session9 = refl
 
-session10-calls : List Call
+unfoldable pub session10-calls : List Call
 session10-calls =
     (call (opening (shape 4 1 3 1 4 3)) 509 (30471 ∷ 25957 ∷ 36430 ∷ 65529 ∷ []) 0
     ∷ call (request 1 3 []) 509 (39661 ∷ 592 ∷ []) 0

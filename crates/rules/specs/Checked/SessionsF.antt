@@ -6,7 +6,7 @@ use Rattle.rules.specs.Questions.{opening, request, turn, completion, co
 use Rattle.rules.specs.Run.{Outcome, run}
 use Rattle.rules.specs.Unfold.{model, shape, call, out, outFound}
 
-session11-calls : List Call
+unfoldable pub session11-calls : List Call
 session11-calls =
     (call (opening (shape 4 2 2 1 4 3)) 509 (39200 ∷ 19273 ∷ 48313 ∷ 5324 ∷ 3857 ∷ []) 0
     ∷ call (request 2 2 (29 ∷ [])) 511 (22864 ∷ 27505 ∷ 21673 ∷ []) 0
@@ -166,7 +166,7 @@ session11 : run closed session11-calls ≡ session11-outcomes
 unfolding model session11-calls session11-outcomes
 session11 = refl
 
-session12-calls : List Call
+unfoldable pub session12-calls : List Call
 session12-calls =
     (call (opening (shape 2 2 2 1 2 2)) 502 (45373 ∷ 28559 ∷ 50532 ∷ []) 0
     ∷ call (request 1 1 []) 495 (7739 ∷ 20283 ∷ []) 0

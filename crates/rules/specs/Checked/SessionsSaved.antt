@@ -6,7 +6,7 @@ use Rattle.rules.specs.Questions.{opening, request, turn, completion, co
 use Rattle.rules.specs.Run.{Outcome, run}
 use Rattle.rules.specs.Unfold.{model, shape, call, out, outFound, zerosThen}
 
-saved0-calls : List Call
+unfoldable pub saved0-calls : List Call
 saved0-calls =
     (call (load (1 ∷ 4 ∷ 0 ∷ 2 ∷ 0 ∷ 2 ∷ 0 ∷ 1 ∷ 0 ∷ 2 ∷ 0 ∷ 2 ∷ 0 ∷ 3 ∷ 0 ∷ 0 ∷ 0 ∷ 1 ∷ 0 ∷ 0 ∷ 0 ∷ 0 ∷ 0 ∷ 254 ∷ 1 ∷ 0 ∷ 254 ∷ 0 ∷ 0 ∷ 1 ∷ 1 ∷ 1 ∷ 0 ∷ 255 ∷ 1 ∷ 0 ∷ 1 ∷ 1 ∷ 3 ∷ 2 ∷ 0 ∷ 1 ∷ 0 ∷ 0 ∷ 0 ∷ 1 ∷ 0 ∷ 0 ∷ 0 ∷ 0 ∷ 155 ∷ 1 ∷ 0 ∷ 1 ∷ 0 ∷ 183 ∷ zerosThen 452 (3 ∷ 16 ∷ 159 ∷ 191 ∷ []))) 509 [] 0
     ∷ call (save) 509 [] 514
@@ -80,7 +80,7 @@ saved0 : run closed saved0-calls ≡ saved0-outcomes
 unfolding model saved0-calls saved0-outcomes
 saved0 = refl
 
-saved1-calls : List Call
+unfoldable pub saved1-calls : List Call
 saved1-calls =
     (call (load (1 ∷ 2 ∷ 0 ∷ 1 ∷ 0 ∷ 2 ∷ 0 ∷ 1 ∷ 0 ∷ 2 ∷ 0 ∷ 2 ∷ 0 ∷ 2 ∷ 0 ∷ 1 ∷ 0 ∷ 0 ∷ 0 ∷ 0 ∷ 0 ∷ 254 ∷ 0 ∷ 0 ∷ 1 ∷ 1 ∷ 3 ∷ 0 ∷ 1 ∷ 2 ∷ 1 ∷ 0 ∷ 1 ∷ 1 ∷ 0 ∷ 0 ∷ 0 ∷ 0 ∷ 177 ∷ zerosThen 469 (4 ∷ 10 ∷ 182 ∷ 5 ∷ []))) 447 [] 0
     ∷ call (turn) 447 [] 1
@@ -132,7 +132,7 @@ saved1 : run closed saved1-calls ≡ saved1-outcomes
 unfolding model saved1-calls saved1-outcomes
 saved1 = refl
 
-saved2-calls : List Call
+unfoldable pub saved2-calls : List Call
 saved2-calls =
     (call (opening (shape 2 2 1 240 2 1)) 1164 (60519 ∷ 51467 ∷ []) 0
     ∷ call (request 2 0 (0 ∷ 0 ∷ 0 ∷ 0 ∷ 0 ∷ 0 ∷ 0 ∷ 7 ∷ zerosThen 232 [])) 1164 (15525 ∷ 15784 ∷ []) 0
@@ -172,7 +172,7 @@ saved2 : run closed saved2-calls ≡ saved2-outcomes
 unfolding model saved2-calls saved2-outcomes
 saved2 = refl
 
-saved3-calls : List Call
+unfoldable pub saved3-calls : List Call
 saved3-calls =
     (call (opening (shape 2 2 2 1 2 2)) 495 (24787 ∷ 28992 ∷ 21076 ∷ []) 0
     ∷ call (request 1 1 []) 495 (39650 ∷ 52616 ∷ 65415 ∷ []) 0
@@ -264,7 +264,7 @@ saved3 : run closed saved3-calls ≡ saved3-outcomes
 unfolding model saved3-calls saved3-outcomes
 saved3 = refl
 
-saved4-calls : List Call
+unfoldable pub saved4-calls : List Call
 saved4-calls =
     (call (opening (shape 4 2 2 1 3 2)) 509 (14776 ∷ 65327 ∷ 34455 ∷ 43981 ∷ []) 0
     ∷ call (request 1 0 []) 509 (60695 ∷ 10209 ∷ 13479 ∷ []) 0
@@ -324,7 +324,7 @@ saved4 : run closed saved4-calls ≡ saved4-outcomes
 unfolding model saved4-calls saved4-outcomes
 saved4 = refl
 
-saved5-calls : List Call
+unfoldable pub saved5-calls : List Call
 saved5-calls =
     (call (opening (shape 2 1 2 2 2 2)) 450 (14990 ∷ 65340 ∷ 2729 ∷ []) 0
     ∷ call (save) 449 [] 512

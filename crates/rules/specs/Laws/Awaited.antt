@@ -23,7 +23,8 @@ use Rattle.rules.specs.Blocks.{holder, lookUp}
 use Rattle.rules.specs.Open.{fresh}
 use Rattle.rules.specs.Questions.{Ask, opening, request, turn, completion, collect, save, load, Call, bounds, questions, number, inHand}
 use Rattle.rules.specs.Rebuild.{doRebuild}
-use Rattle.rules.specs.Request.{accept, blocked, held, levelsLeft, withFound, releasedIn, release, passLevel}
+use Rattle.rules.specs.Request.{accept, blocked, held, withFound, releasedIn, release, passLevel}
+use Rattle.rules.specs.Reader.{levelsLeft}
 use Rattle.rules.specs.Run
 use Rattle.rules.specs.Run.{perform, step, after}
 use Rattle.rules.specs.State.{State, Command, cmd, read, write, Request}
@@ -82,7 +83,7 @@ record Awaits (xs : List Command) (b q : ℕ) (s : State) : Type 0 where
   few : length xs ≤ hand .awaits
 
 -- a request that is not held is not released again
-release-free : (s : State) (r : Request) → s .request ≡ some r → held r ≡ false → release s .request ≡ some r
+pub release-free : (s : State) (r : Request) → s .request ≡ some r → held r ≡ false → release s .request ≡ some r
 release-free s r e u = ap (Option·map (releasedIn s)) e ∙ ap some (unfold releasedIn in (rw u))
 
 module _ {xs : List Command} {b q : ℕ} where
@@ -230,7 +231,7 @@ module _ {b q : ℕ} where
 -- ---- The release
 
 -- a request, if there is one, is held
-abbrev Holds : Option Request → Type 0
+abbrev pub Holds : Option Request → Type 0
 Holds o = (r : Request) → o ≡ some r → held r ≡ true
 
 one : {x y : Request} → some x ≡ some y → x ≡ y
@@ -258,7 +259,7 @@ turn-held s (readForJob q ℓ i) js h = h
 turn-held s (rebuild q t) js h = h
 turn-held s (writeNext q t i) js h = h
 
-perform-held : (s : State) (a : Ask) (js : List ℕ) → Holds (s .request) → Holds (perform s a js .request)
+pub perform-held : (s : State) (a : Ask) (js : List ℕ) → Holds (s .request) → Holds (perform s a js .request)
 unfolding perform
 perform-held s (opening h) js k = unfold fresh in no-hand
 perform-held s (request j b bs) js k = λ r w. unfold accept in (ap held (sym (one (unfold accept in w))) ∙ unfold held isNone in refl)

@@ -12,6 +12,8 @@ use Rattle.lists.specs.Search
 use Rattle.lists.specs.Search.{below, orElse}
 use Rattle.lists.specs.All.{All, nil, cons, IfSome, all-map, all-append, all-keep, find-all, count-below, map-below, below-below}
 use Rattle.rules.specs.Blocks
+use Rattle.rules.specs.Reader
+use Rattle.rules.specs.Laws.Reader.{slotIn, ifUnread, slotSaid, slotRead-is}
 use Rattle.rules.specs.Request
 use Rattle.rules.specs.Rebuild
 use Rattle.rules.specs.Rebuild.{places}
@@ -43,8 +45,8 @@ places-in (suc n) = all-append (all-map (λ p h. (omega arith, h .1)) (places-in
     go [] nil = nil
     go (x ∷ xs) (cons k t) = let here : (n < suc n) × (x < slots n) = (omega arith, k) in cons here (go xs t)
 
-pub slotIn-in : (top ℓ : ℕ) (x : Place) → PlaceIn top x → IfSome (λ i. i < slots ℓ) (Request.slotIn ℓ x)
-unfolding Request.slotIn
+pub slotIn-in : (top ℓ : ℕ) (x : Place) → PlaceIn top x → IfSome (λ i. i < slots ℓ) (slotIn ℓ x)
+unfolding slotIn
 slotIn-in top ℓ nowhere h = tt
 slotIn-in top ℓ (stored m i) h = go (eqb m ℓ) refl
   where
@@ -57,8 +59,8 @@ unfolding orElse
 orElse-in P none b h k = k
 orElse-in P (some x) b h k = h
 
-pub ifUnread-in : (P : ℕ → Type 0) (p : ℕ → Bool) (o : Option ℕ) → IfSome P o → IfSome P (Request.ifUnread p o)
-unfolding Request.ifUnread
+pub ifUnread-in : (P : ℕ → Type 0) (p : ℕ → Bool) (o : Option ℕ) → IfSome P o → IfSome P (ifUnread p o)
+unfolding ifUnread
 ifUnread-in P p none h = tt
 ifUnread-in P p (some i) h = go (p i)
   where
@@ -67,25 +69,26 @@ ifUnread-in P p (some i) h = go (p i)
     go false = tt
 
 module _ (s : State) (f : InRange s) where
-  pub dummy-in : (q ℓ : ℕ) → q < s .shape .P → ℓ < s .shape .L → IfSome (λ i. i < slots ℓ) (Request.dummy s q ℓ)
-  unfolding Request.dummy
+  pub dummy-in : (q ℓ : ℕ) → q < s .shape .P → ℓ < s .shape .L → IfSome (λ i. i < slots ℓ) (Reader.dummy s q ℓ)
+  unfolding Reader.dummy
   dummy-in q ℓ hq hℓ = find-all _ (map-below (λ i. i < slots ℓ) (λ k. s .order (cell (s .shape) q ℓ k)) (slots ℓ) (λ i k. f .orders q ℓ i hq hℓ k))
 
-  pub lowest-in : (q ℓ : ℕ) → q < s .shape .P → ℓ < s .shape .L → IfSome (λ i. i < slots ℓ) (Request.lowest s q ℓ)
-  unfolding Request.lowest
+  pub lowest-in : (q ℓ : ℕ) → q < s .shape .P → ℓ < s .shape .L → IfSome (λ i. i < slots ℓ) (Reader.lowest s q ℓ)
+  unfolding Reader.lowest
   lowest-in q ℓ hq hℓ = find-all _ (map-below (λ i. i < slots ℓ) (λ k. s .order (cell (s .shape) q ℓ k)) (slots ℓ) (λ i k. f .orders q ℓ i hq hℓ k))
 
-  pub slotRead-in : (q ℓ : ℕ) (x : Place) → q < s .shape .P → ℓ < s .shape .L → PlaceIn (s .shape .L) x → IfSome (λ i. i < slots ℓ) (Request.slotRead s q x ℓ)
-  unfolding Request.slotRead
-  slotRead-in q ℓ x hq hℓ hx = go (Request.isSource s q ℓ)
+  pub slotRead-in : (q ℓ : ℕ) (x : Place) → q < s .shape .P → ℓ < s .shape .L → PlaceIn (s .shape .L) x → IfSome (λ i. i < slots ℓ) (Reader.slotRead s q x ℓ)
+  unfolding slotSaid
+  slotRead-in q ℓ x hq hℓ hx = rw (slotRead-is s q x ℓ) (go (Reader.costs s q ℓ) (Request.isSource s q ℓ))
     where
-      go : (t : Bool) → IfSome (λ i. i < slots ℓ) (if t then orElse (Request.ifUnread (Blocks.isUnread s q ℓ) (Request.slotIn ℓ x)) (Request.lowest s q ℓ) else orElse (Request.slotIn ℓ x) (Request.dummy s q ℓ))
-      go true = orElse-in (λ i. i < slots ℓ) (Request.ifUnread (Blocks.isUnread s q ℓ) (Request.slotIn ℓ x)) (Request.lowest s q ℓ)
-          (ifUnread-in (λ i. i < slots ℓ) (Blocks.isUnread s q ℓ) (Request.slotIn ℓ x) (slotIn-in (s .shape .L) ℓ x hx)) (lowest-in q ℓ hq hℓ)
-      go false = orElse-in (λ i. i < slots ℓ) (Request.slotIn ℓ x) (Request.dummy s q ℓ) (slotIn-in (s .shape .L) ℓ x hx) (dummy-in q ℓ hq hℓ)
+      go : (t u : Bool) → IfSome (λ i. i < slots ℓ) (if t then slotSaid u (Blocks.isUnread s q ℓ) (Reader.dummy s q ℓ) (Reader.lowest s q ℓ) x ℓ else none)
+      go false u = tt
+      go true true = orElse-in (λ i. i < slots ℓ) (ifUnread (Blocks.isUnread s q ℓ) (slotIn ℓ x)) (Reader.lowest s q ℓ)
+          (ifUnread-in (λ i. i < slots ℓ) (Blocks.isUnread s q ℓ) (slotIn ℓ x) (slotIn-in (s .shape .L) ℓ x hx)) (lowest-in q ℓ hq hℓ)
+      go true false = orElse-in (λ i. i < slots ℓ) (slotIn ℓ x) (Reader.dummy s q ℓ) (slotIn-in (s .shape .L) ℓ x hx) (dummy-in q ℓ hq hℓ)
 
-  pub levels-in : (r : Request) → r .level ≤ s .shape .L → All (λ ℓ. ℓ < s .shape .L) (Request.levelsLeft s r)
-  unfolding Request.levelsLeft
+  pub levels-in : (r : Request) → r .level ≤ s .shape .L → All (λ ℓ. ℓ < s .shape .L) (Reader.levelsLeft s r)
+  unfolding Reader.levelsLeft
   levels-in r h = all-keep _ (all-map (λ x k. omega arith) (count-below (r .level) (s .shape .L - r .level)))
 
   pub readStep-in : (q ℓ : ℕ) (o : Option ℕ) → q < s .shape .P → ℓ < s .shape .L → IfSome (λ i. i < slots ℓ) o → StepIn (s .shape) (Turn.readStep q ℓ o)
@@ -94,10 +97,10 @@ module _ (s : State) (f : InRange s) where
   readStep-in q ℓ (some i) hq hℓ h = (hq, hℓ, h)
 
   pub firstRead-in : (q : ℕ) (x : Place) (ls : List ℕ) → q < s .shape .P → PlaceIn (s .shape .L) x → All (λ ℓ. ℓ < s .shape .L) ls
-      → IfSome (StepIn (s .shape)) (Turn.firstRead q (Request.slotRead s q x) ls)
+      → IfSome (StepIn (s .shape)) (Turn.firstRead q (Reader.slotRead s q x) ls)
   unfolding Turn.firstRead
   firstRead-in q x [] hq hx h = tt
-  firstRead-in q x (ℓ ∷ ls) hq hx (cons h t) = readStep-in q ℓ (Request.slotRead s q x ℓ) hq h (slotRead-in q ℓ x hq h hx)
+  firstRead-in q x (ℓ ∷ ls) hq hx (cons h t) = readStep-in q ℓ (Reader.slotRead s q x ℓ) hq h (slotRead-in q ℓ x hq h hx)
 
   pub requestStep-in : (r : Option Request) → IfSome (RequestIn (s .shape)) r → IfSome (StepIn (s .shape)) (Turn.requestStep s r)
   unfolding Turn.requestStep
@@ -107,9 +110,9 @@ module _ (s : State) (f : InRange s) where
       q : ℕ
       q = s .partition (r .block)
 
-      go : (t : Bool) → IfSome (StepIn (s .shape)) (if t then none else Turn.firstRead q (Request.slotRead s q (s .place (r .block))) (Request.levelsLeft s r))
+      go : (t : Bool) → IfSome (StepIn (s .shape)) (if t then none else Turn.firstRead q (Reader.slotRead s q (s .place (r .block))) (Reader.levelsLeft s r))
       go true = tt
-      go false = firstRead-in q (s .place (r .block)) (Request.levelsLeft s r) (f .partitions (r .block) (h .block)) (f .places (r .block) (h .block)) (levels-in r (h .level))
+      go false = firstRead-in q (s .place (r .block)) (Reader.levelsLeft s r) (f .partitions (r .block) (h .block)) (f .places (r .block) (h .block)) (levels-in r (h .level))
 
   pub gatherStep-in : (q : ℕ) (o : Option (ℕ × ℕ)) (x : Step) → q < s .shape .P → IfSome (λ (p : ℕ × ℕ). (p .0 < s .shape .L) × (p .1 < slots (p .0))) o → StepIn (s .shape) x → StepIn (s .shape) (Turn.gatherStep q o x)
   unfolding Turn.gatherStep

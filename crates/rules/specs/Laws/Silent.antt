@@ -27,6 +27,7 @@ use Rattle.rules.specs.Memory.{needed}
 use Rattle.rules.specs.Rebuild
 use Rattle.rules.specs.Questions
 use Rattle.rules.specs.Questions.{Ask, opening, request, turn, completion, collect, save, load, Call, bounds, questions, number}
+use Rattle.rules.specs.Reader
 use Rattle.rules.specs.Request
 use Rattle.rules.specs.Request.{held, release}
 use Rattle.rules.specs.Run
@@ -131,7 +132,7 @@ inHand-without (some r) = refl
 
 module _ (s : State) where
   requestStep-without : (o : Option Request) → Turn.requestStep (withoutFound s) (without o) ≡ Turn.requestStep s o
-  unfolding Turn.requestStep Request.levelsLeft Request.costs Request.slotRead Request.isSource Request.dummy Request.lowest Blocks.isUnread Blocks.holder
+  unfolding Turn.requestStep Reader.levelsLeft Reader.costs Reader.condition Reader.slotRead Reader.readLevel Reader.readReal Reader.readFake Request.isSource Reader.dummy Reader.lowest Blocks.isUnread Blocks.holder
   requestStep-without none = refl
   requestStep-without (some r) = rw (held-same r)
 
@@ -159,7 +160,7 @@ module _ (s : State) where
   possible-without (writeNext q t i) = refl
 
   finished-without : (o : Option Request) → Questions.inHand (Collect.finished (withoutFound s)) (without o) ≡ Questions.inHand (Collect.finished s) o
-  unfolding Questions.inHand Collect.finished Request.levelsLeft Request.costs Request.isSource Blocks.isUnread
+  unfolding Questions.inHand Collect.finished Reader.levelsLeft Reader.costs Reader.condition Request.isSource Blocks.isUnread
   finished-without none = refl
   finished-without (some r) = rw (held-same r)
 

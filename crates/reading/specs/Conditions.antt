@@ -1,21 +1,36 @@
--- What a level costs a look-up, and whether it has been read as often as it has dummies, by counts of its slots.
+-- The conditions of levels, and whether one has been read as often as it has dummies, by counts of their slots.
 use mathlib.Core.Path.{_≡_, refl, ap, sym, _∙_}
-use mathlib.Core.Bool.{Bool, true, false, not, _&&_, true≢false}
+use mathlib.Core.Bool.{Bool, true, false, not, _&&_, _||_, true≢false}
 use Prim.Native.Nat.{ℕ, zero, suc, _+_, _-_, _^_, _≤_, _<_}
 use native.Mathlib.Omega.{arith}
 use native.Mathlib.Decide.{ℕ-discrete}
 use lib.Dec.{leb, ltb}
-use borrow.Author.Tests.{eqb-true, eq-eqb, lt-ltb, ltb-true}
+use borrow.Author.Tests.{eqb-true, eq-eqb, lt-ltb, le-ltb, ltb-true}
 use Rattle.lists.specs.All.{any-none, any-all, below-below}
 use Rattle.lists.specs.Members.{all-mem, below-mem}
 use Rattle.lists.specs.Search.{any, below}
-use Rattle.lists.specs.Tests.{both-true}
+use Rattle.lists.specs.Tests.{if_then_else_, both-true}
 use Rattle.lists.specs.Totals.{total, total-gap, total-none}
 use Rattle.rules.specs.Shape.{slots, cell}
 use Rattle.rules.specs.State.{State}
 use Rattle.rules.specs.Levels.{filled}
 use Rattle.rules.specs.Blocks.{isUnread, readsOf}
-use Rattle.rules.specs.Request.{isSource, worn, costs}
+use Rattle.rules.specs.Request.{isSource, worn}
+use Rattle.rules.specs.Reader as Reader
+use Rattle.rules.specs.Reader.{empty, unmarked, allRead, someUnread, conditionBy, condition, costing, costs}
+use Rattle.rules.specs.Laws.Reader.{costs-is}
+use Rattle.reading.specs.declared.Condition.{Condition}
+use Rattle.reading.specs.declared.Condition.the-variants.{Empty, Unmarked, AllRead, SomeUnread}
+
+abbrev pub conditionOf : Condition → Reader.Condition
+conditionOf Empty = empty
+conditionOf Unmarked = unmarked
+conditionOf AllRead = allRead
+conditionOf SomeUnread = someUnread
+
+-- level ℓ costs a read, as one that is marked for shuffling or as another
+abbrev pub ReadAs : State → ℕ → ℕ → Bool → Type 0
+ReadAs s q ℓ marked = condition s q ℓ ≡ (if marked then someUnread else unmarked)
 
 -- ---- Tests over the numbers below n
 module _ (p : ℕ → Bool) (n : ℕ) where
@@ -70,25 +85,43 @@ module _ (s : State) (q ℓ : ℕ) (marks : (i : ℕ) → i < slots ℓ → s .m
           let x = total-gap (slots ℓ) f g (omega (arith, z, ltb-true (total (slots ℓ) f) (slots ℓ) w)) in
           some-below (isUnread s q ℓ) (slots ℓ) (x .0) (x .1 .0) (eq-eqb (s .mark (cell (s .shape) q ℓ (x .0))) 1 (omega (arith, x .1 .1, marks (x .0) (x .1 .0))))
 
-  pub costs-source : filled (s .counter q) ℓ ≡ true → isSource s q ℓ ≡ true → costs s q ℓ ≡ ltb reads (slots ℓ)
-  unfolding costs
-  costs-source a b = rw (a, b) unread-left
+  pub has-unread : filled (s .counter q) ℓ ≡ true → isSource s q ℓ ≡ true → reads < slots ℓ → someUnread ≡ condition s q ℓ
+  unfolding condition conditionBy
+  has-unread a b l = sym (rw (a, b, unread-left, lt-ltb reads (slots ℓ) l))
+
+  pub all-read : filled (s .counter q) ℓ ≡ true → isSource s q ℓ ≡ true → slots ℓ ≤ reads → allRead ≡ condition s q ℓ
+  unfolding condition conditionBy
+  all-read a b l = sym (rw (a, b, unread-left, le-ltb reads (slots ℓ) l))
 
 module _ (s : State) (q ℓ : ℕ) where
-  pub costs-empty : filled (s .counter q) ℓ ≡ false → costs s q ℓ ≡ false
-  unfolding costs
-  costs-empty a = rw a
+  pub is-empty : filled (s .counter q) ℓ ≡ false → empty ≡ condition s q ℓ
+  unfolding condition conditionBy
+  is-empty a = sym (rw a)
 
-  pub costs-other : filled (s .counter q) ℓ ≡ true → isSource s q ℓ ≡ false → costs s q ℓ ≡ true
-  unfolding costs
-  costs-other a b = rw (a, b)
+  pub is-unmarked : filled (s .counter q) ℓ ≡ true → isSource s q ℓ ≡ false → unmarked ≡ condition s q ℓ
+  unfolding condition conditionBy
+  is-unmarked a b = sym (rw (a, b))
 
+  -- a level that is not marked costs a read if it is filled
   pub costs-above : isSource s q ℓ ≡ false → costs s q ℓ ≡ filled (s .counter q) ℓ
-  costs-above b = go (filled (s .counter q) ℓ) refl
+  costs-above b = costs-is s q ℓ ∙ ap (λ t. filled (s .counter q) ℓ && (not t || any (isUnread s q ℓ) (below (slots ℓ)))) b ∙ go (filled (s .counter q) ℓ)
     where
-      go : (t : Bool) → filled (s .counter q) ℓ ≡ t → costs s q ℓ ≡ filled (s .counter q) ℓ
-      go true a = costs-other a b ∙ sym a
-      go false a = costs-empty a ∙ sym a
+      go : (t : Bool) → (t && true) ≡ t
+      go true = refl
+      go false = refl
+
+  -- one that costs a read is in the condition that its mark says
+  pub read-as : (t : Bool) → isSource s q ℓ ≡ t → costs s q ℓ ≡ true → ReadAs s q ℓ t
+  unfolding costs condition costing conditionBy
+  read-as t b k = go (filled (s .counter q) ℓ) (isSource s q ℓ) (any (isUnread s q ℓ) (below (slots ℓ))) t b k
+    where
+      go : (full source left t : Bool) → source ≡ t → costing (conditionBy full source left) ≡ true → conditionBy full source left ≡ (if t then someUnread else unmarked)
+      go false source left t b k = absurd (true≢false (sym k))
+      go true true true true b k = refl
+      go true true false true b k = absurd (true≢false (sym k))
+      go true true left false b k = absurd (true≢false b)
+      go true false left true b k = absurd (true≢false (sym b))
+      go true false left false b k = refl
 
   pub worn-empty : filled (s .counter q) ℓ ≡ false → worn s q ℓ ≡ false
   unfolding worn

@@ -1,0 +1,35 @@
+//! The reads that turns told for the requests of a session, each from its
+//! release to its collect. They are the commands of turns that had a request's
+//! read to send, so that the partition reader can be compared with them.
+
+use crate::calls::{Ask, Call, Store};
+use crate::mistakes::Mistake;
+use crate::situations::is_released;
+use crate::state::{State, Step};
+
+/// The level and slot of each read of one request.
+pub type Reads = Vec<(usize, usize)>;
+
+/// Those of each release in turn, or nothing if a released request is not
+/// collected.
+pub fn reads(calls: &[Call]) -> Option<Vec<Reads>> {
+    let mut store = Store::new(Mistake::None);
+    let mut all: Vec<Reads> = Vec::new();
+    let mut collected = 0;
+    for call in calls {
+        let released = is_released(&store);
+        let step = store.state.as_ref().and_then(State::step);
+        let outcome = store.call(call);
+        match (&call.ask, outcome.number, step, all.last_mut()) {
+            (Ask::Turn, 0, Some(Step::RequestRead(_)), Some(reads)) => {
+                reads.push((outcome.command.level, outcome.command.slot));
+            }
+            (Ask::Collect, 0, _, _) => collected += 1,
+            _ => {}
+        }
+        if is_released(&store) && !released {
+            all.push(Reads::new());
+        }
+    }
+    (collected == all.len()).then_some(all)
+}
