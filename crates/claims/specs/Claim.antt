@@ -1,12 +1,13 @@
 -- Demands 2 and 3 for exported calls, as a host program makes them: an open, then any calls. Each is handed the 76 bytes of state and the memory
 -- that the last one left, or a part of that memory from its start; a load may be handed any. All that is known of a call is its contract.
 -- To believe the claims, read this file, `Exported`, `Opened` and `Loaded` of crate `exports`, `foundAs` of crate `client`, the claims of crates `array` and
--- `hiding`, and of crate `rules` the runs of Run.antt and Silent.antt, `Resumes` and `firstFound` of Laws/Found.antt. They are proved in Theorem.antt, one
--- each in Found.antt and Tapes.antt, the last in Words.antt.
+-- `hiding`, of crate `rules` the runs of Run.antt and Silent.antt, Reader.antt, `Resumes`, and `firstFound` of Laws/Found.antt, and Terms.antt of crate
+-- `reachable`. They are proved in Theorem.antt, one each in Found.antt, Reads.antt and Tapes.antt, the last in Words.antt.
 use mathlib.Core.Path.{_≡_}
 use mathlib.Core.Logic.{_⊎_}
 use mathlib.Core.Bool.{false, _&&_}
 use mathlib.Core.List.{List, [], _∷_, _++_, map}
+use mathlib.Core.Option.{some}
 use Prim.Native.Nat.{ℕ, suc, _≤_, _<_}
 use lib.ListN.{length, take}
 use lib.Dec.{eqb}
@@ -14,10 +15,13 @@ use Rattle.lists.specs.All.{All}
 use Rattle.lists.specs.Tests.{if_then_else_}
 use Rattle.rules.specs.Silent.{untold, runUnseen}
 use Rattle.rules.specs.Shape.{Shape}
-use Rattle.rules.specs.State.{closed, write}
+use Rattle.rules.specs.State.{closed, write, Command, Request}
 use Rattle.rules.specs.Questions.{Ask, opening, request, turn, completion, collect, save, load, Call}
 use Rattle.rules.specs.Laws.Answers.{opens}
+use Rattle.rules.specs.Laws.Awaited.{Holds}
 use Rattle.rules.specs.Laws.Found.{firstFound}
+use Rattle.rules.specs.Reader.{readPartition}
+use Rattle.rules.specs.Request.{held}
 use Rattle.rules.specs.Resumes.{Resumes}
 use Rattle.rules.specs.Run.{Outcome, run, after}
 use Rattle.memory.specs.Fits.{shapeOf}
@@ -26,6 +30,7 @@ use Rattle.tape.specs.Tape.{wordsOf}
 use Rattle.contract.specs.Meets.{callOf, commandOf}
 use Rattle.codec.specs.Codec.{answerOf, stateLength}
 use Rattle.exports.specs.Exported.{clientIn, mostWords, lookedAt, Exported, Opened, Loaded}
+use Rattle.reachable.specs.Terms.{OfSaved, commandsTold, asRead}
 use Rattle.array.specs.Claim.{Slots, Host, Expected, Honest, Plain}
 use Rattle.array.specs.Served.{served}
 use Rattle.hiding.specs.Chosen.{Told, Choice, opened, Chosen, Uses}
@@ -147,6 +152,17 @@ FoundClaim = (xs ys : List Made) (x y : Made) (k b : ℕ) (bs : List ℕ) → Fr
     → All (λ z. (opens (z .ask) ≡ false) × (z .ask ≡ collect → outcomeOf z .number ≡ 0 → ⊥)) ys
     → y .ask ≡ collect → outcomeOf y .number ≡ 0
     → outcomeOf y .found ≡ firstFound (after closed (map callMade (xs ++ (x ∷ [])))) b (map callMade ys)
+
+-- Document 02, P6: "one definition in that order is proved to give exactly the reads sent". In a run x is the call after which a request r is released, its
+-- acceptance or a later one (before it none is in hand, or one that is held), and y the accepted collect of it; loads before x are of saved forms. The
+-- commands told between them are the reads that the partition reader gives in the state that x left, in its order, and then others
+abbrev pub ReadsClaim : Type 0
+ReadsClaim = (xs ys : List Made) (x y : Made) (r : Request) → FromOpen (xs ++ (x ∷ (ys ++ (y ∷ [])))) → All (λ (z : Made). OfSaved (z .ask)) xs →
+    let now = after closed (map callMade (xs ++ (x ∷ []))) in
+    Holds (after closed (map callMade xs) .request) → now .request ≡ some r → held r ≡ false
+    → All (λ z. (opens (z .ask) ≡ false) × (z .ask ≡ collect → outcomeOf z .number ≡ 0 → ⊥)) ys
+    → y .ask ≡ collect → outcomeOf y .number ≡ 0
+    → (rest : List Command) × (commandsTold (map outcomeOf ys) ≡ map (asRead (now .partition (r .block))) (readPartition now (r .block)) ++ rest)
 
 -- Demand 2: with an honest host, what is collected is a plain array's, also through loads of what was just saved
 abbrev pub ArrayClaim : Type 0

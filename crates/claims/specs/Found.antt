@@ -14,15 +14,15 @@ use Rattle.exports.specs.Exported.{clientIn}
 use Rattle.claims.specs.Claim.{Made, Runs, Opens, callMade, outcomeOf, FoundClaim}
 use Rattle.claims.specs.Steps.{made-step}
 
-abbrev Quiet : Made → Type 0
+abbrev pub Quiet : Made → Type 0
 Quiet z = (opens (z .ask) ≡ false) × (z .ask ≡ collect → outcomeOf z .number ≡ 0 → ⊥)
 
 -- the number of a call is that of the rules
-told-number : (s : State) (x : Made) → outcomeOf x ≡ step s (callMade x) .1 → outcomeOf x .number ≡ number s (callMade x)
+pub told-number : (s : State) (x : Made) → outcomeOf x ≡ step s (callMade x) .1 → outcomeOf x .number ≡ number s (callMade x)
 told-number s x e = ap (λ (o : Outcome). o .number) e ∙ step-number s (callMade x)
 
 -- the calls up to the collect, from the state that the request left
-collected-found : (st m : List ℕ) (ys : List Made) (y : Made) → Runs st m (ys ++ (y ∷ [])) → All Quiet ys →
+pub collected-found : (st m : List ℕ) (ys : List Made) (y : Made) → Runs st m (ys ++ (y ∷ [])) → All Quiet ys →
     Between (stateOf (clientIn st) m) (map callMade ys) × (outcomeOf y ≡ step (after (stateOf (clientIn st) m) (map callMade ys)) (callMade y) .1)
 unfolding after
 collected-found st m [] y k nil = (tt, made-step st m (k .0) y (k .1 .0) .0)
@@ -51,7 +51,7 @@ found-from st m (z ∷ xs) ys x y k b bs r a n q c o =
     found-from (z .state′) (z .memory′ ++ r .0) xs ys x y k b bs (r .1 .1) a n q c o ∙ ap (λ s. firstFound (after s (map callMade (xs ++ (x ∷ [])))) b (map callMade ys)) (w .1)
 
 -- the first call is an open, which has no regard for the state before it
-after-open : (s : State) (xs ys : List Made) (x : Made) → Opens (xs ++ (x ∷ ys)) → after s (map callMade (xs ++ (x ∷ []))) ≡ after closed (map callMade (xs ++ (x ∷ [])))
+pub after-open : (s : State) (xs ys : List Made) (x : Made) → Opens (xs ++ (x ∷ ys)) → after s (map callMade (xs ++ (x ∷ []))) ≡ after closed (map callMade (xs ++ (x ∷ [])))
 unfolding after
 after-open s [] ys x o = ap (λ (t : State × Outcome). t .0) (open-first s (callMade x) (o .0) (o .1))
 after-open s (z ∷ xs) ys x o = ap (λ (t : State × Outcome). after (t .0) (map callMade (xs ++ (x ∷ [])))) (open-first s (callMade z) (o .0) (o .1))

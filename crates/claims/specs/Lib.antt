@@ -4,6 +4,7 @@ pub mod Claim
 pub mod Theorem
 pub mod Tapes
 pub mod Found
+pub mod Reads
 -- A small run, computed; and one in which every call is accepted
 pub mod Example
 pub mod Accepted

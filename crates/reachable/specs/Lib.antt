@@ -4,6 +4,7 @@
 --   Reached: every call keeps that record.
 pub mod Terms
 pub mod Theorems
+pub mod Reads
 pub mod Live
 pub mod Invariant
 pub mod Saved
@@ -28,6 +29,10 @@ pub mod Settled
 pub mod Leaves
 pub mod Found
 pub mod Sends
+-- and, for document 02's P6: the partition reader's reads in a state
+pub mod ReadsLeft
+pub mod ReadsSent
+pub mod ReadsRun
 -- Underneath: bits of counters, cells of levels, a search from a cursor, pending jobs and requests, stored and gathered blocks by places
 -- and by slots, lists of commands
 pub mod Bits

@@ -1,16 +1,19 @@
 -- Words that the theorems use: nothing of the invariant.
 use mathlib.Core.Path.{_≡_}
-use mathlib.Core.Bool.{_&&_, false}
-use mathlib.Core.List.{List, [], _∷_}
+use mathlib.Core.Bool.{Bool, true, false, _&&_}
+use mathlib.Core.List.{List, [], _∷_, _++_, map}
+use mathlib.Core.Option.{Option, none, some}
 use Prim.Native.Nat.{ℕ, _^_, _≤_, _<_}
 use lib.Dec.{eqb, ltb}
 use Rattle.rules.specs.Laws.Answers.{opens}
-use Rattle.rules.specs.Questions.{Ask, opening, request, turn, completion, collect, save, load, Call}
+use Rattle.rules.specs.Questions.{Ask, opening, request, turn, completion, collect, save, load, Call, number}
 use Rattle.lists.specs.All.{All}
+use Rattle.lists.specs.Search.{keep}
 use Rattle.lists.specs.Tests.{if_then_else_}
 use Rattle.rules.specs.Run.{Outcome, step}
 use Rattle.rules.specs.Shape.{Shape, cell, slots}
 use Rattle.rules.specs.State.{State, Command, cmd, read, write}
+use Rattle.rules.specs.Turn.{Step, idle, noDummy, readForRequest, readForJob, rebuild, writeNext, decide}
 
 -- ---- States that calls left
 
@@ -73,3 +76,45 @@ pub record LowestUnread (h : Shape) (order mark : ℕ → ℕ) (q ℓ n i : ℕ)
   pub slot : order (cell h q ℓ item) ≡ i
   pub unread : mark (cell h q ℓ i) ≡ 1
   pub lower : (j : ℕ) → n ≤ j → j < item → mark (cell h q ℓ (order (cell h q ℓ j))) ≡ 0
+
+-- ---- Document 02, P6: the reads that turns send for the request in hand
+
+-- the first of these reads of q, as a turn's step
+unfoldable pub firstOf : ℕ → List (ℕ × ℕ) → Option Step
+firstOf q [] = none
+firstOf q (p ∷ ps) = some (readForRequest q (p .0) (p .1))
+
+-- the read that a step sends for the request: level and slot
+unfoldable pub ownReads : Step → List (ℕ × ℕ)
+ownReads idle = []
+ownReads noDummy = []
+ownReads (readForRequest q ℓ i) = (ℓ, i) ∷ []
+ownReads (readForJob q ℓ i) = []
+ownReads (rebuild q t) = []
+ownReads (writeNext q t i) = []
+
+unfoldable pub isTurn : Ask → Bool
+isTurn (opening h) = false
+isTurn (request k b bs) = false
+isTurn turn = true
+isTurn (completion c bs) = false
+isTurn collect = false
+isTurn save = false
+isTurn (load form) = false
+
+-- a call sends it if it is a turn that is accepted
+unfoldable pub readsBy : State → Call → List (ℕ × ℕ)
+readsBy s c = if isTurn (c .ask) && eqb (number s c) 0 then ownReads (decide s) else []
+
+-- over a list of calls
+unfoldable pub readsSent : State → List Call → List (ℕ × ℕ)
+readsSent s [] = []
+readsSent s (c ∷ cs) = readsBy s c ++ readsSent (step s c .0) cs
+
+-- what outcomes tell of commands: a command of zeros is none
+unfoldable pub commandsTold : List Outcome → List Command
+commandsTold os = keep (λ (c : Command). ltb 0 (c .kind)) (map (λ (o : Outcome). o .command) os)
+
+-- a level and a slot of q as a read
+abbrev pub asRead : ℕ → ℕ × ℕ → Command
+asRead q p = cmd read q (p .0) (p .1)
