@@ -1,6 +1,8 @@
 //! Random calls, compared with the independent model one by one: numbers,
 //! words, commands, where blocks were found, saved forms and every lent byte are
 //! equal, and no other byte changes. The store is saved and loaded in between.
+//! What is told for a request from its release to its collect is the list of the
+//! model's partition reader (document 02, P6).
 //!
 //! `RINWOLFEDD_CALLS` says how many are made; without it, few enough for every
 //! day.
@@ -19,6 +21,7 @@ mod view;
 use linked::Linked;
 use plain::calls::Ask;
 use plain::mistakes::Mistake;
+use plain::releases::{Releases, Taken};
 use plain::saves::Saved;
 use plain::shape::Shape;
 use random::Random;
@@ -56,8 +59,9 @@ const WATCHED: usize = 8192;
 
 /// What was met: how often each number was answered, and a block found at each
 /// place, by its number; the most jobs queued, the rebuilds of a full partition,
-/// and those with all levels filled; in stores of the smaller shapes look-ups
-/// while a partition is rebuilt, and what occurs in saves and loads.
+/// and those with all levels filled; what requests read; in stores of the smaller
+/// shapes look-ups while a partition is rebuilt, and what occurs in saves and
+/// loads.
 #[derive(Default)]
 struct Met {
     numbers: [usize; 19],
@@ -65,19 +69,25 @@ struct Met {
     most_jobs: usize,
     full: usize,
     wraps: usize,
+    reads: Releases,
     beside: Counts,
     saved: BTreeMap<Saved, usize>,
 }
 
 /// Makes so many calls and says where the linked calls first depart from the
-/// model.
+/// model or from its reader's lists.
 fn compare(mut random: Random, calls: usize, met: &mut Met) -> Result<(), String> {
     let shape = random.home;
     let mut linked = Linked::new(random.most_memory());
     let (mut watch, mut before) = (Watch::default(), None);
     for index in 0..calls {
         let (call, outcome) = random.next();
+        let left = !random.is_away(); // it is a state that calls left
+        let right = random.model.mistake == Mistake::None;
+        let state = random.model.state.as_ref();
+        let state = state.filter(|_| left && right);
         let told = linked.compare(&call, &outcome);
+        let told = told.and_then(|told| met.reads.call(&call, &told, state));
         told.map_err(|told| format!("{shape:?}, call {index}: {told}"))?;
         met.numbers[usize::from(outcome.number)] += 1;
         if shape.needed() <= WATCHED {
@@ -85,8 +95,7 @@ fn compare(mut random: Random, calls: usize, met: &mut Met) -> Result<(), String
             if let (Some(before), Some(after)) = (&before, &after) {
                 met.beside.add(watch.call(before, &call, &outcome, after));
             }
-            // of states that calls left, and no others
-            before = after.filter(|_| !random.is_away());
+            before = after.filter(|_| left);
         }
         if outcome.number == 0 && call.ask == Ask::Collect {
             met.found[outcome.found.number()] += 1;
@@ -125,6 +134,7 @@ fn check(met: &Met, calls: usize, seconds: f64) {
         most_jobs,
         full,
         wraps,
+        reads,
         beside,
         saved,
     } = met;
@@ -133,12 +143,14 @@ fn check(met: &Met, calls: usize, seconds: f64) {
     println!("  numbers 0 to 18: {numbers:?}");
     println!("  found nowhere, in the cache, in level 0 to 7: {found:?}");
     println!("  rebuilds: {full} of a full partition, {wraps} with all levels filled");
+    println!("  of {} requests: {:?}", reads.collected, reads.times);
     println!("  beside a rebuild: {beside:?}");
     println!("  saves and loads: {saved:?}");
     assert!(made >= calls && *most_jobs == 64);
     assert!(found[..5].iter().all(|count| *count > calls / 2000));
     assert!(*full > calls / 2000 && *wraps > calls / 2000);
     assert!(beside.least()[0] > calls / 4000 && beside.damaged_only() == [0; 2]);
+    assert_eq!(reads.seldom(calls / 40_000), []);
     for (number, count) in numbers.iter().enumerate() {
         assert!(*count > calls / 20_000, "{number} is answered too rarely");
     }
@@ -161,5 +173,23 @@ fn every_mistake_of_a_model_is_told() {
             compare(random, 20_000, &mut Met::default()).is_err()
         });
         assert!(told, "{mistake:?} is not told");
+    }
+}
+
+/// So can that of the reads: it tells a list of the reader that is taken
+/// wrongly.
+#[test]
+fn every_wrong_list_is_told() {
+    for taken in Taken::WRONG {
+        let small = SHAPES.iter().filter(|(shape, _)| shape.blocks <= 64);
+        let told = { small }.any(|(shape, _)| {
+            let mut met = Met {
+                reads: Releases::new(taken),
+                ..Met::default()
+            };
+            let random = Random::new(*shape, Mistake::None, 1);
+            compare(random, 20_000, &mut met).is_err()
+        });
+        assert!(told, "a list is taken {taken:?}, and that is not told");
     }
 }

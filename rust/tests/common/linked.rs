@@ -80,11 +80,12 @@ impl Linked {
         }
     }
 
-    /// Makes the call and says where it departs from the model's outcome. A
-    /// save, and a call that is to be refused, must leave state and memory as
-    /// they were, but for a refused open or load, which leaves a closed state;
-    /// none may touch what it is not lent.
-    pub fn compare(&mut self, call: &Call, outcome: &Outcome) -> Result<(), String> {
+    /// Makes the call and says where it departs from the model's outcome, or
+    /// else the number and the command that it told. A save, and a call that is
+    /// to be refused, must leave state and memory as they were, but for a refused
+    /// open or load, which leaves a closed state; none may touch what it is not
+    /// lent.
+    pub fn compare(&mut self, call: &Call, outcome: &Outcome) -> Result<Outcome, String> {
         let keeps = outcome.number != 0 || call.ask == Ask::Save;
         let state = self.state.bytes().to_vec();
         let memory = match keeps {
@@ -103,7 +104,11 @@ impl Linked {
             ("state", !keeps || self.state.bytes() == kept),
         ];
         match all.iter().find(|(_, same)| !same) {
-            None => Ok(()),
+            None => Ok(Outcome {
+                number: answer.number(),
+                command: command(answer),
+                ..Outcome::default()
+            }),
             Some((what, _)) => Err(format!(
                 "the {what} departs: {answer:?}, found {}, for {outcome:?}, after {call:?}",
                 answer.found()
@@ -125,17 +130,22 @@ fn same(answer: Answer, outcome: &Outcome) -> bool {
         | wanted.slot << 17
         | found << 28
         | length << 32;
-    let sent = answer.command().map_or(Command::default(), |sent| Command {
-        kind: sent.kind.number().into(),
-        partition: sent.partition.into(),
-        level: sent.level.into(),
-        slot: sent.slot.into(),
-    });
     let told = usize::from(answer.found().number());
+    let sent = command(answer);
     answer.bits() == bits as u64
         && (answer.number(), answer.length(), sent) == (outcome.number, length, wanted)
         && answer.taken() == length
         && told == found
+}
+
+/// The command of an answer as the model has it.
+fn command(answer: Answer) -> Command {
+    answer.command().map_or(Command::default(), |sent| Command {
+        kind: sent.kind.number().into(),
+        partition: sent.partition.into(),
+        level: sent.level.into(),
+        slot: sent.slot.into(),
+    })
 }
 
 /// The buffer after a call by the model: what it hands out, at its start, and
