@@ -1,5 +1,5 @@
 -- What holds of every state that calls left. Read first
---   Theorems, with the words it uses in Terms: what holds, over the runs of the rules, with nothing of the invariant;
+--   Theorems and Reads, with the words they use in Terms: what holds, over the runs of the rules, with nothing of the invariant;
 --   Invariant, with Live: the record of facts from which all of it follows;
 --   Reached: every call keeps that record.
 pub mod Terms
@@ -29,7 +29,7 @@ pub mod Settled
 pub mod Leaves
 pub mod Found
 pub mod Sends
--- and, for document 02's P6: the partition reader's reads in a state
+-- and, for document 02's P6: the reads that the partition reader has left in a state, over one call, and over a run
 pub mod ReadsLeft
 pub mod ReadsSent
 pub mod ReadsRun
@@ -42,5 +42,5 @@ pub mod Pending
 pub mod Blocks
 pub mod Slots
 pub mod Outstanding
--- All blocks may wait, whatever partitions store: computed
+-- All blocks may wait, whatever partitions store; the reads of a session's requests: computed
 pub mod Example
