@@ -1,5 +1,5 @@
 -- Properties of every element of a list, of what is found, and of the numbers below n.
-use mathlib.Core.Path.{_≡_, refl, sym, _∙_}
+use mathlib.Core.Path.{_≡_, refl, ap, sym, _∙_}
 use mathlib.Core.Bool.{Bool, true, false, _||_, true≢false}
 use mathlib.Core.Logic.{_⊎_, inl, inr, ⊎-elim}
 use mathlib.Core.List.{List, [], _∷_, _++_, map}
@@ -233,6 +233,12 @@ module _ {A : Type 0} (p : A → Bool) where
         go true k (inr l) ih = rw (without-yes q x xs k) l
         go false k (inl l) ih = rw (without-no q x xs k) (or-left (p x) (any p (without q xs)) l)
         go false k (inr l) ih = rw (without-no q x xs k) (or-right (p x) (any p (without q xs)) (ih l))
+
+-- two tests that answer alike answer the same of a list
+pub any-same : {A : Type 0} (p q : A → Bool) {xs : List A} → All (λ x. p x ≡ q x) xs → any p xs ≡ any q xs
+unfolding any
+any-same p q nil = refl
+any-same p q (cons {x = x} {xs = xs} h t) = ap (λ z. z || any p xs) h ∙ ap (λ z. q x || z) (any-same p q t)
 
 -- two tests that answer alike find the same
 pub find-same : {A : Type 0} (p q : A → Bool) {xs : List A} → All (λ x. p x ≡ q x) xs → find p xs ≡ find q xs

@@ -303,6 +303,17 @@ keep-same p g (x ∷ xs) h = go (p x) refl (keep-same p g xs (λ y m. h y (inr m
     go true e k = keep-yes p x xs e ∙ ap (λ l. x ∷ l) k ∙ sym (keep-yes g x xs (sym (h x (inl refl)) ∙ e))
     go false e k = keep-no p x xs e ∙ k ∙ sym (keep-no g x xs (sym (h x (inl refl)) ∙ e))
 
+-- the first of a list, and then the others
+pub keep-cons : {A : Type 0} (p : A → Bool) (x : A) (xs : List A) → keep p (x ∷ xs) ≡ keep p (x ∷ []) ++ keep p xs
+keep-cons p x xs = go (p x) refl
+  where
+    over : keep p [] ≡ []
+    over = unfold keep in refl
+
+    go : (t : Bool) → p x ≡ t → keep p (x ∷ xs) ≡ keep p (x ∷ []) ++ keep p xs
+    go true e = keep-yes p x xs e ∙ sym (ap (λ l. l ++ keep p xs) (keep-yes p x [] e ∙ ap (λ l. x ∷ l) over))
+    go false e = keep-no p x xs e ∙ sym (ap (λ l. l ++ keep p xs) (keep-no p x [] e ∙ over))
+
 -- the first of the kept numbers
 pub keep-first : (p : ℕ → Bool) (a n x : ℕ) (xs : List ℕ) → keep p (count a n) ≡ x ∷ xs → (y : ℕ) → a ≤ y → y < x → p y ≡ false
 unfolding count
@@ -343,6 +354,11 @@ kept-none p a (suc n) y e l m = go (p a) refl (ℕ-discrete y a) (λ k j. kept-n
     go true f d k = absurd (omega (arith, sym (ap length (keep-yes p a (count (suc a) n) f)) ∙ e))
     go false f (yes d) k = rw d f
     go false f (no d) k = k (sym (ap length (keep-no p a (count (suc a) n) f)) ∙ e) (omega arith)
+
+pub none-kept : (p : ℕ → Bool) (a n : ℕ) → ((y : ℕ) → a ≤ y → y < a + n → p y ≡ false) → keep p (count a n) ≡ []
+unfolding count
+none-kept p a zero h = unfold keep in refl
+none-kept p a (suc n) h = keep-no p a (count (suc a) n) (h a (omega arith) (omega arith)) ∙ none-kept p (suc a) n (λ y l k. h y (omega arith) (omega arith))
 
 -- a list of n numbers below n, none twice, has each
 pub full-mem : (n : ℕ) (o : List ℕ) → length o ≡ n → NoDup o → All (λ x. x < n) o → (i : ℕ) → i < n → Mem i o

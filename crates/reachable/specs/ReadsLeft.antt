@@ -3,14 +3,14 @@ use mathlib.Core.Path.{_≡_, refl, ap, sym, _∙_}
 use mathlib.Core.Bool.{Bool, true, false, not, _&&_, _||_, true≢false}
 use mathlib.Core.List.{List, [], _∷_}
 use mathlib.Core.Option.{Option, some}
-use Prim.Native.Nat.{ℕ, zero, suc, _+_, _-_, _≤_, _<_}
+use Prim.Native.Nat.{ℕ, suc, _+_, _-_, _≤_, _<_}
 use native.Mathlib.Omega.{arith}
 use lib.Dec.{eqb, ltb}
 use lib.ListN.{length}
 use borrow.Author.Tests.{eqb-true, eq-eqb}
-use Rattle.lists.specs.All.{All, nil, cons, all-map, any-all, any-none, below-below, count-below, all-both, map-below, find-same}
-use Rattle.lists.specs.Members.{all-mem, below-mem, count-from, keep-rest, kept-none}
-use Rattle.lists.specs.Search.{keep, any, isNone, count, below, keep-no}
+use Rattle.lists.specs.All.{All, nil, cons, all-map, any-all, any-none, below-below, count-below, all-both, map-below, any-same, find-same}
+use Rattle.lists.specs.Members.{all-mem, below-mem, count-from, keep-rest, kept-none, none-kept}
+use Rattle.lists.specs.Search.{keep, any, isNone, count, below}
 use Rattle.rules.specs.Blocks.{isUnread, holder}
 use Rattle.rules.specs.Levels.{filled, sources}
 use Rattle.rules.specs.Laws.Reader.{readBy, read-same, costs-is, slotsOf, reads-slots, reads-are}
@@ -60,11 +60,6 @@ slots-same : (f g : ℕ → Option ℕ) {ℓs : List ℕ} → All (λ ℓ. f ℓ
 unfolding slotsOf
 slots-same f g nil = refl
 slots-same f g (cons {x = ℓ} {xs = ℓs} h t) = ap (λ o. addRead ℓ o (slotsOf f ℓs)) h ∙ ap (addRead ℓ (g ℓ)) (slots-same f g t)
-
-any-same : (p g : ℕ → Bool) {xs : List ℕ} → All (λ x. p x ≡ g x) xs → any p xs ≡ any g xs
-unfolding any
-any-same p g nil = refl
-any-same p g (cons {x = x} {xs = xs} h t) = ap (λ z. z || any p xs) h ∙ ap (λ z. g x || z) (any-same p g t)
 
 -- other marks, but the same from level a on
 module _ (s : State) (f : Reached s) (b : ℕ) (hb : b < s .shape .N) (mark′ : ℕ → ℕ) (a : ℕ)
@@ -133,11 +128,6 @@ module _ (s : State) (b : ℕ) (counter′ : ℕ → ℕ) (queue′ : List ℕ) 
       every (m ∷ ms) = cons (slot-else m) (every ms)
 
 -- fewer unread slots: a request that has no level left has none then
-none-kept : (p : ℕ → Bool) (a n : ℕ) → ((y : ℕ) → a ≤ y → y < a + n → p y ≡ false) → keep p (count a n) ≡ []
-unfolding count
-none-kept p a zero h = unfold keep in refl
-none-kept p a (suc n) h = keep-no p a (count (suc a) n) (h a (omega arith) (omega arith)) ∙ none-kept p (suc a) n (λ y l k. h y (omega arith) (omega arith))
-
 module _ (s : State) (r : Request) (mark′ : ℕ → ℕ)
     (fewer : (m j : ℕ) → m < s .shape .L → j < slots m → mark′ (cell (s .shape) (s .partition (r .block)) m j) ≡ 1 → s .mark (cell (s .shape) (s .partition (r .block)) m j) ≡ 1) where
   abbrev less : State

@@ -9,7 +9,8 @@ use native.Mathlib.Omega.{arith}
 use lib.Dec.{eqb, ltb}
 use lib.ListN.{length}
 use borrow.Author.Tests.{eqb-true, eqb-false}
-use Rattle.lists.specs.Search.{below, count, keep, keep-yes, keep-no}
+use Rattle.lists.specs.Members.{keep-cons}
+use Rattle.lists.specs.Search.{below, count, keep}
 use Rattle.lists.specs.Tests.{if_then_else_}
 use Rattle.rules.specs.Blocks.{lookUp}
 use Rattle.rules.specs.Collect
@@ -33,16 +34,6 @@ use Rattle.reachable.specs.ReadsLeft.{remaining, remaining-none}
 use Rattle.reachable.specs.ReadsSent.{Goes, step-goes}
 use Rattle.reachable.specs.Settled.{no-request}
 use Rattle.reachable.specs.Terms.{readsBy, readsSent, commandsTold, asRead}
-
-keep-append : (p : Command → Bool) (x : Command) (xs : List Command) → keep p (x ∷ xs) ≡ keep p (x ∷ []) ++ keep p xs
-keep-append p x xs = go (p x) refl
-  where
-    over : keep p [] ≡ []
-    over = unfold keep in refl
-
-    go : (t : Bool) → p x ≡ t → keep p (x ∷ xs) ≡ keep p (x ∷ []) ++ keep p xs
-    go true e = keep-yes p x xs e ∙ sym (ap (λ l. l ++ keep p xs) (keep-yes p x [] e ∙ ap (λ l. x ∷ l) over))
-    go false e = keep-no p x xs e ∙ sym (ap (λ l. l ++ keep p xs) (keep-no p x [] e ∙ over))
 
 -- what a list of calls tells: these reads and no more yet, or all that the reader has left, and then others
 abbrev pub Told : ℕ → List Command → List (ℕ × ℕ) → List (ℕ × ℕ) → Type 0
@@ -90,7 +81,7 @@ run-sends (c ∷ cs) s l r e u h = go (step-goes s l r e u c (h .0) (h .1)) (run
         tells = rw same at (w .tells)
 
         split : commandsTold (run s (c ∷ cs)) ≡ keep (λ (x : Command). ltb 0 (x .kind)) (step s c .1 .command ∷ []) ++ commandsTold (run (step s c .0) cs)
-        split = unfold commandsTold run in (keep-append (λ (x : Command). ltb 0 (x .kind)) (step s c .1 .command) (map (λ (o : Outcome). o .command) (run (step s c .0) cs)))
+        split = unfold commandsTold run in (keep-cons (λ (x : Command). ltb 0 (x .kind)) (step s c .1 .command) (map (λ (o : Outcome). o .command) (run (step s c .0) cs)))
 
         inl-inl : keep (λ (x : Command). ltb 0 (x .kind)) (step s c .1 .command ∷ []) ≡ map (asRead (s .partition (r .block))) (readsBy s c)
             → commandsTold (run (step s c .0) cs) ≡ map (asRead (s .partition (r .block))) (readsSent (step s c .0) cs)
