@@ -30,7 +30,7 @@ use Rattle.tape.specs.Tape.{wordsOf}
 use Rattle.contract.specs.Meets.{callOf, commandOf}
 use Rattle.codec.specs.Codec.{answerOf, stateLength}
 use Rattle.exports.specs.Exported.{clientIn, mostWords, lookedAt, Exported, Opened, Loaded}
-use Rattle.reachable.specs.Terms.{OfSaved, commandsTold, asRead}
+use Rattle.reachable.specs.Terms.{OfSaved, readsSent, commandsTold, asRead}
 use Rattle.array.specs.Claim.{Slots, Host, Expected, Honest, Plain}
 use Rattle.array.specs.Served.{served}
 use Rattle.hiding.specs.Chosen.{Told, Choice, opened, Chosen, Uses}
@@ -155,14 +155,16 @@ FoundClaim = (xs ys : List Made) (x y : Made) (k b : ℕ) (bs : List ℕ) → Fr
 
 -- Document 02, P6: "one definition in that order is proved to give exactly the reads sent". In a run x is the call after which a request r is released, its
 -- acceptance or a later one (before it none is in hand, or one that is held), and y the accepted collect of it; loads before x are of saved forms. The
--- commands told between them are the reads that the partition reader gives in the state that x left, in its order, and then others
+-- reads that turns send for r between them are those that the partition reader gives in the state that x left, in its order; and the commands told
+-- between them are these, and then others
 abbrev pub ReadsClaim : Type 0
 ReadsClaim = (xs ys : List Made) (x y : Made) (r : Request) → FromOpen (xs ++ (x ∷ (ys ++ (y ∷ [])))) → All (λ (z : Made). OfSaved (z .ask)) xs →
     let now = after closed (map callMade (xs ++ (x ∷ []))) in
     Holds (after closed (map callMade xs) .request) → now .request ≡ some r → held r ≡ false
     → All (λ z. (opens (z .ask) ≡ false) × (z .ask ≡ collect → outcomeOf z .number ≡ 0 → ⊥)) ys
     → y .ask ≡ collect → outcomeOf y .number ≡ 0
-    → (rest : List Command) × (commandsTold (map outcomeOf ys) ≡ map (asRead (now .partition (r .block))) (readPartition now (r .block)) ++ rest)
+    → (readsSent now (map callMade ys) ≡ readPartition now (r .block))
+    × ((rest : List Command) × (commandsTold (map outcomeOf ys) ≡ map (asRead (now .partition (r .block))) (readPartition now (r .block)) ++ rest))
 
 -- Demand 2: with an honest host, what is collected is a plain array's, also through loads of what was just saved
 abbrev pub ArrayClaim : Type 0

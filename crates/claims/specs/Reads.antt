@@ -15,9 +15,9 @@ use Rattle.rules.specs.Run.{Outcome, step, run, after}
 use Rattle.rules.specs.State.{State, closed, Command, Request}
 use Rattle.client.specs.View.{stateOf}
 use Rattle.exports.specs.Exported.{clientIn}
-use Rattle.reachable.specs.Reads.{told-whole}
+use Rattle.reachable.specs.Reads.{reads-whole, told-whole}
 use Rattle.reachable.specs.ReadsRun.{leaves-hand}
-use Rattle.reachable.specs.Terms.{CallsLeft, OfSaved, commandsTold, asRead}
+use Rattle.reachable.specs.Terms.{CallsLeft, OfSaved, readsSent, commandsTold, asRead}
 use Rattle.reachable.specs.Theorems as Left
 use Rattle.claims.specs.Claim.{Made, Runs, callMade, outcomeOf, ReadsClaim}
 use Rattle.claims.specs.Found.{Quiet, told-number, collected-found}
@@ -33,7 +33,8 @@ first-told st m (x ∷ xs) ys k =
     λ i. y .0 i ∷ z i
 
 abbrev Told : State → Request → List Made → Type 0
-Told now r ys = (rest : List Command) × (commandsTold (map outcomeOf ys) ≡ map (asRead (now .partition (r .block))) (readPartition now (r .block)) ++ rest)
+Told now r ys = (readsSent now (map callMade ys) ≡ readPartition now (r .block))
+    × ((rest : List Command) × (commandsTold (map outcomeOf ys) ≡ map (asRead (now .partition (r .block))) (readPartition now (r .block)) ++ rest))
 
 -- x is called in a state that calls left
 told-here : (st m : List ℕ) (ys : List Made) (x y : Made) (r : Request) → Runs st m (x ∷ (ys ++ (y ∷ []))) → let s = stateOf (clientIn st) m in
@@ -45,8 +46,9 @@ told-here st m ys x y r k l h e u q c o =
     let os = first-told (x .state′) (x .memory′ ++ k .0) ys (y ∷ []) (k .1 .1) ∙ ap (λ t. run t (map callMade ys)) (w .1) in
     let between : Between (step s (callMade x) .0) (map callMade ys) = subst (λ t. Between t (map callMade ys)) (w .1) (f .0) in
     let last : outcomeOf y ≡ step (after (step s (callMade x) .0) (map callMade ys)) (callMade y) .1 = subst (λ t. outcomeOf y ≡ step (after t (map callMade ys)) (callMade y) .1) (w .1) (f .1) in
-    let z = told-whole s l (callMade x) h r e u (map callMade ys) between (callMade y) c (sym (told-number _ y last) ∙ o) in
-    (z .0, ap commandsTold os ∙ z .1)
+    let n = sym (told-number _ y last) ∙ o in
+    let z = told-whole s l (callMade x) h r e u (map callMade ys) between (callMade y) c n in
+    (reads-whole s l (callMade x) h r e u (map callMade ys) between (callMade y) c n, (z .0, ap commandsTold os ∙ z .1))
 
 -- from any state on, of whose calls the last is x
 abbrev Reads : List Made → List Made → Made → Made → Request → State → Type 0
