@@ -20,6 +20,7 @@ SETTERS = {
     'Bytes': ('ℕ → List ℕ', {}),
     'Counter': ('ℕ → ℕ', {
         'counters': '(q : ℕ) → q < s .shape .P → x q < 2 ^ s .shape .L',
+        'begun': 'JobIn (s .shape) x (s .queue) (s .begun)',
     }),
     'Order': ('ℕ → ℕ', {
         'orders': EACH_SLOT + ' < slots ℓ',
@@ -36,16 +37,17 @@ SETTERS = {
     }),
     'Queue': ('List ℕ', {
         'queue': 'All (λ q. q < s .shape .P) x',
+        'begun': 'JobIn (s .shape) (s .counter) x (s .begun)',
         'jobs': 'JobsIn x (s .request)',
     }),
     'Begun': ('ℕ', {
-        'begun': 'x ≤ 1',
+        'begun': 'JobIn (s .shape) (s .counter) (s .queue) x',
     }),
     'Cursor': ('ℕ', {
         'cursor': 'x ≤ slots (s .shape .L) - 2',
     }),
     'Sent': ('ℕ', {
-        'sent': 'x ≤ 2 ^ s .shape .L',
+        'sent': 'x ≤ slots (s .shape .L) - 2',
     }),
     'Outstanding': ('List Command', {
         'outstanding': 'All (CommandIn (s .shape)) x',
@@ -68,7 +70,7 @@ use Rattle.rules.specs.State.{State, Command, Place, Request}
 use Rattle.rules.specs.Setters.{%s}
 use Rattle.lists.specs.All.{All, IfSome}
 use Rattle.rules.specs.Laws.Waiting.{Waits}
-use Rattle.rules.specs.Laws.Range.{PlaceIn, CommandIn, RequestIn, JobsIn, InRange}
+use Rattle.rules.specs.Laws.Range.{PlaceIn, CommandIn, RequestIn, JobsIn, JobIn, InRange}
 
 module _ (s : State) (f : InRange s) where
 ''' % ', '.join('set' + name for name in SETTERS)

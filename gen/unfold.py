@@ -8,7 +8,7 @@ TOP = Path(__file__).resolve().parent.parent
 FILES = {
     'lists': ('Rattle.lists.specs', 'Tests Search Tables Totals'),
     'rules': ('Rattle.rules.specs', '''
-        Shape State Ranges Memory Draws Levels Blocks Open Request Reader Rebuild Turn Completion Collect
+        Shape State Ranges Memory Draws Levels Jobs Blocks Open Request Reader Rebuild Turn Completion Collect
         Form/Numbers Form/Sums Form/Payload Form/Longest Form/Reading Form/Loading Questions Run Figures'''),
 }
 

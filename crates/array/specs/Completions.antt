@@ -16,15 +16,15 @@ use Rattle.rules.specs.Blocks
 use Rattle.rules.specs.Completion
 use Rattle.rules.specs.Completion.{completed, gatherBytes, finishJob, endJob, isCommand}
 use Rattle.rules.specs.Laws.Range.{CommandIn}
-use Rattle.rules.specs.Levels.{target}
+use Rattle.rules.specs.Jobs.{levelsOf, slotCount}
 use Rattle.rules.specs.Setters.{setBytes}
-use Rattle.rules.specs.Shape.{cell, slots}
+use Rattle.rules.specs.Shape.{cell}
 use Rattle.rules.specs.State.{State, Command, cmd, read, write, stored}
 use Rattle.reachable.specs.Blocks.{not-nowhere, place-lt}
-use Rattle.reachable.specs.Consequences.{holder-place, place-holder, reading-away}
+use Rattle.reachable.specs.Consequences.{all-written, holder-place, place-holder, reading-away}
 use Rattle.reachable.specs.Invariant.{Reached, Reading}
 use Rattle.rules.specs.Request.{isFront}
-use Rattle.reachable.specs.Live.{Target, front-eq}
+use Rattle.reachable.specs.Live.{Target, Wrote, front-eq}
 use Rattle.reachable.specs.Outstanding.{command-is, same-command, decOne}
 use Rattle.reachable.specs.Terms.{One}
 use Rattle.array.specs.Claim.{Slots}
@@ -54,7 +54,7 @@ module _ (s : State) (f : Reached s) (last has : Slots) (array : ℕ → List �
   place-own : (b ℓ i : ℕ) → b < s .shape .N → s .place b ≡ stored ℓ i → One (s .partition b) ℓ i (c .partition) (c .level) (c .slot) → own ≡ some b
   place-own b ℓ i hb e w = ap (λ p. Blocks.holder s p (c .level) (c .slot)) (sym (w .0)) ∙ place-holder s f b (c .level) (c .slot) hb (e ∙ rw (w .1, w .2))
 
-  -- it is in no target
+  -- it is in no level that a drawn job writes
   no-target : (ℓ : ℕ) → Target s (c .partition) ℓ → ⊥
   no-target ℓ z = reading-away s f c (sent .0) (z .1) (z .0)
 
@@ -149,7 +149,7 @@ module _ (s : State) (last has : Slots) (array : ℕ → List ℕ) (k : Contents
           let d = command-is c x q .1 in
           w (y .0 ∙ sym (d .0), y .1 ∙ sym (d .1), y .2 ∙ sym (d .2)))))
 
-  end-contents : Reached s → (q : ℕ) (qs : List ℕ) → s .queue ≡ q ∷ qs → s .sent ≡ slots (target (s .shape) (s .counter q)) → Contents (endJob q qs s) last has array
+  end-contents : Reached s → (q : ℕ) (qs : List ℕ) → s .queue ≡ q ∷ qs → s .sent ≡ slotCount (levelsOf s q) → Contents (endJob q s) last has array
   unfolding endJob Blocks.zeros
   end-contents f q qs front all = record {
     absent = k .absent;
@@ -158,20 +158,19 @@ module _ (s : State) (last has : Slots) (array : ℕ → List ℕ) (k : Contents
     settled = λ b ℓ i hb e u. k .settled b ℓ i hb e (u .0, all-sent b ℓ i hb e);
   }
     where
-      all-sent : (b ℓ i : ℕ) → b < s .shape .N → s .place b ≡ stored ℓ i → Target s (s .partition b) ℓ → i < s .sent
+      all-sent : (b ℓ i : ℕ) → b < s .shape .N → s .place b ≡ stored ℓ i → Target s (s .partition b) ℓ → Wrote s (s .partition b) ℓ i
       all-sent b ℓ i hb e z =
           let v = front-eq (s .partition b) q (s .queue) qs front (z .0) in
           let y = place-lt (s .shape .L) ℓ i (s .place b) (f .range .places b hb) e in
-          let w : s .sent ≡ slots ℓ = all ∙ ap (λ x. slots (target (s .shape) (s .counter x))) (sym v) ∙ ap slots (sym (z .2)) in
-          omega (arith, y .1, w)
+          all-written s f (s .partition b) ℓ i z (y .1) (ap (λ x. slotCount (levelsOf s x)) v ∙ sym all)
 
   finishJob-contents : Reached s → (l : List ℕ) → s .queue ≡ l → Contents (finishJob l s) last has array
   unfolding finishJob Completion.jobDone
   finishJob-contents f [] e = k
   finishJob-contents f (q ∷ l) e = go (Completion.jobDone s q) refl
     where
-      go : (t : Bool) → Completion.jobDone s q ≡ t → Contents (if t then endJob q l s else s) last has array
-      go true z = end-contents f q l e (eqb-true (s .sent) (slots (target (s .shape) (s .counter q))) (and-l (eqb (s .sent) (slots (target (s .shape) (s .counter q)))) (not (any (λ (c : Command). eqb (c .kind) write) (s .outstanding))) z))
+      go : (t : Bool) → Completion.jobDone s q ≡ t → Contents (if t then endJob q s else s) last has array
+      go true z = end-contents f q l e (eqb-true (s .sent) (slotCount (levelsOf s q)) (and-l (eqb (s .sent) (slotCount (levelsOf s q))) (not (any (λ (c : Command). eqb (c .kind) write) (s .outstanding))) z))
       go false z = k
 
 pub completeWrite-contents : (s : State) (last has : Slots) (array : ℕ → List ℕ) → Contents s last has array → (c : Command) → c .kind ≡ write

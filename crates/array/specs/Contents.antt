@@ -10,7 +10,7 @@ use Rattle.rules.specs.Blocks
 use Rattle.rules.specs.Completion
 use Rattle.rules.specs.Shape.{cell}
 use Rattle.rules.specs.State.{State, cmd, write, nowhere, stored}
-use Rattle.reachable.specs.Live.{Target}
+use Rattle.reachable.specs.Live.{Target, Wrote}
 use Rattle.reachable.specs.Values.{Values, Out}
 use Rattle.array.specs.Claim.{Slots}
 
@@ -24,7 +24,7 @@ Nowhere s array = (b : ℕ) → b < s .shape .N → s .place b ≡ nowhere → �
 
 -- unread, or its read outstanding, and its write was sent
 abbrev pub Sent : State → ℕ → ℕ → ℕ → Type 0
-Sent s q ℓ i = ((s .mark (cell (s .shape) q ℓ i) ≡ 1) ⊎ Out s q ℓ i) × (Target s q ℓ → i < s .sent)
+Sent s q ℓ i = ((s .mark (cell (s .shape) q ℓ i) ≡ 1) ⊎ Out s q ℓ i) × (Target s q ℓ → Wrote s q ℓ i)
 
 -- ..then the bytes last sent to the slot are the block's
 abbrev pub Written : State → Slots → (ℕ → List ℕ) → Type 0
@@ -34,7 +34,7 @@ Written s last array = (b ℓ i : ℕ) → b < s .shape .N → s .place b ≡ st
 abbrev pub Settled : State → Slots → (ℕ → List ℕ) → Type 0
 Settled s has array = (b ℓ i : ℕ) → b < s .shape .N → s .place b ≡ stored ℓ i → Sent s (s .partition b) ℓ i → ¬ Due s (s .partition b) ℓ i → has (s .partition b) ℓ i ≡ array b
 
--- The contents of every block: the client's own (`Values`: of one that waits, is in the target of a drawn job, or was read), zeros, or the host's
+-- The contents of every block: the client's own (`Values`: of one that waits, is in a level that a drawn job writes, or was read), zeros, or the host's
 pub record Contents (s : State) (last has : Slots) (array : ℕ → List ℕ) : Type 0 where
   pub absent : Nowhere s array
   pub values : Values s array

@@ -6,7 +6,7 @@ use mathlib.Core.List.{List, [], _∷_, _++_}
 use mathlib.Core.Option.{Option, none, some}
 use Prim.Native.Nat.{ℕ}
 use native.Mathlib.Omega.{arith}
-use lib.ListN.{length}
+use lib.ListN.{length, getD}
 use lib.Dec.{eqb}
 use borrow.Author.Tests.{eqb-true, eqb-false}
 use Rattle.lists.specs.All.{IfSome, any-snoc, any-without}
@@ -67,7 +67,7 @@ module _ (s : State) (w : Whole s) (q ℓ i : ℕ) where
   turn-effect noDummy js = quiet s _ w refl (λ z. z)
   turn-effect (readForRequest p m j) js = record { whole = w; shape = refl; kind = inr (inl refl); sized = λ z. absurd (one≢two z); out = read-out p m j }
   turn-effect (readForJob p m j) js = record { whole = w; shape = refl; kind = inr (inl refl); sized = λ z. absurd (one≢two z); out = read-out p m j }
-  turn-effect (rebuild p t) js = record { whole = w; shape = refl; kind = inr (inr refl); sized = λ z. slot-length (doStep (rebuild p t) js s) w _; out = write-out p t 0 }
+  turn-effect (rebuild p ls) js = record { whole = w; shape = refl; kind = inr (inr refl); sized = λ z. slot-length (doStep (rebuild p ls) js s) w _; out = write-out p (getD ls 0 0) 0 }
   turn-effect (writeNext p t j) js = record { whole = w; shape = refl; kind = inr (inr refl); sized = λ z. slot-length (doStep (writeNext p t j) js s) w _; out = write-out p t j }
 
   -- a completion
@@ -78,15 +78,15 @@ module _ (s : State) (w : Whole s) (q ℓ i : ℕ) where
       s′ : State
       s′ = Completion.completed c s
 
-      ended : (p : ℕ) (qs : List ℕ) (t : Bool) → Whole (if t then Completion.endJob p qs s′ else s′)
-      ended p qs true = w
-      ended p qs false = w
+      ended : (p : ℕ) (t : Bool) → Whole (if t then Completion.endJob p s′ else s′)
+      ended p true = w
+      ended p false = w
 
       go : (t : Bool) → (t ≡ true → length bs ≡ s .shape .B) → (o : Option ℕ) (qs : List ℕ) → Whole (if t then Completion.gatherBytes o bs s′ else Completion.finishJob qs s′)
       go true k none qs = w
       go true k (some b) qs = λ a. put-has (λ x. length x ≡ s .shape .B) b bs (s .bytes) a (k refl) (w a)
       go false k o [] = w
-      go false k o (p ∷ qs) = ended p qs (Completion.jobDone s′ p)
+      go false k o (p ∷ qs) = ended p (Completion.jobDone s′ p)
 
   complete-out : (c : Command) (bs : List ℕ) → Out (complete c bs s) q ℓ i → Out s q ℓ i
   unfolding complete Completion.completeRead Completion.completeWrite Completion.completed Completion.gatherBytes Completion.finishJob Completion.endJob
@@ -98,15 +98,15 @@ module _ (s : State) (w : Whole s) (q ℓ i : ℕ) where
       left : Out s′ q ℓ i → Out s q ℓ i
       left = any-without (isCommand (cmd read q ℓ i)) (isCommand c) (s .outstanding)
 
-      ended : (p : ℕ) (qs : List ℕ) (t : Bool) → Out (if t then Completion.endJob p qs s′ else s′) q ℓ i → Out s q ℓ i
-      ended p qs true = left
-      ended p qs false = left
+      ended : (p : ℕ) (t : Bool) → Out (if t then Completion.endJob p s′ else s′) q ℓ i → Out s q ℓ i
+      ended p true = left
+      ended p false = left
 
       go : (t : Bool) (o : Option ℕ) (qs : List ℕ) → Out (if t then Completion.gatherBytes o bs s′ else Completion.finishJob qs s′) q ℓ i → Out s q ℓ i
       go true none qs = left
       go true (some b) qs = left
       go false o [] = left
-      go false o (p ∷ qs) = ended p qs (Completion.jobDone s′ p)
+      go false o (p ∷ qs) = ended p (Completion.jobDone s′ p)
 
   -- a collect
   collect-whole : (o : Option Request) → IfSome (RequestIn (s .shape)) o → Whole (Collect.collected o s)

@@ -23,7 +23,7 @@ use Rattle.rules.specs.Blocks
 use Rattle.rules.specs.Collect
 use Rattle.rules.specs.Completion
 use Rattle.rules.specs.Completion.{complete}
-use Rattle.rules.specs.Draws.{Drawn, draws, newOrder, Drew}
+use Rattle.rules.specs.Draws.{Drawn, draws, Drew}
 use Rattle.rules.specs.Laws.Answers.{Passed, accepted-passed, step-accepted, step-refused, step-number, open-first}
 use Rattle.rules.specs.Laws.Decided.{StepIn, decide-in, stepBounds-pos}
 use Rattle.rules.specs.Laws.Kept.{completed-in, given-in, drew-of}
@@ -33,11 +33,11 @@ use Rattle.rules.specs.Questions
 use Rattle.rules.specs.Questions.{Ask, opening, request, turn, completion, collect, save, load, Call, bounds, number, questions}
 use Rattle.rules.specs.Ranges.{isKind}
 use Rattle.rules.specs.Rebuild
+use Rattle.rules.specs.Rebuild.{fills, gathered}
 use Rattle.rules.specs.Request
 use Rattle.rules.specs.Request.{accept}
 use Rattle.rules.specs.Run
 use Rattle.rules.specs.Run.{Outcome, act, step, run}
-use Rattle.rules.specs.Shape.{slots}
 use Rattle.rules.specs.State.{State, Command, cmd, read, Request, closed, write}
 use Rattle.rules.specs.Turn
 use Rattle.rules.specs.Turn.{Step, idle, noDummy, readForRequest, readForJob, rebuild, writeNext, decide, command, doStep}
@@ -76,15 +76,15 @@ record Tied (s : State) (host : Host) (m : Expected) : Type 0 where
 
 module _ (s : State) (last has : Slots) (array : ℕ → List ℕ) (f : Reached s) (k : Contents s last has array) where
   -- a turn
-  turn-contents : (x : Step) (js : List ℕ) → Decided s x → StepIn (s .shape) x → Drew (Turn.stepBounds x) js → Reached (doStep x js s)
+  turn-contents : (x : Step) (js : List ℕ) → Decided s x → StepIn s x → Drew (Turn.stepBounds x) js → Reached (doStep x js s)
       → Contents (doStep x js s) (store (command x) (Run.written (doStep x js s) (command x)) last) has array
   unfolding command Turn.stepBounds
   turn-contents idle js d h w f′ = unfold doStep store in k
   turn-contents noDummy js d h w f′ = unfold doStep store in k
   turn-contents (readForRequest q ℓ i) js d h w f′ = rw (store-read q ℓ i (Run.written (doStep (readForRequest q ℓ i) js s) (cmd read q ℓ i)) last) (request-contents s f last has array k q ℓ i (h .1) (h .2) (request-unread s f q ℓ i d) js)
   turn-contents (readForJob q ℓ i) js d h w f′ = rw (store-read q ℓ i (Run.written (doStep (readForJob q ℓ i) js s) (cmd read q ℓ i)) last) (job-contents s f last has array k q ℓ i (h .1) (h .2) (job-unread s f q ℓ i d) js)
-  turn-contents (rebuild q t) js d h w f′ = unfold doStep in (rebuild-contents s f last has array k q t (newOrder (slots t) js) (drawing s f q t js d w) f′)
-  turn-contents (writeNext q t i) js d h w f′ = write-contents s last has array k q t i d js f′
+  turn-contents (rebuild q ls) js d h w f′ = unfold doStep in (rebuild-contents s f last has array k q ls (fills ls js (gathered s q)) (drawing s f q ls js d w) f′)
+  turn-contents (writeNext q t i) js d h w f′ = write-contents s f last has array k q t i d js f′
 
   -- a completion
   complete-contents : (c : Command) (bs : List ℕ) → isKind (c .kind) ≡ true → Search.any (Completion.isCommand c) (s .outstanding) ≡ true → Brings last has (completion c bs) → Contents (complete c bs s) last has array
@@ -115,7 +115,7 @@ step-asked s (readForRequest q ℓ i) js = go (s .request)
     go none = unfold askedOf Request.passLevel in refl
     go (some r) = unfold askedOf Request.passLevel in refl
 step-asked s (readForJob q ℓ i) js = refl
-step-asked s (rebuild q t) js = refl
+step-asked s (rebuild q ls) js = refl
 step-asked s (writeNext q t i) js = refl
 
 release-asked : (s : State) → askedOf (Request.release s .request) ≡ askedOf (s .request)
@@ -133,15 +133,15 @@ complete-asked s c bs = go (eqb (c .kind) 1) (Blocks.holder s (c .partition) (c 
     less none = unfold askedOf in refl
     less (some r) = unfold askedOf in refl
 
-    ended : (q : ℕ) (qs : List ℕ) (t : Bool) → askedOf ((if t then Completion.endJob q qs s′ else s′) .request) ≡ askedOf (s′ .request)
-    ended q qs true = refl
-    ended q qs false = refl
+    ended : (q : ℕ) (t : Bool) → askedOf ((if t then Completion.endJob q s′ else s′) .request) ≡ askedOf (s′ .request)
+    ended q true = refl
+    ended q false = refl
 
     go : (t : Bool) (b : Option ℕ) (qs : List ℕ) → askedOf ((if t then Completion.gatherBytes b bs s′ else Completion.finishJob qs s′) .request) ≡ askedOf (s′ .request)
     go true none qs = refl
     go true (some b) qs = refl
     go false b [] = refl
-    go false b (q ∷ qs) = ended q qs (Completion.jobDone s′ q)
+    go false b (q ∷ qs) = ended q (Completion.jobDone s′ q)
 
 -- A state that calls left: closed, or tied to what is expected
 data Kept (s : State) (host : Host) (m : Expected) : Type 0 where

@@ -18,5 +18,6 @@ pub mod Theorem
 pub mod Honest
 -- The calls may be chosen by what was told
 pub mod Chosen
--- Two lists of a small shape, computed
+-- Two lists of a small shape, and two in which jobs of one partition run together between others: computed
 pub mod Example
+pub mod Joined

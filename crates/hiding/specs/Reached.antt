@@ -30,7 +30,8 @@ use Rattle.rules.specs.Laws.Range.{facts-range}
 use Rattle.rules.specs.Collect.{finished}
 use Rattle.rules.specs.Laws.Kept.{fresh-in}
 use Rattle.rules.specs.Laws.Reader.{slotIn}
-use Rattle.rules.specs.Levels
+use Rattle.rules.specs.Jobs.{joined, topOf}
+use Rattle.rules.specs.Laws.Levels.{levels-pos, top-lt}
 use Rattle.rules.specs.Laws.Decided.{decide-in}
 use Rattle.rules.specs.Turn.{readForRequest, rebuild, decide}
 use Rattle.rules.specs.State.{State, Request, stored}
@@ -40,13 +41,15 @@ use Rattle.rules.specs.Rebuild.{gathered}
 use Rattle.rules.specs.Shape.{Shape, slots, cell}
 use Rattle.reachable.specs.Decided.{RequestReads, Rebuilds, decided}
 use Rattle.reachable.specs.Invariant.{Reached}
+use Rattle.reachable.specs.Consequences
 use Rattle.reachable.specs.Consequences.{finished-read, request-unread, slot-own, sources-read}
 use Rattle.reachable.specs.Kept.Open.{fresh-kept}
 use Rattle.reachable.specs.Reached.{act-kept, brings-other, save-passed, nothing-loads}
 use Rattle.rules.specs.Laws.Released.{release-none}
 use Rattle.rules.specs.Laws.Asked.{loaded-idle}
 use Rattle.reachable.specs.Never.{always-possible, room-or-waits}
-use Rattle.reachable.specs.Slots.{gathered-stored, chosen-stored}
+use Rattle.reachable.specs.Live.{counted-calm}
+use Rattle.reachable.specs.Slots.{front-in, gathered-stored, chosen-stored}
 use Rattle.hiding.specs.Unchanged.{fresh-shape}
 use Rattle.hiding.specs.Machines.Public.{ask, Later, later-request, later-turn, later-completion, later-collect, later-save, later-reload, saving, saved, openIn}
 use Rattle.hiding.specs.Machines.Middle.{gatheredM, chosenM}
@@ -78,18 +81,28 @@ module _ (s : State) (f : Reached s) where
       f .agree .held q ℓ i (r .block) (b .0) (b .1) l k .1
 
   -- a rebuild gathers by slots what there is by places
-  gathers : (q t : ℕ) → decide s ≡ rebuild q t → (gathered s q ≡ gatheredM s q) × (Rebuild.chosen s q ≡ chosenM s q)
+  gathers : (q : ℕ) (ls : List ℕ) → decide s ≡ rebuild q ls → (gathered s q ≡ gatheredM s q) × (Rebuild.chosen s q ≡ chosenM s q)
   unfolding gatheredM chosenM
-  gathers q t d =
-      let b : (q < s .shape .P) × (t < s .shape .L) = rw d at (decide-in s (f .range)) in
-      let c = chosen-stored s f q (b .0) in
-      (rw (← c) (gathered-stored s f q (b .0)), c)
+  gathers q ls d =
+      let reb : Rebuilds s q ls = rw d at (decided s) in
+      let hq = front-in s f q (reb .rest) (reb .front) in
+      let c = chosen-stored s f q hq in
+      (rw (← c) (gathered-stored s f q hq (reb .calm)), c)
 
-  -- its sources are read throughout
-  spent : (q t ℓ i : ℕ) → decide s ≡ rebuild q t → ℓ < Levels.sources (s .shape) (s .counter q) → i < slots ℓ → ¬ (s .mark (cell (s .shape) q ℓ i) ≡ 1)
-  spent q t ℓ i d l k m =
-      let reb : Rebuilds s q t = rw d at (decided s) in
-      omega (arith, sym m ∙ sources-read s f q t reb ℓ i l k)
+  -- the levels up to t have no unread slot: its sources are read throughout, and the others are not live
+  spent : (q : ℕ) (ls : List ℕ) (ℓ i : ℕ) → decide s ≡ rebuild q ls → ℓ < suc (topOf s q) → i < slots ℓ → ¬ (s .mark (cell (s .shape) q ℓ i) ≡ 1)
+  unfolding topOf
+  spent q ls ℓ i d l k m = go (filled (s .counter q) ℓ) refl
+    where
+      reb : Rebuilds s q ls
+      reb = rw d at (decided s)
+
+      low : ℓ < s .shape .L
+      low = omega (arith, l, top-lt (s .shape) (s .counter q) (joined s q) (levels-pos (s .shape) (f .range .shape)))
+
+      go : (t : Bool) → filled (s .counter q) ℓ ≡ t → ⊥
+      go true e = omega (arith, sym m ∙ sources-read s f q ls reb ℓ i (omega arith) e k)
+      go false e = omega (arith, sym m ∙ Consequences.spent s f q ℓ i low (ap (λ c. filled c ℓ) (counted-calm s q (reb .calm)) ∙ e) k)
 
   left : (r : Request) (ℓ i : ℕ) → s .request ≡ some r → finished s r ≡ true → s .place (r .block) ≡ stored ℓ i →
       ¬ (s .mark (cell (s .shape) (s .partition (r .block)) ℓ i) ≡ 1)
@@ -190,8 +203,8 @@ reached h q = record {
   range = λ s k. facts-range s (k .0 .range);
   able = λ s k. always-possible s (k .0);
   room = λ s b k l. room-for h s b (k .0) (k .1) q l;
-  gathers = λ s q t k. gathers s (k .0) q t;
-  spent = λ s q t ℓ i k. spent s (k .0) q t ℓ i;
+  gathers = λ s q ls k. gathers s (k .0) q ls;
+  spent = λ s q ls ℓ i k. spent s (k .0) q ls ℓ i;
   unread = λ s q ℓ x k. unread s (k .0) q ℓ x;
   own = λ s r q ℓ x k. own s (k .0) r q ℓ x;
   owned = λ s r q ℓ x i k. owned s (k .0) r q ℓ x i;

@@ -53,15 +53,15 @@ complete-rest s c bs = go (eqb (c .kind) 1) (Blocks.holder s (c .partition) (c .
     first : restOf s′ ≡ restOf s
     first = rw (less (s .request))
 
-    ended : (q : ℕ) (qs : List ℕ) (t : Bool) → restOf (if t then Completion.endJob q qs s′ else s′) ≡ restOf s
-    ended q qs true = first
-    ended q qs false = first
+    ended : (q : ℕ) (t : Bool) → restOf (if t then Completion.endJob q s′ else s′) ≡ restOf s
+    ended q true = first
+    ended q false = first
 
     go : (t : Bool) (b : Option ℕ) (qs : List ℕ) → restOf (if t then Completion.gatherBytes b bs s′ else Completion.finishJob qs s′) ≡ restOf s
     go true none qs = first
     go true (some b) qs = first
     go false b [] = first
-    go false b (q ∷ qs) = ended q qs (Completion.jobDone s′ q)
+    go false b (q ∷ qs) = ended q (Completion.jobDone s′ q)
 
 -- ---- the shape of a fresh state
 

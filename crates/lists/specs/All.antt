@@ -143,6 +143,11 @@ module _ {A : Type 0} {P : A → Type 0} where
   all-take (suc n) nil = nil
   all-take (suc n) (cons h t) = cons h (all-take n t)
 
+  pub all-drop : (n : ℕ) {xs : List A} → All P xs → All P (drop n xs)
+  all-drop zero h = h
+  all-drop (suc n) nil = nil
+  all-drop (suc n) (cons h t) = all-drop n t
+
 pub all-replicate : (P : ℕ → Type 0) (n x : ℕ) → P x → All P (replicate n x)
 all-replicate P zero x h = nil
 all-replicate P (suc n) x h = cons h (all-replicate P n x h)

@@ -1,4 +1,4 @@
--- Lengths of lists from which elements are taken.
+-- Lists from which elements are taken, and their lengths.
 use mathlib.Core.Path.{_≡_, refl, ap, _∙_}
 use mathlib.Core.Bool.{Bool, true, false}
 use mathlib.Core.List.{List, [], _∷_, _++_}
@@ -72,6 +72,41 @@ keep-without-le p q (x ∷ xs) = go (p x) (q x) refl refl (keep-without-le p q x
     go true false d e h = rw (without-yes p x xs d, keep-no q x xs e) (omega arith)
     go false true d e h = rw (without-no p x xs d, keep-yes q x xs e, keep-yes q x (without p xs) e) (omega arith)
     go false false d e h = rw (without-no p x xs d, keep-no q x xs e, keep-no q x (without p xs) e) (omega arith)
+
+-- one that passes is taken out: one less, and one less that passes; those that another test keeps stay
+module _ {A : Type 0} (p : A → Bool) where
+  pub without-one : (xs : List A) → 1 ≤ length (keep p xs) → suc (length (without p xs)) ≡ length xs
+  without-one [] l = absurd (unfold keep in (omega (arith, l)))
+  without-one (x ∷ xs) l = go (p x) refl (without-one xs)
+    where
+      go : (t : Bool) → p x ≡ t → (1 ≤ length (keep p xs) → suc (length (without p xs)) ≡ length xs) → suc (length (without p (x ∷ xs))) ≡ suc (length xs)
+      go true e ih = ap suc (ap length (without-yes p x xs e))
+      go false e ih = ap suc (ap length (without-no p x xs e) ∙ ih (rw (keep-no p x xs e) at l))
+
+  pub keep-without-one : (xs : List A) → 1 ≤ length (keep p xs) → suc (length (keep p (without p xs))) ≡ length (keep p xs)
+  keep-without-one [] l = absurd (unfold keep in (omega (arith, l)))
+  keep-without-one (x ∷ xs) l = go (p x) refl (keep-without-one xs)
+    where
+      go : (t : Bool) → p x ≡ t → (1 ≤ length (keep p xs) → suc (length (keep p (without p xs))) ≡ length (keep p xs)) → suc (length (keep p (without p (x ∷ xs)))) ≡ length (keep p (x ∷ xs))
+      go true e ih = rw (without-yes p x xs e, keep-yes p x xs e)
+      go false e ih = rw (without-no p x xs e, keep-no p x xs e, keep-no p x (without p xs) e) (ih (rw (keep-no p x xs e) at l))
+
+  pub without-append : (xs ys : List A) → 1 ≤ length (keep p xs) → without p (xs ++ ys) ≡ without p xs ++ ys
+  without-append [] ys l = absurd (unfold keep in (omega (arith, l)))
+  without-append (x ∷ xs) ys l = go (p x) refl (without-append xs ys)
+    where
+      go : (t : Bool) → p x ≡ t → (1 ≤ length (keep p xs) → without p (xs ++ ys) ≡ without p xs ++ ys) → without p (x ∷ (xs ++ ys)) ≡ without p (x ∷ xs) ++ ys
+      go true e ih = rw (without-yes p x (xs ++ ys) e, without-yes p x xs e)
+      go false e ih = rw (without-no p x (xs ++ ys) e, without-no p x xs e) (ap (λ zs. x ∷ zs) (ih (rw (keep-no p x xs e) at l)))
+
+  pub keep-without : (q : A → Bool) → ((x : A) → p x ≡ true → q x ≡ false) → (xs : List A) → keep q (without p xs) ≡ keep q xs
+  keep-without q n [] = unfold without in refl
+  keep-without q n (x ∷ xs) = go (p x) (q x) refl refl (keep-without q n xs)
+    where
+      go : (t u : Bool) → p x ≡ t → q x ≡ u → keep q (without p xs) ≡ keep q xs → keep q (without p (x ∷ xs)) ≡ keep q (x ∷ xs)
+      go true u d e ih = rw (without-yes p x xs d, keep-no q x xs (n x d))
+      go false true d e ih = rw (without-no p x xs d, keep-yes q x xs e, keep-yes q x (without p xs) e) (ap (λ zs. x ∷ zs) ih)
+      go false false d e ih = rw (without-no p x xs d, keep-no q x xs e, keep-no q x (without p xs) e) ih
 
 -- how many of three tests an element passes
 unfoldable pub bit : Bool → ℕ

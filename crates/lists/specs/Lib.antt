@@ -4,6 +4,8 @@ pub mod All
 pub mod Lengths
 pub mod Distinct
 pub mod Members
+pub mod Parts
+pub mod Leaving
 pub mod Totals
 pub mod Tables
 pub mod Entries

@@ -1,23 +1,23 @@
 -- Which blocks a rebuild gathers, and which a level stores.
 use mathlib.Core.Path.{_≡_, refl, ap, sym}
 use mathlib.Core.Logic.{_⊎_}
-use mathlib.Core.Bool.{Bool, true, false, true≢false}
-use mathlib.Core.Option.{Option, none, some}
+use mathlib.Core.Bool.{true, false, true≢false}
 use Prim.Native.Nat.{ℕ, zero, suc, _-_, _^_, _≤_, _<_, min}
+use lib.ListN.{length, length-take}
 use native.Mathlib.Omega.{arith}
-use lib.Dec.{eqb, ltb}
+use lib.Dec.{eqb}
 use borrow.Author.Tests.{eqb-true, eq-eqb, ltb-true, lt-ltb}
-use Rattle.lists.specs.All.{IfSome, keep-passes, find-both}
+use Rattle.lists.specs.All.{keep-passes}
 use Rattle.lists.specs.Distinct.{Mem, NoDup}
-use Rattle.lists.specs.Members
 use Rattle.lists.specs.Members.{all-mem, keep-mem, mem-keep, nodup-keep, nodup-below, mem-below, below-mem}
-use Rattle.lists.specs.Search.{find, below}
-use Rattle.lists.specs.Tests.{if_then_else_, and-l, and-r, and-true}
-use Rattle.rules.specs.Blocks
+use Rattle.lists.specs.Parts.{mem-take}
+use Rattle.lists.specs.Search.{keep, below}
+use Rattle.lists.specs.Tests.{and-l, and-r, and-true}
+use Rattle.rules.specs.Blocks.{blocksIn}
 use Rattle.rules.specs.Laws.Range.{PlaceIn}
-use Rattle.rules.specs.Levels.{sources, target}
-use Rattle.rules.specs.Rebuild.{gathered, chosen}
-use Rattle.rules.specs.Shape.{Shape, slots}
+use Rattle.rules.specs.Jobs.{joined, topOf}
+use Rattle.rules.specs.Rebuild.{gathered, gatherFrom, chosen}
+use Rattle.rules.specs.Shape.{slots}
 use Rattle.rules.specs.State.{State, Place, nowhere, stored}
 use Rattle.rules.specs.Form.Loading.{isIn, storedAt}
 use Rattle.reachable.specs.Invariant.{taken}
@@ -31,33 +31,29 @@ not-nowhere ℓ i e = let z : _≡_ {A = ℕ} 0 1 = cc in omega arith
 
 -- Who is gathered
 module _ (s : State) (q : ℕ) where
-  -- a gathered block: the one that is chosen, or one of a source
+  -- a gathered block: one that is chosen, or one of a level up to t
   abbrev pub Gathered : ℕ → Type 0
-  Gathered b = (chosen s q ≡ some b) ⊎ ((s .partition b ≡ q) × (Live.isBelow (sources (s .shape) (s .counter q)) (s .place b) ≡ true))
+  Gathered b = Mem b (chosen s q) ⊎ ((s .partition b ≡ q) × (Live.isBelow (suc (topOf s q)) (s .place b) ≡ true))
 
   pub gathered-lt : (b : ℕ) → Mem b (gathered s q) → b < s .shape .N
-  unfolding gathered
+  unfolding gathered gatherFrom
   gathered-lt b m = mem-below (s .shape .N) b (keep-mem _ (below (s .shape .N)) b m)
 
   pub nodup-gathered : NoDup (gathered s q)
-  unfolding gathered
+  unfolding gathered gatherFrom
   nodup-gathered = nodup-keep _ (below (s .shape .N)) (nodup-below (s .shape .N))
 
-  -- the chosen block waits for q
-  pub chosen-waits : (b : ℕ) → chosen s q ≡ some b → (s .partition b ≡ q) × Mem b (s .waiting)
+  -- a chosen block waits for q
+  pub chosen-waits : (b : ℕ) → Mem b (chosen s q) → (s .partition b ≡ q) × Mem b (s .waiting)
   unfolding chosen
-  chosen-waits b e = go (ltb (Blocks.blocksIn s q (s .shape .L)) (2 ^ (s .shape .L - 1))) e
-    where
-      found : IfSome (λ b. (eqb (s .partition b) q ≡ true) × Mem b (s .waiting)) (find (λ b. eqb (s .partition b) q) (s .waiting))
-      found = find-both (λ b. eqb (s .partition b) q) (Members.mem-all (s .waiting) (λ x m. m))
+  chosen-waits b m =
+      let k = mem-take b (min (joined s q) (2 ^ (s .shape .L - 1) - blocksIn s q (s .shape .L))) (keep (λ b. eqb (s .partition b) q) (s .waiting)) m in
+      (eqb-true (s .partition b) q (all-mem (keep-passes (λ b. eqb (s .partition b) q) (s .waiting)) b k), keep-mem _ (s .waiting) b k)
 
-      some-is : (o : Option ℕ) → IfSome (λ b. (eqb (s .partition b) q ≡ true) × Mem b (s .waiting)) o → o ≡ some b → (s .partition b ≡ q) × Mem b (s .waiting)
-      some-is none h e = let z : _≡_ {A = ℕ} 0 1 = cc in absurd (omega arith)
-      some-is (some a) h e = let k : a ≡ b = cc in rw (← k) (eqb-true (s .partition a) q (h .0), h .1)
-
-      go : (t : Bool) → (if t then find (λ b. eqb (s .partition b) q) (s .waiting) else none) ≡ some b → (s .partition b ≡ q) × Mem b (s .waiting)
-      go true e = some-is (find (λ b. eqb (s .partition b) q) (s .waiting)) found e
-      go false e = let z : _≡_ {A = ℕ} 0 1 = cc in absurd (omega arith)
+  -- they are at most j
+  pub chosen-few : length (chosen s q) ≤ joined s q
+  unfolding chosen
+  chosen-few = rw (length-take _ (keep (λ b. eqb (s .partition b) q) (s .waiting))) (omega arith)
 
 pub below-lt : (top ℓ i : ℕ) (x : Place) → x ≡ stored ℓ i → Live.isBelow top x ≡ true → ℓ < top
 unfolding Live.isBelow
@@ -73,11 +69,6 @@ nowhere-below top x e = rw e
 
 pub place-lt : (top ℓ i : ℕ) (x : Place) → PlaceIn top x → x ≡ stored ℓ i → (ℓ < top) × (i < slots ℓ)
 place-lt top ℓ i x h e = rw e at h
-
--- where a source lies above the target, the target is the last level
-pub target-min : (h : Shape) (c : ℕ) → target h c ≡ min (sources h c) (h .L - 1)
-unfolding target
-target-min h c = refl
 
 -- Who is stored
 pub is-in : (ℓ : ℕ) (x : Place) → isIn ℓ x ≡ true → (i : ℕ) × (x ≡ stored ℓ i)

@@ -11,6 +11,11 @@ use Rattle.rules.specs.Laws.Layout.{cell-inj, offset-in}
 use Rattle.rules.specs.Rebuild.{cleared}
 use Rattle.rules.specs.Shape.{Shape, cell, offset, slots}
 
+-- a cell from the level's first one on
+pub cell-is : (h : Shape) (q ℓ c : ℕ) → cell h q ℓ 0 ≤ c → c ≡ cell h q ℓ (c - cell h q ℓ 0)
+unfolding cell
+cell-is h q ℓ c l = omega arith
+
 module _ (h : Shape) (q t : ℕ) (xs : List ℕ) (f : ℕ → ℕ) (lx : length xs ≡ slots t) where
   pub level-here : (i : ℕ) → i < slots t → putAll (cell h q t 0) xs f (cell h q t i) ≡ getD xs i 0
   unfolding cell
@@ -26,7 +31,7 @@ module _ (h : Shape) (q t : ℕ) (xs : List ℕ) (f : ℕ → ℕ) (lx : length 
       go (no l) (no m) = putAll-behind (cell h q t 0) xs f (cell h p ℓ i) (omega arith)
       go (no l) (yes m) =
           let k = cell h p ℓ i - cell h q t 0 in
-          let same : cell h q t k ≡ cell h p ℓ i = unfold cell in (omega arith) in
+          let same : cell h q t k ≡ cell h p ℓ i = sym (cell-is h q t (cell h p ℓ i) (omega arith)) in
           let r = cell-inj h q p t ℓ k i ht hℓ (omega arith) hi same in
           absurd (n (r .0, r .1))
 
@@ -49,10 +54,6 @@ offset-of (suc n) j h = go (decLt j (slots n - 2)) (offset-of n j)
 pub offset-cell : (h : Shape) (q ℓ i j : ℕ) → offset ℓ i ≡ j → cell h q ℓ i ≡ cell h q 0 j
 unfolding cell offset
 offset-cell h q ℓ i j e = omega (arith, pow-mono {i = 1} {j = ℓ + 1} (omega arith))
-
-cell-from : (h : Shape) (q n : ℕ) → cell h q 0 0 ≤ n → cell h q 0 (n - cell h q 0 0) ≡ n
-unfolding cell
-cell-from h q n l = omega arith
 
 module _ (h : Shape) (q n : ℕ) (f : ℕ → ℕ) where
   pub cleared-here : (ℓ i : ℕ) → ℓ < n → i < slots ℓ → cleared (cell h q 0 0) (slots n - 2) f (cell h q ℓ i) ≡ 0
@@ -80,5 +81,5 @@ module _ (h : Shape) (q n : ℕ) (f : ℕ → ℕ) where
         where
           by : (m j : ℕ) → m < n → j < slots m → cell h q m j ≡ cell h q 0 (cell h p ℓ i - cell h q 0 0) → ⊥
           by m j hm hj e =
-              let x = cell-inj h q p m ℓ j i (omega arith) hℓ hj hi (e ∙ cell-from h q (cell h p ℓ i) (omega arith)) in
+              let x = cell-inj h q p m ℓ j i (omega arith) hℓ hj hi (e ∙ sym (cell-is h q 0 (cell h p ℓ i) (omega arith))) in
               omega (arith, k (sym (x .0)), x .1)

@@ -1,17 +1,19 @@
 -- What follows from the invariant, for the steps that keep it and for the crates above.
-use mathlib.Core.Path.{_≡_, refl, ap, sym, _∙_}
+use mathlib.Core.Path.{_≡_, refl, ap, sym, _∙_, subst}
 use mathlib.Core.Logic.{⊎-elim, _⊎_, inl, inr}
 use mathlib.Core.Bool.{true, false, not, _&&_, _||_, true≢false, Bool}
 use mathlib.Core.List.{List, [], _∷_, map}
 use mathlib.Core.Option.{Option, none, some}
-use Prim.Native.Nat.{ℕ, zero, suc, _-_, _<_}
+use Prim.Native.Nat.{ℕ, zero, suc, _+_, _-_, _≤_, _<_}
 use native.Mathlib.Omega.{arith}
-use native.Mathlib.Decide.{decLt}
+use native.Mathlib.Decide.{decLt, ℕ-discrete}
 use lib.Dec.{eqb}
 use lib.ListN.{length, take, take-append-drop}
+use lib.Pow.{pow-pos}
 use borrow.Author.Tests.{eqb-true, not-true, eqb-false, eq-eqb}
 use Rattle.lists.specs.All
 use Rattle.lists.specs.All.{All, IfSome, all-map, all-append, any-none}
+use Rattle.lists.specs.Distinct.{Mem}
 use Rattle.lists.specs.Members.{kept-none, all-mem, below-mem}
 use Rattle.lists.specs.Search
 use Rattle.lists.specs.Search.{below, find, any}
@@ -19,22 +21,27 @@ use Rattle.lists.specs.Tables.{put, put-has}
 use Rattle.lists.specs.Tests.{and-l, and-r, if_then_else_}
 use Rattle.rules.specs.Blocks
 use Rattle.rules.specs.Collect
-use Rattle.rules.specs.Laws.Levels.{levels-pos, sources-le}
+use Rattle.rules.specs.Completion
+use Rattle.rules.specs.Jobs.{queued, begunWith, joined, topOf, levelsOf, slotCount, writeAt}
+use Rattle.rules.specs.Laws.Rebuilt.{front-joins}
+use Rattle.rules.specs.Laws.Levels.{Joins, levels-pos, top-lt, joins-le, queued-front}
 use Rattle.rules.specs.Laws.Range.{RequestIn}
-use Rattle.rules.specs.Levels.{filled, sources}
+use Rattle.rules.specs.Levels.{filled, joins, topLevel, writtenLevels}
 use Rattle.rules.specs.Reader
+use Rattle.rules.specs.Laws.Layout.{cell-inj}
 use Rattle.rules.specs.Laws.Reader.{slotIn, costs-is}
 use Rattle.rules.specs.Request
 use Rattle.rules.specs.Shape.{cell, slots, offset}
-use Rattle.rules.specs.State.{State, Command, stored, Request, cmd, read, Place, nowhere}
-use Rattle.reachable.specs.Bits.{source-filled}
+use Rattle.rules.specs.State.{State, Command, stored, Request, cmd, read, write, Place, nowhere}
 use Rattle.reachable.specs.Blocks.{place-lt}
-use Rattle.reachable.specs.Decided.{Rebuilds, OwnSlot, RequestReads, JobReads}
-use Rattle.reachable.specs.Invariant.{Reached, Reading, Own, Items, Writing, Aside}
 use Rattle.rules.specs.Request.{isFront}
-use Rattle.reachable.specs.Live.{passedBy, front-mem, counted, counted-other, counted-calm, not-front, front-is, Gathers, gathers-source, source-gathers}
+use Rattle.rules.specs.Laws.Grown.{nodup-written, written-first}
+use Rattle.reachable.specs.Decided.{Rebuilds, OwnSlot, RequestReads, JobReads, Writes}
+use Rattle.reachable.specs.Invariant.{Reached, Reading, Own, Items, Writing, Aside}
+use Rattle.reachable.specs.Live.{passedBy, front-mem, counted, counted-other, counted-calm, not-front, front-is, front-eq, joined-begun, Gathers, gathers-source, Target, Wrote, writeNumber}
+use Rattle.reachable.specs.Writes.{write-at, number-lt, number-one}
 use Rattle.reachable.specs.Pending.{passed-none, passed-why}
-use Rattle.reachable.specs.Terms.{Elsewhere}
+use Rattle.reachable.specs.Terms.{One, Elsewhere}
 
 pub slot-own : (ℓ i : ℕ) (x : Place) → slotIn ℓ x ≡ some i → x ≡ stored ℓ i
 unfolding slotIn
@@ -200,19 +207,96 @@ module _ (s : State) (f : Reached s) where
       awaited = all-map (λ (c : Command) k w. absurd (eqb-false (c .partition) (s .partition (r .block)) k w)) (any-none _ (take (r .awaits) (s .outstanding)) (not-true (any (λ (c : Command). eqb (c .partition) (s .partition (r .block))) (take (r .awaits) (s .outstanding)))
           (and-r (not (Request.held r) && eqb (length (Reader.levelsLeft s r)) 0) (not (any (λ (c : Command). eqb (c .partition) (s .partition (r .block))) (take (r .awaits) (s .outstanding)))) done)))
 
-  -- When an order is drawn, every slot of the sources is read
-  pub sources-read : (q t : ℕ) → Rebuilds s q t → (ℓ i : ℕ) → ℓ < sources (s .shape) (s .counter q) → i < slots ℓ → s .mark (cell (s .shape) q ℓ i) ≡ 0
-  unfolding Blocks.isUnread
-  sources-read q t d ℓ i l hi = go (decLt (offset ℓ i) (s .cursor))
+  -- A job with writes sent has begun
+  pub busy-begun : (s .sent ≡ 0 → ⊥) → s .begun ≡ 0 → ⊥
+  busy-begun n e = n (f .unbegun e .1)
+
+  -- A level that is not live has no unread slot
+  pub spent : (q ℓ i : ℕ) → ℓ < s .shape .L → filled (counted s q) ℓ ≡ false → i < slots ℓ → s .mark (cell (s .shape) q ℓ i) ≡ 0
+  spent q ℓ i hℓ e hi = go (ℕ-discrete (s .mark (cell (s .shape) q ℓ i)) 0)
+    where
+      go : Dec (s .mark (cell (s .shape) q ℓ i) ≡ 0) → s .mark (cell (s .shape) q ℓ i) ≡ 0
+      go (yes z) = z
+      go (no z) =
+          let c = f .tidy .marked (cell (s .shape) q ℓ i) z in
+          let w = cell-inj (s .shape) q (c .part) ℓ (c .level) i (c .slot) hℓ (c .inLevels) hi (c .inSlots) (c .isCell) in
+          absurd (true≢false (sym (c .isFilled) ∙ ap (λ n. filled n (c .level)) (ap (counted s) (sym (w .0))) ∙ ap (filled (counted s q)) (sym (w .1)) ∙ e))
+
+  -- The jobs of the front one's run are at least one, no more than may join, and at most those queued
+  pub joins-front : (q : ℕ) (rest : List ℕ) → s .queue ≡ q ∷ rest → Joins (s .shape) (s .counter q) (joined s q)
+  joins-front q rest e = front-joins s (f .range) q rest e
+
+  pub joined-queued : (q : ℕ) (rest : List ℕ) → s .queue ≡ q ∷ rest → joined s q ≤ queued (s .queue) q
+  unfolding joined begunWith
+  joined-queued q rest e = go (s .begun) refl
+    where
+      one : 1 ≤ queued (s .queue) q
+      one = rw e (queued-front q rest)
+
+      go : (j : ℕ) → s .begun ≡ j → begunWith j (joins (s .shape) (s .counter q) (queued (s .queue) q)) ≤ queued (s .queue) q
+      go zero k = joins-le (s .shape) (s .counter q) (queued (s .queue) q) one
+      go (suc j) k =
+          let x = f .running (λ z. omega arith) in
+          let w : x .0 ≡ q = cc (x .2 .0, e) in
+          let y : s .begun ≤ queued (s .queue) q = subst (λ p. s .begun ≤ queued (s .queue) p) w (x .2 .1) in
+          omega arith
+
+  -- The first of its written levels is t
+  pub levels-first : (q : ℕ) (rest : List ℕ) → s .queue ≡ q ∷ rest → (ls : List ℕ) × (levelsOf s q ≡ topOf s q ∷ ls)
+  unfolding levelsOf topOf
+  levels-first q rest e = written-first (s .shape) (s .counter q) (joined s q) (levels-pos (s .shape) (f .range .shape)) (f .range .counters q (all-mem (f .range .queue) q (rw e (inl refl)))) (joins-front q rest e)
+
+  -- A job that is done has sent all its writes, and none is outstanding
+  pub done-why : (q : ℕ) (rest : List ℕ) → s .queue ≡ q ∷ rest → Completion.jobDone s q ≡ true
+      → (s .sent ≡ slotCount (levelsOf s q)) × (s .sent ≡ 0 → ⊥) × All (λ (c : Command). eqb (c .kind) write ≡ false) (s .outstanding)
+  unfolding Completion.jobDone
+  done-why q rest e k =
+      let a = eqb-true (s .sent) (slotCount (levelsOf s q)) (and-l (eqb (s .sent) (slotCount (levelsOf s q))) (not (any (λ (c : Command). eqb (c .kind) write) (s .outstanding))) k) in
+      let b = and-r (eqb (s .sent) (slotCount (levelsOf s q))) (not (any (λ (c : Command). eqb (c .kind) write) (s .outstanding))) k in
+      let n : 0 < slotCount (levelsOf s q) = rw (levels-first q rest e .1) (unfold slotCount in (omega (arith, pow-pos (topOf s q + 1)))) in
+      (a, (λ z. omega arith), any-none (λ (c : Command). eqb (c .kind) write) (s .outstanding) (not-true (any (λ (c : Command). eqb (c .kind) write) (s .outstanding)) b))
+
+  -- The next write is that of its number
+  pub next-write : (q t i : ℕ) → Writes s q t i → Mem t (writtenLevels (s .shape) (s .counter q) (s .begun)) × (i < slots t) × (writeNumber (writtenLevels (s .shape) (s .counter q) (s .begun)) t i ≡ s .sent)
+  unfolding levelsOf
+  next-write q t i d = write-at (writtenLevels (s .shape) (s .counter q) (s .begun)) (s .sent) t i (nodup-written (s .shape) (s .counter q) (s .begun))
+      (ap (λ j. writeAt (writtenLevels (s .shape) (s .counter q) j) (s .sent)) (sym (joined-begun s q (busy-begun (d .busy)))) ∙ d .now)
+
+  -- Once all its writes are sent, that of each slot of its written levels is
+  pub all-written : (q ℓ i : ℕ) → Target s q ℓ → i < slots ℓ → slotCount (levelsOf s q) ≡ s .sent → Wrote s q ℓ i
+  unfolding levelsOf
+  all-written q ℓ i z hi e =
+      let w : slotCount (writtenLevels (s .shape) (s .counter q) (s .begun)) ≡ s .sent = ap (λ n. slotCount (writtenLevels (s .shape) (s .counter q) n)) (sym (joined-begun s q (busy-begun (z .1)))) ∙ e in
+      omega (arith, number-lt (writtenLevels (s .shape) (s .counter q) (s .begun)) ℓ i (z .2) hi)
+
+  -- A slot whose write is the next one, or was sent before: it is that of the next write, or was sent before
+  pub wrote-before : (q t i : ℕ) → Writes s q t i → (p m j : ℕ) → Target s p m → j < slots m → writeNumber (writtenLevels (s .shape) (s .counter p) (s .begun)) m j < suc (s .sent) → ¬ One p m j q t i → Wrote s p m j
+  wrote-before q t i d p m j x hj l n = by (ℕ-discrete (writeNumber (writtenLevels (s .shape) (s .counter p) (s .begun)) m j) (s .sent))
+    where
+      by : Dec (writeNumber (writtenLevels (s .shape) (s .counter p) (s .begun)) m j ≡ s .sent) → Wrote s p m j
+      by (no k) = omega arith
+      by (yes k) =
+          let a = front-eq p q (s .queue) (d .rest) (d .front) (x .0) in
+          let y = next-write q t i d in
+          let e : writeNumber (writtenLevels (s .shape) (s .counter q) (s .begun)) m j ≡ s .sent = subst (λ r. writeNumber (writtenLevels (s .shape) (s .counter r) (s .begun)) m j ≡ s .sent) a k in
+          let w : Mem m (writtenLevels (s .shape) (s .counter q) (s .begun)) = subst (λ r. Mem m (writtenLevels (s .shape) (s .counter r) (s .begun))) a (x .2) in
+          let o = number-one (writtenLevels (s .shape) (s .counter q) (s .begun)) m j t i w (y .0) hj (y .1) (e ∙ sym (y .2)) in
+          absurd (n (a, o .0, o .1))
+
+  -- When the orders are drawn, every slot of the sources is read
+  pub sources-read : (q : ℕ) (ls : List ℕ) → Rebuilds s q ls → (ℓ i : ℕ) → ℓ ≤ topOf s q → filled (s .counter q) ℓ ≡ true → i < slots ℓ → s .mark (cell (s .shape) q ℓ i) ≡ 0
+  unfolding Blocks.isUnread topOf
+  sources-read q ls d ℓ i l k hi = go (decLt (offset ℓ i) (s .cursor)) (ℕ-discrete (s .begun) 0)
     where
       front : isFront (s .queue) q ≡ true
       front = rw (d .front) (front-is q (d .rest))
 
-      go : Dec (offset ℓ i < s .cursor) → s .mark (cell (s .shape) q ℓ i) ≡ 0
-      go (yes c) = f .scanned q ℓ i front (d .calm) l hi c
-      go (no c) =
-          let u : s .mark (cell (s .shape) q ℓ i) ≡ 1 → ⊥ = eqb-false (s .mark (cell (s .shape) q ℓ i)) 1 (d .read ℓ i l hi (omega arith)) in
-          omega (arith, f .range .marks q ℓ i (all-mem (f .range .queue) q (front-mem (s .queue) q front)) (omega (arith, sources-le (s .shape) (s .counter q))) hi)
+      go : Dec (offset ℓ i < s .cursor) → Dec (s .begun ≡ 0) → s .mark (cell (s .shape) q ℓ i) ≡ 0
+      go (yes c) (yes z) = absurd (omega (arith, f .unbegun z .0))
+      go (yes c) (no z) = f .scanned q ℓ i front (d .calm) (z, subst (λ j. ℓ ≤ topLevel (s .shape) (s .counter q) j) (joined-begun s q z) l, k) hi c
+      go (no c) z =
+          let u : s .mark (cell (s .shape) q ℓ i) ≡ 1 → ⊥ = eqb-false (s .mark (cell (s .shape) q ℓ i)) 1 (d .read ℓ i l k hi (omega arith)) in
+          omega (arith, f .range .marks q ℓ i (all-mem (f .range .queue) q (front-mem (s .queue) q front)) (omega (arith, top-lt (s .shape) (s .counter q) (joined s q) (levels-pos (s .shape) (f .range .shape)))) hi)
 
   -- A request's read: the front job, if it is for its partition, is not drawn, and its slot is unread
   module _ (q ℓ i : ℕ) (d : RequestReads s q ℓ i) where
@@ -221,9 +305,6 @@ module _ (s : State) (f : Reached s) where
 
     pub reads-count : counted s q ≡ s .counter q
     reads-count = ap (counted s) (sym (d .part)) ∙ released-count (d .asked) (d .inHand) (d .unheld) ∙ ap (s .counter) (d .part)
-
-    pub reads-source : Request.isSource s q ℓ ≡ true → Gathers s q ℓ
-    reads-source k = source-gathers s q ℓ front-calm k
 
     pub request-unread : s .mark (cell (s .shape) q ℓ i) ≡ 1
     request-unread = ⊎-elim own (⊎-elim (λ k. dummy-free s q ℓ i (k .2) .0) (λ k. lowest-unread s q ℓ i (k .2))) (d .slot)
@@ -237,14 +318,8 @@ module _ (s : State) (f : Reached s) where
         own k = ⊎-elim (kept (f .unread (d .asked .block) ℓ i (block-lt s f (d .asked) (d .inHand)) (slot-own ℓ i (s .place (d .asked .block)) (k .0))))
             (unread-mark s q ℓ i) (k .1)
 
-  -- A job's read: its level is filled, and its slot is unread
+  -- A job's read: its slot is unread
   module _ (q ℓ i : ℕ) (d : JobReads s q ℓ i) where
-    pub job-gathers : Gathers s q ℓ
-    job-gathers = (rw (d .front) (front-is q (d .rest)), d .calm, d .source)
-
-    pub job-full : filled (s .counter q) ℓ ≡ true
-    job-full = source-filled (s .shape) (s .counter q) (levels-pos (s .shape) (f .range .shape)) (f .range .counters q (all-mem (f .range .queue) q (front-mem (s .queue) q (job-gathers .0)))) ℓ (d .source)
-
     pub job-unread : s .mark (cell (s .shape) q ℓ i) ≡ 1
     job-unread = unread-mark s q ℓ i (d .unread)
 

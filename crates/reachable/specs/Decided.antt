@@ -1,13 +1,13 @@
 -- What a turn's step says of the state it was decided in.
 use mathlib.Core.Path.{_≡_, refl, ap, sym, _∙_}
 use mathlib.Core.Logic.{_⊎_, inl, inr}
-use mathlib.Core.Bool.{Bool, true, false, not, _||_, true≢false}
+use mathlib.Core.Bool.{Bool, true, false, not, _&&_, _||_, true≢false}
 use mathlib.Core.List.{List, [], _∷_}
 use mathlib.Core.Option.{Option, none, none as nothing, some, Option·getD}
-use Prim.Native.Nat.{ℕ, _-_, _≤_, _<_}
+use Prim.Native.Nat.{ℕ, suc, _-_, _≤_, _<_}
 use native.Mathlib.Omega.{arith}
-use lib.Dec.{eqb, leb, ltb}
-use borrow.Author.Tests.{eqb-true, eqb-false, eq-eqb, ltb-true}
+use lib.Dec.{eqb, leb}
+use borrow.Author.Tests.{eqb-true, eqb-false, eq-eqb}
 use Rattle.lists.specs.All.{All, nil, cons, IfSome, all-map, all-keep, count-below, keep-passes, all-both, find-both, find-none, any-none}
 use Rattle.lists.specs.Members.{count-from, keep-first}
 use Rattle.lists.specs.Search
@@ -15,7 +15,8 @@ use Rattle.lists.specs.Search.{find, orElse}
 use Rattle.lists.specs.Tests.{if_then_else_, and-l, and-r, and-true, or-false-l, or-false-r}
 use Rattle.rules.specs.Blocks
 use Rattle.rules.specs.Laws.Decided.{places-in}
-use Rattle.rules.specs.Levels.{filled, sources, target}
+use Rattle.rules.specs.Jobs.{topOf, levelsOf, writeAt}
+use Rattle.rules.specs.Levels.{filled}
 use Rattle.rules.specs.Rebuild
 use Rattle.rules.specs.Rebuild.{places}
 use Rattle.rules.specs.Reader
@@ -107,19 +108,20 @@ pub record JobReads (s : State) (q ℓ i : ℕ) : Type 0 where
   pub rest : List ℕ
   pub front : s .queue ≡ q ∷ rest
   pub calm : s .sent ≡ 0
-  pub source : ℓ < sources (s .shape) (s .counter q)
+  pub source : ℓ ≤ topOf s q
+  pub full : filled (s .counter q) ℓ ≡ true
   pub slot : i < slots ℓ
   pub unread : Blocks.isUnread s q ℓ i ≡ true
   pub behind : Behind s
-  pub next : (m j : ℕ) → m < sources (s .shape) (s .counter q) → j < slots m → s .cursor ≤ offset m j → offset m j < offset ℓ i → Blocks.isUnread s q m j ≡ false
+  pub next : (m j : ℕ) → m ≤ topOf s q → filled (s .counter q) m ≡ true → j < slots m → s .cursor ≤ offset m j → offset m j < offset ℓ i → Blocks.isUnread s q m j ≡ false
 
--- the draw of an order
-pub record Rebuilds (s : State) (q t : ℕ) : Type 0 where
+-- the draw of the orders of the written levels
+pub record Rebuilds (s : State) (q : ℕ) (ls : List ℕ) : Type 0 where
   pub rest : List ℕ
   pub front : s .queue ≡ q ∷ rest
   pub calm : s .sent ≡ 0
-  pub goal : t ≡ target (s .shape) (s .counter q)
-  pub read : (ℓ i : ℕ) → ℓ < sources (s .shape) (s .counter q) → i < slots ℓ → s .cursor ≤ offset ℓ i → Blocks.isUnread s q ℓ i ≡ false
+  pub goal : ls ≡ levelsOf s q
+  pub read : (ℓ i : ℕ) → ℓ ≤ topOf s q → filled (s .counter q) ℓ ≡ true → i < slots ℓ → s .cursor ≤ offset ℓ i → Blocks.isUnread s q ℓ i ≡ false
   pub quiet : All (λ (c : Command). eqb (c .partition) q ≡ false) (s .outstanding)
   pub apart : (r : Request) → s .request ≡ some r → Request.held r ≡ false → ¬ (s .partition (r .block) ≡ q)
 
@@ -127,17 +129,15 @@ pub record Rebuilds (s : State) (q t : ℕ) : Type 0 where
 pub record Writes (s : State) (q t i : ℕ) : Type 0 where
   pub rest : List ℕ
   pub front : s .queue ≡ q ∷ rest
-  pub now : s .sent ≡ i
   pub busy : s .sent ≡ 0 → ⊥
-  pub goal : t ≡ target (s .shape) (s .counter q)
-  pub slot : i < slots t
+  pub now : writeAt (levelsOf s q) (s .sent) ≡ some (t, i)
 
 abbrev pub Decided : State → Step → Type 0
 Decided s idle = Unit {0}
 Decided s noDummy = Lacks s
 Decided s (readForRequest q ℓ i) = RequestReads s q ℓ i
 Decided s (readForJob q ℓ i) = JobReads s q ℓ i
-Decided s (rebuild q t) = Rebuilds s q t
+Decided s (rebuild q ls) = Rebuilds s q ls
 Decided s (writeNext q t i) = Writes s q t i
 
 module _ (s : State) where
@@ -189,47 +189,61 @@ module _ (s : State) where
       let z′ : s .partition (x .block) ≡ q = ap (λ (y : Request). s .partition (y .block)) v ∙ z in
       true≢false (sym (and-true (ap not u′) (eq-eqb (s .partition (x .block)) q z′)) ∙ w)
 
+  -- an unread slot of a filled level
+  fresh : ℕ → ℕ → ℕ → Bool
+  fresh q ℓ i = filled (s .counter q) ℓ && Blocks.isUnread s q ℓ i
+
+  not-fresh : (q ℓ i : ℕ) → filled (s .counter q) ℓ ≡ true → fresh q ℓ i ≡ false → Blocks.isUnread s q ℓ i ≡ false
+  unfolding fresh
+  not-fresh q ℓ i e k = rw e at k
+
   job-decided : Behind s → (l : List ℕ) → s .queue ≡ l → Decided s (Turn.jobStep s l)
-  unfolding Turn.jobStep Turn.rebuildStep Turn.writeStep Turn.gatherStep
+  unfolding Turn.jobStep Turn.rebuildStep Turn.writeStep Turn.gatherStep Turn.nextWrite fresh
   job-decided bh [] e = tt
   job-decided bh (q ∷ l) e = go (eqb (s .sent) 0) refl
     where
-      goal : ℕ
-      goal = target (s .shape) (s .counter q)
-
-      draws : s .sent ≡ 0 → Rebuild.unread s q ≡ none → (t : Bool) → (Search.any (λ (c : Command). eqb (c .partition) q) (s .outstanding) || Request.releasedFor (s .partition) (s .request) q) ≡ t → Decided s (if t then idle else rebuild q goal)
+      draws : s .sent ≡ 0 → Rebuild.unread s q ≡ none → (t : Bool) → (Search.any (λ (c : Command). eqb (c .partition) q) (s .outstanding) || Request.releasedFor (s .partition) (s .request) q) ≡ t → Decided s (if t then idle else rebuild q (levelsOf s q))
       draws z u true a = tt
-      draws z u false a = record { rest = l; front = e; calm = z; goal = refl; read = unfold Rebuild.unread in (scan-none (s .cursor) (sources (s .shape) (s .counter q)) (Blocks.isUnread s q) (find-none _ _ u)); quiet = any-none _ _ (or-false-l (Search.any (λ (c : Command). eqb (c .partition) q) (s .outstanding)) (Request.releasedFor (s .partition) (s .request) q) a); apart = looks-none q (s .request) refl (or-false-r (Search.any (λ (c : Command). eqb (c .partition) q) (s .outstanding)) (Request.releasedFor (s .partition) (s .request) q) a) }
+      draws z u false a = record {
+        rest = l;
+        front = e;
+        calm = z;
+        goal = refl;
+        read = λ ℓ i hℓ k hi c. not-fresh q ℓ i k (unfold Rebuild.unread Rebuild.nextUnread in (scan-none (s .cursor) (suc (topOf s q)) (fresh q) (find-none _ _ u)) ℓ i (omega arith) hi c);
+        quiet = any-none _ _ (or-false-l (Search.any (λ (c : Command). eqb (c .partition) q) (s .outstanding)) (Request.releasedFor (s .partition) (s .request) q) a);
+        apart = looks-none q (s .request) refl (or-false-r (Search.any (λ (c : Command). eqb (c .partition) q) (s .outstanding)) (Request.releasedFor (s .partition) (s .request) q) a);
+      }
 
-      reads : s .sent ≡ 0 → (o : Option (ℕ × ℕ)) → Rebuild.unread s q ≡ o → IfSome (λ (p : ℕ × ℕ). (Blocks.isUnread s q (p .0) (p .1) ≡ true) × ((p .0 < sources (s .shape) (s .counter q)) × (p .1 < slots (p .0)))) o
+      reads : s .sent ≡ 0 → (o : Option (ℕ × ℕ)) → Rebuild.unread s q ≡ o → IfSome (λ (p : ℕ × ℕ). (fresh q (p .0) (p .1) ≡ true) × ((p .0 < suc (topOf s q)) × (p .1 < slots (p .0)))) o
           → Decided s (Turn.gatherStep q o (Turn.rebuildStep s q))
       reads z none u h = draws z u (Search.any (λ (c : Command). eqb (c .partition) q) (s .outstanding) || Request.releasedFor (s .partition) (s .request) q) refl
       reads z (some p) u h = record {
         rest = l;
         front = e;
         calm = z;
-        source = h .1 .0;
+        source = omega (arith, h .1 .0);
+        full = and-l (filled (s .counter q) (p .0)) (Blocks.isUnread s q (p .0) (p .1)) (h .0);
         slot = h .1 .1;
-        unread = h .0;
+        unread = and-r (filled (s .counter q) (p .0)) (Blocks.isUnread s q (p .0) (p .1)) (h .0);
         behind = bh;
-        next = unfold Rebuild.unread in (scan-least (s .cursor) (sources (s .shape) (s .counter q)) (Blocks.isUnread s q) p u);
+        next = λ m j hm k hj c n. not-fresh q m j k (unfold Rebuild.unread Rebuild.nextUnread in (scan-least (s .cursor) (suc (topOf s q)) (fresh q) p u) m j (omega arith) hj c n);
       }
 
-      writes : (s .sent ≡ 0 → ⊥) → (t : Bool) → ltb (s .sent) (slots goal) ≡ t → Decided s (if t then writeNext q goal (s .sent) else idle)
-      writes n true k = record { rest = l; front = e; now = refl; busy = n; goal = refl; slot = ltb-true (s .sent) (slots goal) k }
-      writes n false k = tt
+      writes : (s .sent ≡ 0 → ⊥) → (o : Option (ℕ × ℕ)) → writeAt (levelsOf s q) (s .sent) ≡ o → Decided s (Turn.nextWrite q o)
+      writes n none k = tt
+      writes n (some p) k = record { rest = l; front = e; busy = n; now = k }
 
-      found : IfSome (λ (p : ℕ × ℕ). (Blocks.isUnread s q (p .0) (p .1) ≡ true) × ((p .0 < sources (s .shape) (s .counter q)) × (p .1 < slots (p .0)))) (Rebuild.unread s q)
-      found = unfold Rebuild.unread in (passes (find (test (s .cursor) 0 (Blocks.isUnread s q)) (places (sources (s .shape) (s .counter q)))) (find-both _ (places-in (sources (s .shape) (s .counter q)))))
+      found : IfSome (λ (p : ℕ × ℕ). (fresh q (p .0) (p .1) ≡ true) × ((p .0 < suc (topOf s q)) × (p .1 < slots (p .0)))) (Rebuild.unread s q)
+      found = unfold Rebuild.unread Rebuild.nextUnread in (passes (find (test (s .cursor) 0 (fresh q)) (places (suc (topOf s q)))) (find-both _ (places-in (suc (topOf s q)))))
         where
-          passes : (o : Option (ℕ × ℕ)) → IfSome (λ (p : ℕ × ℕ). (test (s .cursor) 0 (Blocks.isUnread s q) p ≡ true) × ((p .0 < sources (s .shape) (s .counter q)) × (p .1 < slots (p .0)))) o
-              → IfSome (λ (p : ℕ × ℕ). (Blocks.isUnread s q (p .0) (p .1) ≡ true) × ((p .0 < sources (s .shape) (s .counter q)) × (p .1 < slots (p .0)))) o
+          passes : (o : Option (ℕ × ℕ)) → IfSome (λ (p : ℕ × ℕ). (test (s .cursor) 0 (fresh q) p ≡ true) × ((p .0 < suc (topOf s q)) × (p .1 < slots (p .0)))) o
+              → IfSome (λ (p : ℕ × ℕ). (fresh q (p .0) (p .1) ≡ true) × ((p .0 < suc (topOf s q)) × (p .1 < slots (p .0)))) o
           passes none h = tt
-          passes (some p) h = (and-r (leb (s .cursor) (offset (p .0) (p .1))) (Blocks.isUnread s q (p .0) (p .1)) (h .0), h .1)
+          passes (some p) h = (and-r (leb (s .cursor) (offset (p .0) (p .1))) (fresh q (p .0) (p .1)) (h .0), h .1)
 
       go : (t : Bool) → eqb (s .sent) 0 ≡ t → Decided s (if t then Turn.gatherStep q (Rebuild.unread s q) (Turn.rebuildStep s q) else Turn.writeStep s q)
       go true k = reads (eqb-true (s .sent) 0 k) (Rebuild.unread s q) refl found
-      go false k = writes (eqb-false (s .sent) 0 k) (ltb (s .sent) (slots goal)) refl
+      go false k = writes (eqb-false (s .sent) 0 k) (writeAt (levelsOf s q) (s .sent)) refl
 
   pub decided : Decided s (decide s)
   unfolding decide

@@ -1,10 +1,10 @@
 -- Which slot a turn reads: the first unread one of the sources, the lowest dummy item's, or in a source the lowest unread item's.
 use mathlib.Core.Option.{Option·getD, none, some}
-use mathlib.Core.Path.{_≡_, refl, ap, sym, _∙_}
+use mathlib.Core.Path.{_≡_, refl, ap, sym, _∙_, subst}
 use mathlib.Core.Logic.{_⊎_, inl, inr, ⊎-elim}
 use mathlib.Core.Bool.{Bool, true, false, _&&_, true≢false}
 use mathlib.Core.List.{List, _∷_}
-use Prim.Native.Nat.{ℕ, _+_, _≤_, _<_}
+use Prim.Native.Nat.{ℕ, _+_, _≤_, _<_, suc}
 use native.Mathlib.Omega.{arith}
 use native.Mathlib.Decide.{decLt}
 use lib.Dec.{eqb, leb}
@@ -17,11 +17,13 @@ use Rattle.rules.specs.Blocks
 use Rattle.rules.specs.Laws.Answers.{step-accepted, step-refused}
 use Rattle.rules.specs.Laws.Decided.{places-in}
 use Rattle.rules.specs.Laws.Layout.{offset-in}
-use Rattle.rules.specs.Levels.{filled, sources}
+use Rattle.rules.specs.Levels.{filled, topLevel}
 use Rattle.rules.specs.Questions.{Ask, opening, request, turn, completion, collect, save, load, Call, number}
-use Rattle.rules.specs.Rebuild.{places, unread}
+use Rattle.rules.specs.Rebuild.{places, unread, nextUnread}
 use Rattle.rules.specs.Reader
 use Rattle.rules.specs.Laws.Reader.{slotIn, ifUnread}
+use Rattle.rules.specs.Jobs.{joined, topOf}
+use Rattle.rules.specs.Laws.Levels.{levels-pos, top-lt}
 use Rattle.rules.specs.Request
 use Rattle.rules.specs.Run
 use Rattle.rules.specs.Run.{step}
@@ -29,40 +31,52 @@ use Rattle.rules.specs.Shape.{cell, offset, slots}
 use Rattle.rules.specs.State.{State, Command, cmd, read, Request}
 use Rattle.rules.specs.Turn
 use Rattle.rules.specs.Turn.{Step, idle, noDummy, readForRequest, readForJob, rebuild, writeNext, decide, command}
-use Rattle.reachable.specs.Consequences.{block-lt, unread-mark, read-mark, reads-count, named-zero, job-full}
+use Rattle.reachable.specs.Consequences.{block-lt, unread-mark, read-mark, reads-count, named-zero, spent}
 use Rattle.reachable.specs.Decided.{JobReads, OwnSlot, DummySlot, ItemSlot, RequestReads, decided, Decided, if-unread}
 use Rattle.reachable.specs.Invariant.{Reached}
-use Rattle.reachable.specs.Live.{front-is}
+use Rattle.reachable.specs.Live.{joined-begun, front-is, counted-calm}
 use Rattle.reachable.specs.Never.{named-none}
 use Rattle.reachable.specs.Terms.{Numbered, LowestUnread}
 
 module _ (s : State) (f : Reached s) where
   -- what the front job has gone over is read
-  over-read : (q : ℕ) (rest : List ℕ) → s .queue ≡ q ∷ rest → s .sent ≡ 0 → (ℓ i : ℕ) → ℓ < sources (s .shape) (s .counter q) → i < slots ℓ → offset ℓ i < s .cursor → Blocks.isUnread s q ℓ i ≡ false
-  unfolding Blocks.isUnread
-  over-read q rest e z ℓ i hℓ hi l = ne-eqb (s .mark (cell (s .shape) q ℓ i)) 1 (λ w. let u = f .scanned q ℓ i (rw e (front-is q rest)) z hℓ hi l in omega arith)
+  over-read : (q : ℕ) (rest : List ℕ) → s .queue ≡ q ∷ rest → s .sent ≡ 0 → (ℓ i : ℕ) → ℓ ≤ topOf s q → filled (s .counter q) ℓ ≡ true → i < slots ℓ → offset ℓ i < s .cursor → Blocks.isUnread s q ℓ i ≡ false
+  unfolding Blocks.isUnread topOf
+  over-read q rest e z ℓ i hℓ k hi l = ne-eqb (s .mark (cell (s .shape) q ℓ i)) 1 (λ w.
+      let n : s .begun ≡ 0 → ⊥ = λ x. omega (arith, f .unbegun x .0) in
+      let u = f .scanned q ℓ i (rw e (front-is q rest)) z (n, subst (λ j. ℓ ≤ topLevel (s .shape) (s .counter q) j) (joined-begun s q n) hℓ, k) hi l in
+      omega arith)
 
   pub scan-all : (q : ℕ) (rest : List ℕ) → s .queue ≡ q ∷ rest → s .sent ≡ 0
-      → unread s q ≡ find (λ p. Blocks.isUnread s q (p .0) (p .1)) (places (sources (s .shape) (s .counter q)))
-  unfolding unread
-  scan-all q rest e z = find-same _ _ (all-map (λ p h. go p h (leb (s .cursor) (offset (p .0) (p .1))) refl) (places-in (sources (s .shape) (s .counter q))))
+      → unread s q ≡ find (λ p. filled (s .counter q) (p .0) && Blocks.isUnread s q (p .0) (p .1)) (places (suc (topOf s q)))
+  unfolding unread nextUnread
+  scan-all q rest e z = find-same _ _ (all-map (λ p h. go p h (leb (s .cursor) (offset (p .0) (p .1))) (filled (s .counter q) (p .0)) refl refl) (places-in (suc (topOf s q))))
     where
-      go : (p : ℕ × ℕ) → (p .0 < sources (s .shape) (s .counter q)) × (p .1 < slots (p .0)) → (t : Bool) → leb (s .cursor) (offset (p .0) (p .1)) ≡ t
-          → (leb (s .cursor) (offset (p .0) (p .1)) && Blocks.isUnread s q (p .0) (p .1)) ≡ Blocks.isUnread s q (p .0) (p .1)
-      go p h true l = rw l
-      go p h false l = rw l (sym (over-read q rest e z (p .0) (p .1) (h .0) (h .1) (leb-false (s .cursor) (offset (p .0) (p .1)) l)))
+      go : (p : ℕ × ℕ) → (p .0 < suc (topOf s q)) × (p .1 < slots (p .0)) → (t u : Bool) → leb (s .cursor) (offset (p .0) (p .1)) ≡ t → filled (s .counter q) (p .0) ≡ u
+          → (leb (s .cursor) (offset (p .0) (p .1)) && (filled (s .counter q) (p .0) && Blocks.isUnread s q (p .0) (p .1))) ≡ (filled (s .counter q) (p .0) && Blocks.isUnread s q (p .0) (p .1))
+      go p h true u l k = rw l
+      go p h false false l k = rw (l, k)
+      go p h false true l k = rw (l, k) (sym (over-read q rest e z (p .0) (p .1) (omega (arith, h .0)) k (h .1) (leb-false (s .cursor) (offset (p .0) (p .1)) l)))
 
   pub lower-read : (q ℓ i : ℕ) → JobReads s q ℓ i → (m j : ℕ) → j < slots m → (m < ℓ) ⊎ ((m ≡ ℓ) × (j < i)) → Blocks.isUnread s q m j ≡ false
   unfolding offset
-  lower-read q ℓ i d m j hj l = go (decLt (offset m j) (s .cursor))
+  lower-read q ℓ i d m j hj l = by (filled (s .counter q) m) refl
     where
-      before : (m < ℓ) ⊎ ((m ≡ ℓ) × (j < i)) → (m < sources (s .shape) (s .counter q)) × (offset m j < offset ℓ i)
+      before : (m < ℓ) ⊎ ((m ≡ ℓ) × (j < i)) → (m ≤ topOf s q) × (offset m j < offset ℓ i)
       before (inl l) = (omega (arith, d .source), omega (arith, offset-in ℓ m j l hj))
       before (inr e) = (rw (e .0) (d .source), rw (e .0) (omega (arith, e .1)))
 
-      go : Dec (offset m j < s .cursor) → Blocks.isUnread s q m j ≡ false
-      go (yes k) = over-read q (d .rest) (d .front) (d .calm) m j (before l .0) hj k
-      go (no k) = d .next m j (before l .0) hj (omega arith) (before l .1)
+      hm : m < s .shape .L
+      hm = unfold topOf in (omega (arith, before l .0, top-lt (s .shape) (s .counter q) (joined s q) (levels-pos (s .shape) (f .range .shape))))
+
+      go : filled (s .counter q) m ≡ true → Dec (offset m j < s .cursor) → Blocks.isUnread s q m j ≡ false
+      go u (yes k) = over-read q (d .rest) (d .front) (d .calm) m j (before l .0) u hj k
+      go u (no k) = d .next m j (before l .0) u hj (omega arith) (before l .1)
+
+      -- a level that is not filled has no unread slot
+      by : (t : Bool) → filled (s .counter q) m ≡ t → Blocks.isUnread s q m j ≡ false
+      by true u = go u (decLt (offset m j) (s .cursor))
+      by false u = unfold Blocks.isUnread in (ne-eqb (s .mark (cell (s .shape) q m j)) 1 (λ w. omega (arith, spent s f q m j hm (ap (λ c. filled c m) (counted-calm s q (d .calm)) ∙ u) hj, w)))
 
   pub lowest-dummy : (q ℓ i : ℕ) → RequestReads s q ℓ i → Request.isSource s q ℓ ≡ false → (r : Request) → s .request ≡ some r → slotIn ℓ (s .place (r .block)) ≡ none
       → (n : ℕ) × (Numbered (s .shape) (s .order) (s .mark) (s .holds) q ℓ n × LowestUnread (s .shape) (s .order) (s .mark) q ℓ n i)
@@ -171,8 +185,8 @@ module _ (s : State) (f : Reached s) where
       go idle d e = absurd (omega (arith, ap (λ (c : Command). c .kind) e))
       go noDummy d e = absurd (omega (arith, ap (λ (c : Command). c .kind) e))
       go (readForRequest p m j) d e = rw (← ap (λ (c : Command). c .partition) e, ← ap (λ (c : Command). c .level) e) (d .full)
-      go (readForJob p m j) d e = rw (← ap (λ (c : Command). c .partition) e, ← ap (λ (c : Command). c .level) e) (job-full s f p m j d)
-      go (rebuild p t) d e = absurd (let z : _≡_ {A = ℕ} 2 1 = ap (λ (c : Command). c .kind) e in omega arith)
+      go (readForJob p m j) d e = rw (← ap (λ (c : Command). c .partition) e, ← ap (λ (c : Command). c .level) e) (d .full)
+      go (rebuild p ls) d e = absurd (let z : _≡_ {A = ℕ} 2 1 = ap (λ (c : Command). c .kind) e in omega arith)
       go (writeNext p t j) d e = absurd (let z : _≡_ {A = ℕ} 2 1 = ap (λ (c : Command). c .kind) e in omega arith)
 
 -- a call that reports a read is a turn that sends it

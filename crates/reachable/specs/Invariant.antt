@@ -2,7 +2,7 @@
 use mathlib.Core.Path.{_≡_}
 use mathlib.Core.Logic.{_⊎_}
 use mathlib.Core.Bool.{true, false}
-use mathlib.Core.List.{List, [], _∷_}
+use mathlib.Core.List.{List, _∷_}
 use mathlib.Core.Option.{Option, some}
 use Prim.Native.Nat.{ℕ, zero, suc, _+_, _-_, _%_, _^_, _≤_, _<_}
 use lib.ListN.{length, drop}
@@ -12,13 +12,14 @@ use Rattle.lists.specs.Totals.{total}
 use Rattle.rules.specs.Form.Loading.{storedAt}
 use Rattle.rules.specs.Laws.Form.Saveable.{FilledCell}
 use Rattle.rules.specs.Laws.Range.{InRange}
-use Rattle.rules.specs.Levels.{filled, sources, target}
-use Rattle.rules.specs.Request
+use Rattle.rules.specs.Jobs.{queued, slotCount}
+use Rattle.rules.specs.Levels.{filled, writtenLevels}
 use Rattle.rules.specs.Shape.{Shape, cell, offset, slots}
 use Rattle.rules.specs.State.{State, Command, Place, nowhere, stored, Request, read, write}
-use Rattle.rules.specs.Request.{isFront}
+use Rattle.rules.specs.Request
+use Rattle.rules.specs.Request.{isFront, isSource}
 use Rattle.rules.specs.Blocks.{readsOf}
-use Rattle.reachable.specs.Live.{storedIn, counted, Gathers, Alone, pending, passedBy}
+use Rattle.reachable.specs.Live.{storedIn, counted, Source, Gathers, Alone, pending, passedBy, writeNumber}
 use Rattle.reachable.specs.Terms.{Numbered, Apart}
 
 -- ---- Blocks and slots
@@ -63,9 +64,17 @@ Taken h holds = (q ℓ : ℕ) → q < h .P → ℓ < h .L → holdsOf h holds q 
 
 -- ---- Reads and writes
 
--- Writes are sent for the front job, at most one to each slot of its target
+-- Writes are sent for the front job, at most one to each slot of its written levels
 abbrev pub Begun : State → Type 0
-Begun s = (s .sent ≡ 0 → ⊥) → (q : ℕ) × (rest : List ℕ) × ((s .queue ≡ q ∷ rest) × (s .sent ≤ slots (target (s .shape) (s .counter q))))
+Begun s = (s .sent ≡ 0 → ⊥) → (q : ℕ) × (rest : List ℕ) × ((s .queue ≡ q ∷ rest) × (s .sent ≤ slotCount (writtenLevels (s .shape) (s .counter q) (s .begun))))
+
+-- A job that has begun is the front one, and runs for jobs that are queued
+abbrev pub Running : State → Type 0
+Running s = (s .begun ≡ 0 → ⊥) → (q : ℕ) × (rest : List ℕ) × ((s .queue ≡ q ∷ rest) × (s .begun ≤ queued (s .queue) q))
+
+-- Where none has begun, none has gone over anything, and no write is sent
+abbrev pub Unbegun : State → Type 0
+Unbegun s = s .begun ≡ 0 → (s .cursor ≡ 0) × (s .sent ≡ 0)
 
 -- A live level that is not gathered has been read at most once for each job that was drawn since it was written, and once for each job and
 -- each request that is pending
@@ -77,14 +86,14 @@ Reads s = (q ℓ : ℕ) → q < s .shape .P → ℓ < s .shape .L → filled (co
 abbrev pub Unheld : State → Type 0
 Unheld s = (r : Request) → s .request ≡ some r → (r .level ≡ 0) ⊎ (Request.held r ≡ false)
 
--- The partition of a request that is not held has no job, or only one, at the front and not drawn
+-- The partition of a request that is not held has no job, or only those of one run, at the front and not drawn
 abbrev pub Released : State → Type 0
 Released s = (r : Request) → s .request ≡ some r → Request.held r ≡ false → (¬ Mem (s .partition (r .block)) (s .queue)) ⊎ Alone s (s .partition (r .block))
 
--- ..and of the levels that it has yet to pass, those that no job gathers have been read less than 2^ℓ times
+-- ..and of the levels that it has yet to pass, those that are no source have been read less than 2^ℓ times
 abbrev pub Unworn : State → Type 0
 Unworn s = (r : Request) → s .request ≡ some r → Request.held r ≡ false → (ℓ : ℕ) → r .level ≤ ℓ → ℓ < s .shape .L → filled (s .counter (s .partition (r .block))) ℓ ≡ true
-    → ¬ Gathers s (s .partition (r .block)) ℓ → readsOf (s .shape) (s .mark) (s .partition (r .block)) ℓ < 2 ^ ℓ
+    → isSource s (s .partition (r .block)) ℓ ≡ false → readsOf (s .shape) (s .mark) (s .partition (r .block)) ℓ < 2 ^ ℓ
 
 -- ..and an outstanding command of its partition that it does not await is of a level that the job gathers, and not of its block's slot
 abbrev pub Aside : State → Request → Command → Type 0
@@ -107,43 +116,31 @@ Fetched s = (r : Request) (ℓ i : ℕ) → s .request ≡ some r → s .place (
 
 -- The slots of its sources that the front job has gone over are read
 abbrev pub Scanned : State → Type 0
-Scanned s = (q ℓ i : ℕ) → isFront (s .queue) q ≡ true → s .sent ≡ 0 → ℓ < sources (s .shape) (s .counter q) → i < slots ℓ → offset ℓ i < s .cursor → s .mark (cell (s .shape) q ℓ i) ≡ 0
-
--- With no job queued, none has begun
-abbrev pub Jobless : State → Type 0
-Jobless s = s .queue ≡ [] → s .begun ≡ 0
-
--- A job that has not begun has gone over nothing and sent no write
-abbrev pub Unbegun : State → Type 0
-Unbegun s = s .begun ≡ 0 → (s .cursor ≡ 0) × (s .sent ≡ 0)
-
--- While a job is drawn, the levels below its target are read throughout
-abbrev pub Spent : State → Type 0
-Spent s = (q ℓ i : ℕ) → isFront (s .queue) q ≡ true → (s .sent ≡ 0 → ⊥) → ℓ < target (s .shape) (s .counter q) → i < slots ℓ → s .mark (cell (s .shape) q ℓ i) ≡ 0
+Scanned s = (q ℓ i : ℕ) → isFront (s .queue) q ≡ true → s .sent ≡ 0 → Source (s .shape) (s .counter q) (s .begun) ℓ → i < slots ℓ → offset ℓ i < s .cursor → s .mark (cell (s .shape) q ℓ i) ≡ 0
 
 -- ---- Outstanding commands
 
 -- An outstanding read: its slot counts as read, its level is filled, and the request for its partition has passed it, or the front job gathers it
-pub record ReadOf (h : Shape) (counter mark partition : ℕ → ℕ) (request : Option Request) (queue : List ℕ) (sent : ℕ) (c : Command) : Type 0 where
+pub record ReadOf (h : Shape) (counter mark partition : ℕ → ℕ) (request : Option Request) (queue : List ℕ) (job sent : ℕ) (c : Command) : Type 0 where
   pub kind : c .kind ≡ read
   pub isRead : mark (cell h (c .partition) (c .level) (c .slot)) ≡ 0
   pub full : filled (counter (c .partition)) (c .level) ≡ true
   pub whose : (passedBy partition request (c .partition) (c .level) ≡ true)
-      ⊎ ((isFront queue (c .partition) ≡ true) × (sent ≡ 0) × (c .level < sources h (counter (c .partition))))
+      ⊎ ((isFront queue (c .partition) ≡ true) × (sent ≡ 0) × Source h (counter (c .partition)) job (c .level))
 
--- An outstanding write: of the front job's target, below its count of writes sent
-pub record WriteOf (h : Shape) (counter : ℕ → ℕ) (queue : List ℕ) (sent : ℕ) (c : Command) : Type 0 where
+-- An outstanding write: of a level that the front job writes, and one of the writes that it has sent
+pub record WriteOf (h : Shape) (counter : ℕ → ℕ) (queue : List ℕ) (job sent : ℕ) (c : Command) : Type 0 where
   pub kind : c .kind ≡ write
   pub front : isFront queue (c .partition) ≡ true
   pub busy : sent ≡ 0 → ⊥
-  pub goal : c .level ≡ target h (counter (c .partition))
-  pub slot : c .slot < sent
+  pub goal : Mem (c .level) (writtenLevels h (counter (c .partition)) job)
+  pub slot : writeNumber (writtenLevels h (counter (c .partition)) job) (c .level) (c .slot) < sent
 
 abbrev pub Reading : State → Command → Type 0
-Reading s c = ReadOf (s .shape) (s .counter) (s .mark) (s .partition) (s .request) (s .queue) (s .sent) c
+Reading s c = ReadOf (s .shape) (s .counter) (s .mark) (s .partition) (s .request) (s .queue) (s .begun) (s .sent) c
 
 abbrev pub Writing : State → Command → Type 0
-Writing s c = WriteOf (s .shape) (s .counter) (s .queue) (s .sent) c
+Writing s c = WriteOf (s .shape) (s .counter) (s .queue) (s .begun) (s .sent) c
 
 abbrev pub Commands : State → Type 0
 Commands s = All (λ c. Reading s c ⊎ Writing s c) (s .outstanding)
@@ -160,12 +157,6 @@ pub record SlotCell (h : Shape) (c : ℕ) : Type 0 where
   pub inSlots : slot < slots level
   pub isCell : c ≡ cell h part level slot
 
--- A front job that has not begun has left the slots of its partition's blocks unread; the request for a block may have read its slot, in a level
--- that the job does not gather
-abbrev pub Untouched : State → Type 0
-Untouched s = (b ℓ i : ℕ) → b < s .shape .N → s .place b ≡ stored ℓ i → s .begun ≡ 0 → isFront (s .queue) (s .partition b) ≡ true →
-    (s .mark (cell (s .shape) (s .partition b) ℓ i) ≡ 1) ⊎ Own s b ℓ
-
 -- Tables have zeros outside the shape, and a slot that is not in a live level is not unread
 pub record Tidy (s : State) : Type 0 where
   pub partitions : (b : ℕ) → s .shape .N ≤ b → s .partition b ≡ 0
@@ -174,7 +165,6 @@ pub record Tidy (s : State) : Type 0 where
   pub marked : (c : ℕ) → ¬ (s .mark c ≡ 0) → FilledCell (s .shape) (counted s) c
   pub held : (c : ℕ) → ¬ (s .holds c ≡ 0) → SlotCell (s .shape) c
   pub whole : (b : ℕ) → length (s .bytes b) ≡ s .shape .B
-  pub untouched : Untouched s
 
 -- ---- All of it
 
@@ -188,6 +178,8 @@ pub record Reached (s : State) : Type 0 where
   pub full : Full s
   pub taken : Taken (s .shape) (s .holds)
   pub begun : Begun s
+  pub running : Running s
+  pub unbegun : Unbegun s
   pub reads : Reads s
   pub unheld : Unheld s
   pub released : Released s
@@ -196,9 +188,6 @@ pub record Reached (s : State) : Type 0 where
   pub unread : Unread s
   pub fetched : Fetched s
   pub scanned : Scanned s
-  pub jobless : Jobless s
-  pub unbegun : Unbegun s
-  pub spent : Spent s
   pub apart : Apart (s .outstanding)  -- a slot never has two commands outstanding
   pub commands : Commands s
   pub tidy : Tidy s  -- what a saved form leaves out is no part of it

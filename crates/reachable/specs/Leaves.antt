@@ -1,29 +1,26 @@
 -- Document 02, P4: "and the wanted block leaves the job."
 use mathlib.Core.Path.{_≡_, refl, ap, sym, _∙_}
-use mathlib.Core.Logic.{_⊎_, inl, inr}
-use mathlib.Core.Bool.{Bool, true, false, _||_, true≢false}
+use mathlib.Core.Logic.{⊎-elim}
+use mathlib.Core.Bool.{Bool, true, false, true≢false}
 use mathlib.Core.List.{List, [], _∷_}
 use mathlib.Core.Option.{Option, none, some}
 use Prim.Native.Nat.{ℕ, suc, _<_}
 use lib.Dec.{eqb}
 use borrow.Author.Tests.{eqb-true, eqb-false}
-use Rattle.lists.specs.All.{All, cons, keep-passes}
+use Rattle.lists.specs.All.{All, cons}
 use Rattle.lists.specs.Distinct.{Mem}
-use Rattle.lists.specs.Members.{member-mem, all-mem}
-use Rattle.lists.specs.Search.{below, member}
 use Rattle.lists.specs.Tables.{put-same, put-has}
-use Rattle.lists.specs.Tests.{if_then_else_, or-true}
-use Rattle.rules.specs.Blocks.{entries, holder}
+use Rattle.lists.specs.Tests.{if_then_else_}
+use Rattle.rules.specs.Blocks.{holder}
 use Rattle.rules.specs.Collect.{collected, finish}
 use Rattle.rules.specs.Completion
 use Rattle.rules.specs.Completion.{complete}
 use Rattle.rules.specs.Draws.{draws}
 use Rattle.rules.specs.Laws.Answers.{step-accepted, step-refused, accepted-leaves}
-use Rattle.rules.specs.Laws.Levels.{sources-le}
-use Rattle.rules.specs.Levels.{sources}
+use Rattle.rules.specs.Jobs.{topOf}
 use Rattle.rules.specs.Open.{fresh}
 use Rattle.rules.specs.Questions.{Ask, opening, request, turn, completion, collect, save, load, Call, bounds, number}
-use Rattle.rules.specs.Rebuild.{chosen, isChosen, gathered}
+use Rattle.rules.specs.Rebuild.{chosen, gathered}
 use Rattle.rules.specs.Request.{accept, release}
 use Rattle.rules.specs.Resumes.{NoLoad, savedBy, OfLast, Resumes}
 use Rattle.rules.specs.Run
@@ -34,24 +31,11 @@ use Rattle.reachable.specs.Invariant.{Reached}
 use Rattle.reachable.specs.LastSaved.{OfState, step-last, Brought, back, gone, load-leaves, resumes-was}
 use Rattle.reachable.specs.Reached.{Was}
 use Rattle.reachable.specs.Live.{isBelow}
-use Rattle.reachable.specs.Slots.{entry-why, is-chosen}
+use Rattle.reachable.specs.Slots.{gathered-why}
 
--- a block without a slot is gathered only as the one that is chosen from the cache
-pub gathered-chosen : (s : State) → Reached s → (q b : ℕ) → q < s .shape .P → s .place b ≡ nowhere → Mem b (gathered s q) → chosen s q ≡ some b
-gathered-chosen s f q b hq e m = go (or-true (isChosen (chosen s q) b) (member (suc b) (entries s q top)) passes)
-  where
-    top : ℕ
-    top = sources (s .shape) (s .counter q)
-
-    passes : (isChosen (chosen s q) b || member (suc b) (entries s q top)) ≡ true
-    passes = all-mem (keep-passes (λ b. isChosen (chosen s q) b || member (suc b) (entries s q top)) (below (s .shape .N))) b (unfold gathered in m)
-
-    stored : isBelow top (s .place b) ≡ true → ⊥
-    stored k = true≢false (sym k ∙ ap (isBelow top) e ∙ unfold isBelow in refl)
-
-    go : (isChosen (chosen s q) b ≡ true) ⊎ (member (suc b) (entries s q top) ≡ true) → chosen s q ≡ some b
-    go (inl k) = is-chosen (chosen s q) b k
-    go (inr k) = absurd (stored (entry-why s f q hq top b (sources-le (s .shape) (s .counter q)) (member-mem (suc b) (entries s q top) k) .2))
+-- a block without a slot is gathered only as one of those that are chosen from the cache
+pub gathered-chosen : (s : State) → Reached s → (q b : ℕ) → q < s .shape .P → s .sent ≡ 0 → s .place b ≡ nowhere → Mem b (gathered s q) → Mem b (chosen s q)
+gathered-chosen s f q b hq calm e m = ⊎-elim (λ k. k) (λ k. absurd (true≢false (sym (k .1) ∙ ap (isBelow (suc (topOf s q))) e ∙ unfold isBelow in refl))) (gathered-why s f q hq calm b m)
 
 -- a collect takes its block out of its slot
 pub collected-nowhere : (s : State) (k : Call) → k .ask ≡ collect → number s k ≡ 0 → (r : Request) → s .request ≡ some r → step s k .0 .place (r .block) ≡ nowhere
@@ -71,7 +55,7 @@ module _ (s : State) (b : ℕ) (e : s .place b ≡ nowhere) where
   turn-stays noDummy js n = e
   turn-stays (readForRequest q ℓ i) js n = e
   turn-stays (readForJob q ℓ i) js n = e
-  turn-stays (rebuild q t) js n = absurd (n refl)
+  turn-stays (rebuild q ls) js n = absurd (n refl)
   turn-stays (writeNext q t i) js n = e
 
   complete-stays : (c : Command) (bs : List ℕ) → complete c bs s .place b ≡ nowhere
@@ -81,15 +65,15 @@ module _ (s : State) (b : ℕ) (e : s .place b ≡ nowhere) where
       s′ : State
       s′ = Completion.completed c s
 
-      ended : (q : ℕ) (qs : List ℕ) (t : Bool) → (if t then Completion.endJob q qs s′ else s′) .place b ≡ nowhere
-      ended q qs true = e
-      ended q qs false = e
+      ended : (q : ℕ) (t : Bool) → (if t then Completion.endJob q s′ else s′) .place b ≡ nowhere
+      ended q true = e
+      ended q false = e
 
       go : (t : Bool) (o : Option ℕ) (qs : List ℕ) → (if t then Completion.gatherBytes o bs s′ else Completion.finishJob qs s′) .place b ≡ nowhere
       go true none qs = e
       go true (some d) qs = e
       go false o [] = e
-      go false o (q ∷ qs) = ended q qs (Completion.jobDone s′ q)
+      go false o (q ∷ qs) = ended q (Completion.jobDone s′ q)
 
   collect-stays : (o : Option Request) → collected o s .place b ≡ nowhere
   unfolding collected finish

@@ -1,10 +1,10 @@
--- States that calls left never lack a dummy, and never gather more blocks than the target holds.
+-- States that calls left never lack a dummy, and never gather more blocks than the written levels hold.
 use mathlib.Core.Path.{_≡_, refl, ap, sym, _∙_}
-use mathlib.Core.Logic.{inl, inr, ⊎-elim}
+use mathlib.Core.Logic.{⊎-elim}
 use mathlib.Core.Bool.{Bool, true, false, not, _&&_, _||_, true≢false}
 use mathlib.Core.List.{List, [], _∷_, _++_, map}
 use mathlib.Core.Option.{Option, none, some}
-use Prim.Native.Nat.{ℕ, zero, suc, _+_, _-_, _^_, _≤_, _<_}
+use Prim.Native.Nat.{ℕ, zero, suc, _+_, _-_, _^_, _≤_, _<_, _%_}
 use native.Mathlib.Omega.{arith}
 use native.Mathlib.Decide.{decLt}
 use lib.ListN.{length, length-append}
@@ -19,8 +19,9 @@ use Rattle.lists.specs.Search.{below, member}
 use Rattle.lists.specs.Tests.{and-l, and-r, and-true, or-left, or-right}
 use Rattle.lists.specs.Totals.{total-gap}
 use Rattle.rules.specs.Blocks
-use Rattle.rules.specs.Laws.Levels.{sources-le}
-use Rattle.rules.specs.Levels.{filled, sources, target}
+use Rattle.rules.specs.Jobs.{joined, topOf, levelsOf, capacity}
+use Rattle.rules.specs.Laws.Levels.{levels-pos}
+use Rattle.rules.specs.Levels.{filled, isFull, topLevel, writtenLevels}
 use Rattle.rules.specs.Questions
 use Rattle.rules.specs.Questions.{request, turn, possible, questions, firstNo}
 use Rattle.rules.specs.Ranges.{isKind}
@@ -31,14 +32,16 @@ use Rattle.rules.specs.Request
 use Rattle.rules.specs.Shape.{cell, slots}
 use Rattle.rules.specs.State.{State, stored, Request}
 use Rattle.rules.specs.Turn.{decide, Step, idle, noDummy, readForRequest, readForJob, rebuild, writeNext}
-use Rattle.reachable.specs.Blocks.{in-why, is-below, why-in, lt-below, why-at, in-is, nodup-in, nodup-gathered, gathered-lt, target-min}
-use Rattle.reachable.specs.Consequences.{block-lt, released-count, lowest-none}
+use Rattle.reachable.specs.Blocks.{in-why, is-below, why-in, lt-below, why-at, in-is, nodup-in, nodup-gathered, gathered-lt, at-why, is-in, nodup-at, chosen-few}
+use Rattle.reachable.specs.Consequences.{block-lt, released-count, lowest-none, joins-front}
 use Rattle.reachable.specs.Decided.{Lacks, Decided, decided, costs-filled}
 use Rattle.reachable.specs.Invariant.{taken, Reached, holdsOf}
 use Rattle.rules.specs.Form.Loading.{storedAt}
+use Rattle.rules.specs.Laws.Bits.{mod-filled, mod-empty}
+use Rattle.rules.specs.Laws.Grown.{written-holds}
 use Rattle.reachable.specs.Live
 use Rattle.rules.specs.Blocks.{readsOf}
-use Rattle.reachable.specs.Live.{counted, gathers-source}
+use Rattle.reachable.specs.Live.{counted, counted-calm}
 use Rattle.reachable.specs.Slots.{gathered-why, chosen-room, front-in}
 
 taken-none : (n : ℕ) → taken n ≡ 0 → n ≡ 0
@@ -91,7 +94,7 @@ never-lacks s f k = go (Request.isSource s q ℓ) refl (rw (k .cost) at (sym (sl
         true≢false (sym yes-i ∙ all-mem a i (item i hi))
 
     few : Request.isSource s q ℓ ≡ false → readsOf (s .shape) (s .mark) q ℓ < 2 ^ ℓ
-    few u = f .unworn r (k .inHand) (k .unheld) ℓ (k .left) (k .top) full (λ g. true≢false (sym (gathers-source s q ℓ g) ∙ u))
+    few u = f .unworn r (k .inHand) (k .unheld) ℓ (k .left) (k .top) full u
 
     go : (t : Bool) → Request.isSource s q ℓ ≡ t
         → slotSaid t (Blocks.isUnread s q ℓ) (Reader.dummy s q ℓ) (Reader.lowest s q ℓ) (s .place (r .block)) ℓ ≡ none → ⊥
@@ -115,7 +118,7 @@ never-lacks s f k = go (Request.isSource s q ℓ) refl (rw (k .cost) at (sym (sl
         (omega (arith, few u, t, pow-mono {i = ℓ + 1} {j = suc ℓ} (omega arith), pow-mono {i = suc ℓ} {j = ℓ + 1} (omega arith))) in
         found n (gap .0) (gap .1 .0) (omega (arith, gap .1 .1, f .range .marks q ℓ (gap .0) hq (k .top) (gap .1 .0))) (gap .1 .2)
 
--- The levels below n store fewer than 2^n blocks
+-- How many blocks the levels below n store
 module _ (s : State) (f : Reached s) (q : ℕ) (hq : q < s .shape .P) where
   split-in : (n b : ℕ) → Mem b (Live.storedIn s q (suc n)) → Mem b (Live.storedIn s q n ++ storedAt s q n)
   split-in n b m =
@@ -129,48 +132,50 @@ module _ (s : State) (f : Reached s) (q : ℕ) (hq : q < s .shape .P) where
           let e : x .0 ≡ n = omega (arith, x .2 .1) in
           append-right b (Live.storedIn s q n) (storedAt s q n) (why-at s q n b (y .0) (y .1) (in-is n (x .1) (s .place b) (x .2 .0 ∙ ap (λ k. stored k (x .1)) e)))
 
-  below-few : (n : ℕ) → length (Live.storedIn s q n) < 2 ^ n
+  -- a level that is not live stores nothing
+  none-at : (n : ℕ) → filled (counted s q) n ≡ false → length (storedAt s q n) ≤ 0
+  none-at n e = nodup-sub (storedAt s q n) [] (nodup-at s q n) (λ b m.
+      let y = at-why s q n b m in
+      let x = is-in n (s .place b) (y .2) in
+      true≢false (sym (f .agree .placed b n (x .0) (y .0) (x .1) .0) ∙ ap (λ p. filled (counted s p) n) (y .1) ∙ e))
+
+  -- the levels below n store no more than the counter says
+  below-few : (n : ℕ) → length (Live.storedIn s q n) ≤ counted s q % 2 ^ n
   below-few zero = omega (arith, nodup-sub (Live.storedIn s q 0) [] (nodup-in s q 0) (λ b m. let x = is-below 0 (s .place b) (in-why s q 0 b m .2) in omega (arith, x .2 .1)))
-  below-few (suc n) = omega (
-    arith,
-    below-few n,
-    f .room q n,
-    length-append (Live.storedIn s q n) (storedAt s q n),
-    nodup-sub (Live.storedIn s q (suc n)) (Live.storedIn s q n ++ storedAt s q n) (nodup-in s q (suc n)) (split-in n),
-  )
-
-  from : ℕ
-  from = sources (s .shape) (s .counter q)
-
-  gathered-none : chosen s q ≡ none → length (gathered s q) ≤ length (Live.storedIn s q from)
-  unfolding from
-  gathered-none e = nodup-sub (gathered s q) (Live.storedIn s q from) (nodup-gathered s q)
-      (λ b m. ⊎-elim (λ k. let z : _≡_ {A = ℕ} 0 1 = cc in absurd (omega arith)) (λ k. why-in s q from b (gathered-lt s q b m) (k .0) (k .1)) (gathered-why s f q hq b m))
-
-  gathered-one : (a : ℕ) → chosen s q ≡ some a → length (gathered s q) ≤ suc (length (Live.storedIn s q from))
-  unfolding from
-  gathered-one a e = nodup-sub (gathered s q) (a ∷ Live.storedIn s q from) (nodup-gathered s q)
-      (λ b m. ⊎-elim (λ k. inl (cc)) (λ k. inr (why-in s q from b (gathered-lt s q b m) (k .0) (k .1))) (gathered-why s f q hq b m))
-
-  -- The target holds the blocks that are gathered
-  pub never-many : length (gathered s q) ≤ 2 ^ target (s .shape) (s .counter q)
-  unfolding from
-  never-many = go (chosen s q) refl (decLt from (s .shape .L))
+  below-few (suc n) = go (filled (counted s q) n) refl (below-few n)
     where
-      some-goal : from < s .shape .L → target (s .shape) (s .counter q) ≡ from
-      some-goal l = omega (arith, target-min (s .shape) (s .counter q))
+      both : length (Live.storedIn s q (suc n)) ≤ length (Live.storedIn s q n) + length (storedAt s q n)
+      both = omega (arith, length-append (Live.storedIn s q n) (storedAt s q n), nodup-sub (Live.storedIn s q (suc n)) (Live.storedIn s q n ++ storedAt s q n) (nodup-in s q (suc n)) (split-in n))
 
-      all-from : ¬ (from < s .shape .L) → from ≡ s .shape .L
-      all-from l = omega (arith, sources-le (s .shape) (s .counter q))
+      go : (t : Bool) → filled (counted s q) n ≡ t → length (Live.storedIn s q n) ≤ counted s q % 2 ^ n → length (Live.storedIn s q (suc n)) ≤ counted s q % 2 ^ suc n
+      go true e ih = omega (arith, both, f .room q n, mod-filled (counted s q) n e)
+      go false e ih = omega (arith, both, none-at n e, mod-empty (counted s q) n e)
 
-      last : ¬ (from < s .shape .L) → target (s .shape) (s .counter q) ≡ s .shape .L - 1
-      last l = omega (arith, target-min (s .shape) (s .counter q))
+  -- The written levels hold the blocks that are gathered
+  module _ (calm : s .sent ≡ 0) (rest : List ℕ) (front : s .queue ≡ q ∷ rest) where
+    gathered-few : length (gathered s q) ≤ length (chosen s q) + length (Live.storedIn s q (suc (topOf s q)))
+    gathered-few = omega (
+      arith,
+      length-append (chosen s q) (Live.storedIn s q (suc (topOf s q))),
+      nodup-sub (gathered s q) (chosen s q ++ Live.storedIn s q (suc (topOf s q))) (nodup-gathered s q) (λ b m. ⊎-elim
+          (λ k. member-append b (chosen s q) (Live.storedIn s q (suc (topOf s q))) k)
+          (λ k. append-right b (chosen s q) (Live.storedIn s q (suc (topOf s q))) (why-in s q (suc (topOf s q)) b (gathered-lt s q b m) (k .0) (k .1))) (gathered-why s f q hq calm b m)),
+    )
 
-      go : (o : Option ℕ) → chosen s q ≡ o → Dec (from < s .shape .L) → length (gathered s q) ≤ 2 ^ target (s .shape) (s .counter q)
-      go none e (yes l) = rw (some-goal l) (omega (arith, gathered-none e, below-few from))
-      go (some a) e (yes l) = rw (some-goal l) (omega (arith, gathered-one a e, below-few from))
-      go none e (no l) = rw (last l) (omega (arith, gathered-none e, f .full q, ap (λ n. length (Live.storedIn s q n)) (all-from l)))
-      go (some a) e (no l) = rw (last l) (omega (arith, gathered-one a e, chosen-room s f q hq a e, ap (λ n. length (Live.storedIn s q n)) (all-from l)))
+    pub never-many : length (gathered s q) ≤ capacity (levelsOf s q)
+    unfolding levelsOf topOf
+    never-many = go (isFull (s .shape) (s .counter q)) refl
+      where
+        holds : (isFull (s .shape) (s .counter q) ≡ true → 2 ^ (s .shape .L - 1) ≤ capacity (writtenLevels (s .shape) (s .counter q) (joined s q)))
+            × (isFull (s .shape) (s .counter q) ≡ false → s .counter q % 2 ^ suc (topLevel (s .shape) (s .counter q) (joined s q)) + joined s q ≤ capacity (writtenLevels (s .shape) (s .counter q) (joined s q)))
+        holds = written-holds (s .shape) (s .counter q) (joined s q) (levels-pos (s .shape) (f .range .shape)) (f .range .counters q hq) (joins-front s f q rest front)
+
+        all-levels : isFull (s .shape) (s .counter q) ≡ true → suc (topLevel (s .shape) (s .counter q) (joined s q)) ≡ s .shape .L
+        all-levels e = unfold topLevel in (rw e (omega (arith, levels-pos (s .shape) (f .range .shape))))
+
+        go : (t : Bool) → isFull (s .shape) (s .counter q) ≡ t → length (gathered s q) ≤ capacity (writtenLevels (s .shape) (s .counter q) (joined s q))
+        go true e = omega (arith, gathered-few, chosen-room s f q hq, ap (λ n. length (Live.storedIn s q n)) (all-levels e), holds .0 e)
+        go false e = omega (arith, gathered-few, chosen-few s q, below-few (suc (topLevel (s .shape) (s .counter q) (joined s q))), ap (λ c. c % 2 ^ suc (topLevel (s .shape) (s .counter q) (joined s q))) (counted-calm s q calm), holds .1 e)
 
 -- A step that a turn decides is possible
 possible-step : (s : State) → Reached s → (x : Step) → Decided s x → possible s x ≡ true
@@ -179,7 +184,7 @@ possible-step s f idle d = refl
 possible-step s f noDummy d = absurd (never-lacks s f d)
 possible-step s f (readForRequest q ℓ i) d = refl
 possible-step s f (readForJob q ℓ i) d = refl
-possible-step s f (rebuild q t) d = rw (d .goal) (le-leb (length (gathered s q)) (2 ^ target (s .shape) (s .counter q)) (never-many s f q (front-in s f q (d .rest) (d .front))))
+possible-step s f (rebuild q ls) d = rw (d .goal) (le-leb (length (gathered s q)) (capacity (levelsOf s q)) (never-many s f q (front-in s f q (d .rest) (d .front)) (d .calm) (d .rest) (d .front)))
 possible-step s f (writeNext q t i) d = refl
 
 pub always-possible : (s : State) → Reached s → possible s (decide s) ≡ true

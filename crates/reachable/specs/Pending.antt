@@ -1,59 +1,139 @@
 -- Jobs that are not drawn, requests that have passed a level, and the reads of a level.
-use mathlib.Core.Path.{_≡_, refl, ap, sym, _∙_}
+use mathlib.Core.Path.{_≡_, refl, ap, sym, _∙_, subst}
 use mathlib.Core.Logic.{inl, inr}
-use mathlib.Core.Bool.{Bool, true, false, true≢false, _&&_}
+use mathlib.Core.Bool.{Bool, true, false, not, true≢false, _&&_}
 use mathlib.Core.List.{List, [], _∷_, _++_}
 use mathlib.Core.Option.{Option, none, some}
 use Prim.Native.Nat.{ℕ, zero, suc, _+_, _-_, _≤_, _<_}
 use native.Mathlib.Omega.{arith}
 use native.Mathlib.Decide.{ℕ-discrete}
-use lib.Dec.{eqb, ltb}
 use lib.ListN.{length}
-use Rattle.lists.specs.Lengths.{bit}
+use lib.Dec.{eqb, ltb}
 use borrow.Author.Tests.{eqb-true, eq-eqb, ne-eqb, lt-ltb, ltb-true}
 use Rattle.lists.specs.Distinct.{Mem}
-use Rattle.lists.specs.Search.{keep, keep-yes, keep-no}
+use Rattle.lists.specs.Lengths.{bit, without-one, keep-without-one, without-append, keep-without}
+use Rattle.lists.specs.Members.{without-mem}
+use Rattle.lists.specs.Search.{keep, without, keep-yes, keep-no}
 use Rattle.lists.specs.Tables.{put, put-same, put-other}
 use Rattle.lists.specs.Tests.{and-l, and-r, and-true}
 use Rattle.lists.specs.Totals.{total-one, total-same}
+use Rattle.rules.specs.Jobs.{queued, leaveQueue}
 use Rattle.rules.specs.Laws.Layout.{cell-inj}
 use Rattle.rules.specs.Request
 use Rattle.rules.specs.Shape.{Shape, cell, slots}
 use Rattle.rules.specs.State.{State, Request}
 use Rattle.rules.specs.Request.{isFront}
 use Rattle.rules.specs.Blocks.{readsOf}
-use Rattle.reachable.specs.Live.{undrawn, times, pending, passedBy}
+use Rattle.reachable.specs.Live.{undrawn, pending, passedBy}
 
-pub undrawn-mem : (x : ℕ) (qs : List ℕ) (n : ℕ) → Mem x (undrawn qs n) → Mem x qs
+-- ---- How many jobs of q are queued
+
+pub queued-here : (q : ℕ) (qs : List ℕ) → queued (q ∷ qs) q ≡ suc (queued qs q)
+unfolding queued
+queued-here q qs = ap length (keep-yes (eqb q) q qs (eq-eqb q q refl))
+
+pub queued-else : (q p : ℕ) (qs : List ℕ) → ¬ (q ≡ p) → queued (p ∷ qs) q ≡ queued qs q
+unfolding queued
+queued-else q p qs n = ap length (keep-no (eqb q) p qs (ne-eqb q p n))
+
+pub queued-more : (q : ℕ) (xs ys : List ℕ) → queued (xs ++ ys) q ≡ queued xs q + queued ys q
+queued-more q [] ys = let z : queued [] q ≡ 0 = unfold queued keep in refl in omega (arith, z)
+queued-more q (x ∷ xs) ys = go (ℕ-discrete q x) (queued-more q xs ys)
+  where
+    go : Dec (q ≡ x) → queued (xs ++ ys) q ≡ queued xs q + queued ys q → queued (x ∷ (xs ++ ys)) q ≡ queued (x ∷ xs) q + queued ys q
+    go (yes e) h = rw (← e) (omega (arith, queued-here q (xs ++ ys), queued-here q xs))
+    go (no e) h = omega (arith, queued-else q x (xs ++ ys) e, queued-else q x xs e)
+
+pub queued-none : (q : ℕ) (qs : List ℕ) → ¬ Mem q qs → queued qs q ≡ 0
+queued-none q [] n = unfold queued keep in refl
+queued-none q (p ∷ qs) n = queued-else q p qs (λ e. n (inl e)) ∙ queued-none q qs (λ m. n (inr m))
+
+pub queued-append : (qs xs : List ℕ) (q : ℕ) → queued qs q ≤ queued (qs ++ xs) q
+queued-append qs xs q = omega (arith, queued-more q qs xs)
+
+-- ---- Jobs leave the queue
+
+pub leave-queue-mem : (x q j : ℕ) (qs : List ℕ) → Mem x (leaveQueue q j qs) → Mem x qs
+unfolding leaveQueue
+leave-queue-mem x q zero qs m = m
+leave-queue-mem x q (suc j) qs m = without-mem (eqb q) qs x (leave-queue-mem x q j (without (eqb q) qs) m)
+
+-- those of other partitions stay, in their order, and of q there are j less
+pub leave-queue-others : (q j : ℕ) (qs : List ℕ) → keep (λ p. not (eqb q p)) (leaveQueue q j qs) ≡ keep (λ p. not (eqb q p)) qs
+unfolding leaveQueue
+leave-queue-others q zero qs = refl
+leave-queue-others q (suc j) qs = leave-queue-others q j (without (eqb q) qs) ∙ keep-without (eqb q) (λ p. not (eqb q p)) (λ x e. ap not e) qs
+
+pub leave-queue-same : (p q j : ℕ) (qs : List ℕ) → ¬ (p ≡ q) → queued (leaveQueue q j qs) p ≡ queued qs p
+unfolding leaveQueue queued
+leave-queue-same p q zero qs n = refl
+leave-queue-same p q (suc j) qs n = leave-queue-same p q j (without (eqb q) qs) n ∙ ap length (keep-without (eqb q) (eqb p) (λ x e. ne-eqb p x (λ w. n (w ∙ sym (eqb-true q x e)))) qs)
+
+-- one job for q leaves
+without-queued : (q : ℕ) (qs : List ℕ) → 1 ≤ queued qs q → suc (queued (without (eqb q) qs) q) ≡ queued qs q
+unfolding queued
+without-queued q qs l = keep-without-one (eqb q) qs l
+
+pub leave-queue-less : (q j : ℕ) (qs : List ℕ) → j ≤ queued qs q → queued (leaveQueue q j qs) q + j ≡ queued qs q
+unfolding leaveQueue
+leave-queue-less q zero qs l = omega arith
+leave-queue-less q (suc j) qs l =
+    let r = without-queued q qs (omega arith) in
+    omega (arith, r, leave-queue-less q j (without (eqb q) qs) (omega (arith, r)))
+
+pub leave-queue-length : (q j : ℕ) (qs : List ℕ) → j ≤ queued qs q → length (leaveQueue q j qs) + j ≡ length qs
+unfolding leaveQueue
+leave-queue-length q zero qs l = omega arith
+leave-queue-length q (suc j) qs l =
+    let one : suc (length (without (eqb q) qs)) ≡ length qs = unfold queued in (without-one (eqb q) qs (omega (arith, l))) in
+    omega (arith, one, leave-queue-length q j (without (eqb q) qs) (omega (arith, without-queued q qs (omega arith))))
+
+pub leave-queue-append : (q j : ℕ) (qs xs : List ℕ) → j ≤ queued qs q → leaveQueue q j (qs ++ xs) ≡ leaveQueue q j qs ++ xs
+unfolding leaveQueue
+leave-queue-append q zero qs xs l = refl
+leave-queue-append q (suc j) qs xs l =
+    let one : without (eqb q) (qs ++ xs) ≡ without (eqb q) qs ++ xs = unfold queued in (without-append (eqb q) qs xs (omega (arith, l))) in
+    ap (leaveQueue q j) one ∙ leave-queue-append q j (without (eqb q) qs) xs (omega (arith, without-queued q qs (omega arith)))
+
+-- ---- Jobs that are not drawn
+
+pub undrawn-mem : (x : ℕ) (qs : List ℕ) (j n : ℕ) → Mem x (undrawn qs j n) → Mem x qs
 unfolding undrawn
-undrawn-mem x qs zero m = m
-undrawn-mem x [] (suc n) m = m
-undrawn-mem x (q ∷ qs) (suc n) m = inr m
+undrawn-mem x qs j zero m = m
+undrawn-mem x [] j (suc n) m = m
+undrawn-mem x (q ∷ qs) j (suc n) m = leave-queue-mem x q j (q ∷ qs) m
 
-pub undrawn-busy : (qs : List ℕ) (m n : ℕ) → (m ≡ 0 → ⊥) → (n ≡ 0 → ⊥) → undrawn qs m ≡ undrawn qs n
+pub undrawn-busy : (qs : List ℕ) (j m n : ℕ) → (m ≡ 0 → ⊥) → (n ≡ 0 → ⊥) → undrawn qs j m ≡ undrawn qs j n
 unfolding undrawn
-undrawn-busy qs zero n a b = absurd (a refl)
-undrawn-busy qs (suc m) zero a b = absurd (b refl)
-undrawn-busy [] (suc m) (suc n) a b = refl
-undrawn-busy (q ∷ qs) (suc m) (suc n) a b = refl
+undrawn-busy qs j zero n a b = absurd (a refl)
+undrawn-busy qs j (suc m) zero a b = absurd (b refl)
+undrawn-busy [] j (suc m) (suc n) a b = refl
+undrawn-busy (q ∷ qs) j (suc m) (suc n) a b = refl
 
-pub undrawn-rest : (q : ℕ) (rest : List ℕ) (n : ℕ) → (n ≡ 0 → ⊥) → undrawn (q ∷ rest) n ≡ undrawn rest 0
+pub undrawn-rest : (q : ℕ) (rest : List ℕ) (j n : ℕ) → (n ≡ 0 → ⊥) → undrawn (q ∷ rest) j n ≡ leaveQueue q j (q ∷ rest)
 unfolding undrawn
-undrawn-rest q rest zero a = absurd (a refl)
-undrawn-rest q rest (suc n) a = refl
+undrawn-rest q rest j zero a = absurd (a refl)
+undrawn-rest q rest j (suc n) a = refl
 
--- a queue that has jobs where writes were sent
-abbrev pub Filled : List ℕ → ℕ → Type 0
-Filled qs n = (n ≡ 0 → ⊥) → (q : ℕ) × (rest : List ℕ) × (qs ≡ q ∷ rest)
-
-pub undrawn-append : (qs xs : List ℕ) (n : ℕ) → Filled qs n → undrawn (qs ++ xs) n ≡ undrawn qs n ++ xs
+pub undrawn-calm : (qs : List ℕ) (j n : ℕ) → n ≡ 0 → undrawn qs j n ≡ qs
 unfolding undrawn
-undrawn-append qs xs zero f = refl
-undrawn-append [] xs (suc n) f = let r = f (λ e. omega arith) in let z : _≡_ {A = ℕ} 0 1 = no (r .0) (r .1) (r .2) in absurd (omega arith)
+undrawn-calm qs j n e = rw e
+
+-- while writes are sent, the run's jobs are queued
+abbrev pub Filled : List ℕ → ℕ → ℕ → Type 0
+Filled qs j n = (n ≡ 0 → ⊥) → (q : ℕ) × (rest : List ℕ) × ((qs ≡ q ∷ rest) × (j ≤ queued qs q))
+
+pub undrawn-append : (qs xs : List ℕ) (j n : ℕ) → Filled qs j n → undrawn (qs ++ xs) j n ≡ undrawn qs j n ++ xs
+unfolding undrawn
+undrawn-append qs xs j zero f = refl
+undrawn-append [] xs j (suc n) f = let r = f (λ e. omega arith) in let z : _≡_ {A = ℕ} 0 1 = no (r .0) (r .1) (r .2 .0) in absurd (omega arith)
   where
     no : (q : ℕ) (rest : List ℕ) → [] ≡ q ∷ rest → _≡_ {A = ℕ} 0 1
     no q rest e = cc
-undrawn-append (q ∷ qs) xs (suc n) f = refl
+undrawn-append (q ∷ qs) xs j (suc n) f = leave-queue-append q j (q ∷ qs) xs (by (f (λ e. omega arith)))
+  where
+    by : (p : ℕ) × (rest : List ℕ) × ((q ∷ qs ≡ p ∷ rest) × (j ≤ queued (q ∷ qs) p)) → j ≤ queued (q ∷ qs) q
+    by r = let w : r .0 ≡ q = cc (r .2 .0) in subst (λ p. j ≤ queued (q ∷ qs) p) w (r .2 .1)
 
 pub front-append : (qs xs : List ℕ) (q : ℕ) → isFront qs q ≡ true → isFront (qs ++ xs) q ≡ true
 unfolding isFront
@@ -63,26 +143,6 @@ front-append (p ∷ qs) xs q e = e
 pub front-more : (qs xs : List ℕ) (q p : ℕ) (rest : List ℕ) → qs ≡ p ∷ rest → isFront (qs ++ xs) q ≡ isFront qs q
 unfolding isFront
 front-more qs xs q p rest e = rw e
-
-pub times-here : (q : ℕ) (qs : List ℕ) → times q (q ∷ qs) ≡ suc (times q qs)
-unfolding times
-times-here q qs = ap length (keep-yes (eqb q) q qs (eq-eqb q q refl))
-
-pub times-else : (q p : ℕ) (qs : List ℕ) → ¬ (q ≡ p) → times q (p ∷ qs) ≡ times q qs
-unfolding times
-times-else q p qs n = ap length (keep-no (eqb q) p qs (ne-eqb q p n))
-
-pub times-append : (q : ℕ) (xs ys : List ℕ) → times q (xs ++ ys) ≡ times q xs + times q ys
-times-append q [] ys = let z : times q [] ≡ 0 = unfold times keep in refl in omega (arith, z)
-times-append q (x ∷ xs) ys = go (ℕ-discrete q x) (times-append q xs ys)
-  where
-    go : Dec (q ≡ x) → times q (xs ++ ys) ≡ times q xs + times q ys → times q (x ∷ (xs ++ ys)) ≡ times q (x ∷ xs) + times q ys
-    go (yes e) h = rw (← e) (omega (arith, times-here q (xs ++ ys), times-here q xs))
-    go (no e) h = omega (arith, times-else q x (xs ++ ys) e, times-else q x xs e)
-
-pub times-none : (q : ℕ) (qs : List ℕ) → ¬ Mem q qs → times q qs ≡ 0
-times-none q [] n = unfold times keep in refl
-times-none q (p ∷ qs) n = times-else q p qs (λ e. n (inl e)) ∙ times-none q qs (λ m. n (inr m))
 
 pub bit-le : (a b : Bool) → (a ≡ true → b ≡ true) → bit a ≤ bit b
 unfolding bit
@@ -98,7 +158,7 @@ unfolding bit
 bit-no true n = absurd (n refl)
 bit-no false n = refl
 
-pub pending-more : (s u : State) (p ℓ : ℕ) → times p (undrawn (s .queue) (s .sent)) ≤ times p (undrawn (u .queue) (u .sent))
+pub pending-more : (s u : State) (p ℓ : ℕ) → queued (undrawn (s .queue) (s .begun) (s .sent)) p ≤ queued (undrawn (u .queue) (u .begun) (u .sent)) p
     → (passedBy (s .partition) (s .request) p ℓ ≡ true → passedBy (u .partition) (u .request) p ℓ ≡ true) → pending s p ℓ ≤ pending u p ℓ
 unfolding pending
 pending-more s u p ℓ a b = omega (arith, a, bit-le (passedBy (s .partition) (s .request) p ℓ) (passedBy (u .partition) (u .request) p ℓ) b)

@@ -23,7 +23,7 @@ use Rattle.lists.specs.Tests.{if_then_else_, and-l}
 use Rattle.rules.specs.Blocks
 use Rattle.rules.specs.Collect
 use Rattle.rules.specs.Completion
-use Rattle.rules.specs.Draws.{newOrder, draws, Drew}
+use Rattle.rules.specs.Draws.{draws, Drew}
 use Rattle.rules.specs.Laws.Answers.{Passed, accepted-passed, step-accepted, step-refused, open-first, load-first, opens}
 use Rattle.rules.specs.Laws.Decided.{decide-in, StepIn, stepBounds-pos}
 use Rattle.rules.specs.Laws.Kept.{perform-in, completed-in, fresh-in, drew-of, given-in}
@@ -33,9 +33,10 @@ use Rattle.rules.specs.Memory
 use Rattle.rules.specs.Questions
 use Rattle.rules.specs.Questions.{number, questions, bounds, Ask, opening, request, turn, completion, collect, save, load, Call}
 use Rattle.rules.specs.Ranges.{isKind}
+use Rattle.rules.specs.Rebuild.{fills, gathered}
 use Rattle.rules.specs.Run
 use Rattle.rules.specs.Run.{act, step}
-use Rattle.rules.specs.Shape.{Shape, slots, within}
+use Rattle.rules.specs.Shape.{Shape, within}
 use Rattle.rules.specs.State.{State, Command, Request, closed}
 use Rattle.rules.specs.Turn
 use Rattle.rules.specs.Turn.{readForRequest, readForJob, writeNext, doStep, decide, Step, idle, noDummy, rebuild}
@@ -54,13 +55,13 @@ use Rattle.reachable.specs.Kept.RequestRead.{request-read-kept}
 use Rattle.reachable.specs.Kept.Write.{write-kept}
 
 module _ (s : State) (f : Reached s) where
-  step-kept : (x : Step) (js : List ℕ) → Decided s x → StepIn (s .shape) x → Drew (Turn.stepBounds x) js → InRange (doStep x js s) → Reached (doStep x js s)
+  step-kept : (x : Step) (js : List ℕ) → Decided s x → StepIn s x → Drew (Turn.stepBounds x) js → InRange (doStep x js s) → Reached (doStep x js s)
   unfolding Turn.stepBounds
   step-kept idle js d h w range = unfold doStep in f
   step-kept noDummy js d h w range = unfold doStep in f
   step-kept (readForRequest q ℓ i) js d h w range = request-read-kept s f q ℓ i d (h .1) (h .2) js range
   step-kept (readForJob q ℓ i) js d h w range = job-read-kept s f q ℓ i d (h .1) js range
-  step-kept (rebuild q t) js d h w range = unfold doStep in (rebuild-kept s f q t (newOrder (slots t) js) (drawing s f q t js d w) range)
+  step-kept (rebuild q ls) js d h w range = unfold doStep in (rebuild-kept s f q ls (fills ls js (gathered s q)) (drawing s f q ls js d w) range)
   step-kept (writeNext q t i) js d h w range = write-kept s f q t i d js range
 
   complete-kept : (c : Command) (bs : List ℕ) → length bs ≡ (if eqb (c .kind) 1 then s .shape .B else 0) → InRange (Completion.complete c bs s) → Reached (Completion.complete c bs s)

@@ -5,23 +5,26 @@ use mathlib.Core.List.{List, [], _∷_}
 use mathlib.Core.Option.{Option, some}
 use Prim.Native.Nat.{ℕ, suc, _+_, _-_, _≤_, _<_}
 use native.Mathlib.Omega.{arith}
-use lib.Dec.{eqb, ltb}
+use lib.Dec.{eqb}
 use lib.ListN.{length}
 use borrow.Author.Tests.{eqb-true, eq-eqb}
 use Rattle.lists.specs.All.{All, nil, cons, all-map, any-all, any-none, below-below, count-below, all-both, map-below, any-same, find-same}
 use Rattle.lists.specs.Members.{all-mem, below-mem, count-from, keep-rest, kept-none, none-kept}
 use Rattle.lists.specs.Search.{keep, any, isNone, count, below}
 use Rattle.rules.specs.Blocks.{isUnread, holder}
-use Rattle.rules.specs.Levels.{filled, sources}
+use Rattle.rules.specs.Jobs.{joined, topOf}
+use Rattle.rules.specs.Levels.{filled}
 use Rattle.rules.specs.Laws.Reader.{readBy, read-same, costs-is, slotsOf, reads-slots, reads-are}
 use Rattle.rules.specs.Reader.{slotOf, conditionBy, condition, dummy, lowest, readFake, readReal, readLevel, addRead, readLevels, slotRead, costs, levelsLeft}
 use Rattle.rules.specs.Request.{isFront, isSource}
-use Rattle.rules.specs.Setters.{setMark, setCounter, setQueue}
+use Rattle.rules.specs.Setters.{setBegun, setMark, setCounter, setQueue}
 use Rattle.rules.specs.Shape.{cell, slots}
 use Rattle.rules.specs.State.{State, Request}
+use Rattle.reachable.specs.Begins.{Begins, source-still}
 use Rattle.reachable.specs.Blocks.{place-lt}
 use Rattle.reachable.specs.Decided.{levels-left}
 use Rattle.reachable.specs.Invariant.{Reached}
+use Rattle.reachable.specs.Live.{source-none}
 
 -- what is read of the levels that it has yet to pass
 unfoldable pub remaining : State → Request → List (ℕ × ℕ)
@@ -61,14 +64,14 @@ unfolding slotsOf
 slots-same f g nil = refl
 slots-same f g (cons {x = ℓ} {xs = ℓs} h t) = ap (λ o. addRead ℓ o (slotsOf f ℓs)) h ∙ ap (addRead ℓ (g ℓ)) (slots-same f g t)
 
--- other marks, but the same from level a on
-module _ (s : State) (f : Reached s) (b : ℕ) (hb : b < s .shape .N) (mark′ : ℕ → ℕ) (a : ℕ)
+-- other marks, but the same from level a on, while a run begins or goes on
+module _ (s : State) (f : Reached s) (b : ℕ) (hb : b < s .shape .N) (n : ℕ) (begins : Begins s n) (mark′ : ℕ → ℕ) (a : ℕ)
     (same : (m j : ℕ) → a ≤ m → m < s .shape .L → j < slots m → mark′ (cell (s .shape) (s .partition b) m j) ≡ s .mark (cell (s .shape) (s .partition b) m j)) where
   abbrev p : ℕ
   p = s .partition b
 
   abbrev t : State
-  t = setMark mark′ s
+  t = setBegun n (setMark mark′ s)
 
   module _ (m : ℕ) (l : a ≤ m) (k : m < s .shape .L) where
     unread-same : (j : ℕ) → j < slots m → isUnread t p m j ≡ isUnread s p m j
@@ -91,31 +94,36 @@ module _ (s : State) (f : Reached s) (b : ℕ) (hb : b < s .shape .N) (mark′ :
     unfolding lowest
     lowest-same = find-same _ _ (map-below (λ i. isUnread t p m i ≡ isUnread s p m i) (λ j. s .order (cell (s .shape) p m j)) (slots m) item-same)
 
+    source-same : isSource t p m ≡ isSource s p m
+    unfolding isSource topOf joined
+    source-same = source-still s n begins p m
+
     slot-same : slotRead t p (s .place b) m ≡ slotRead s p (s .place b) m
-    unfolding slotRead readLevel condition readReal readFake isSource
+    unfolding slotRead readLevel condition readReal readFake
     slot-same =
-        ap (λ x. readBy (conditionBy (filled (s .counter p) m) (isSource s p m) x) (isUnread t p m (slotOf (s .place b))) (dummy t p m) (lowest t p m) (s .place b) m) left-same
+        ap (λ x. readBy (conditionBy (filled (s .counter p) m) x (any (isUnread t p m) (below (slots m)))) (isUnread t p m (slotOf (s .place b))) (dummy t p m) (lowest t p m) (s .place b) m) source-same
+        ∙ ap (λ x. readBy (conditionBy (filled (s .counter p) m) (isSource s p m) x) (isUnread t p m (slotOf (s .place b))) (dummy t p m) (lowest t p m) (s .place b) m) left-same
         ∙ ap (λ x. readBy (condition s p m) (isUnread t p m (slotOf (s .place b))) x (lowest t p m) (s .place b) m) dummy-same
         ∙ ap (λ x. readBy (condition s p m) (isUnread t p m (slotOf (s .place b))) (dummy s p m) x (s .place b) m) lowest-same
         ∙ read-same (condition s p m) (isUnread s p m) (isUnread t p m) (dummy s p m) (lowest s p m) (s .place b) m
         (λ i e. unread-same i (place-lt (s .shape .L) m i (s .place b) (f .range .places b hb) e .1))
 
-  pub levels-same : (n : ℕ) → a + n ≤ s .shape .L → readLevels t b (count a n) ≡ readLevels s b (count a n)
-  levels-same n l = reads-slots t b (count a n)
-      ∙ slots-same (slotRead t p (s .place b)) (slotRead s p (s .place b)) (all-map (λ m k. slot-same m (k .0) (omega (arith, k .1))) (all-both (count-from a n) (count-below a n)))
-      ∙ sym (reads-slots s b (count a n))
+  pub levels-same : (k : ℕ) → a + k ≤ s .shape .L → readLevels t b (count a k) ≡ readLevels s b (count a k)
+  levels-same k l = reads-slots t b (count a k)
+      ∙ slots-same (slotRead t p (s .place b)) (slotRead s p (s .place b)) (all-map (λ m w. slot-same m (w .0) (omega (arith, w .1))) (all-both (count-from a k) (count-below a k)))
+      ∙ sym (reads-slots s b (count a k))
 
--- a job of another partition is done
-module _ (s : State) (b : ℕ) (counter′ : ℕ → ℕ) (queue′ : List ℕ) (alike : counter′ (s .partition b) ≡ s .counter (s .partition b)) (front : isFront queue′ (s .partition b) ≡ isFront (s .queue) (s .partition b)) where
+-- a run of another partition is done
+module _ (s : State) (b : ℕ) (counter′ : ℕ → ℕ) (queue′ : List ℕ) (alike : counter′ (s .partition b) ≡ s .counter (s .partition b)) (now : isFront (s .queue) (s .partition b) ≡ false) (later : isFront queue′ (s .partition b) ≡ false) where
   abbrev q : ℕ
   q = s .partition b
 
   abbrev ended : State
-  ended = setCounter counter′ (setQueue queue′ s)
+  ended = setBegun 0 (setCounter counter′ (setQueue queue′ s))
 
   slot-else : (m : ℕ) → slotRead ended q (s .place b) m ≡ slotRead s q (s .place b) m
-  unfolding slotRead readLevel condition readReal readFake isSource dummy lowest isUnread holder
-  slot-else m = ap (λ c. at (filled c m) (isFront queue′ q && ltb m (sources (s .shape) c))) alike ∙ ap (λ t. at (filled (s .counter q) m) (t && ltb m (sources (s .shape) (s .counter q)))) front
+  unfolding slotRead readLevel condition readReal readFake dummy lowest isUnread holder
+  slot-else m = ap (λ c. at (filled c m) (isSource ended q m)) alike ∙ ap (at (filled (s .counter q) m)) (source-none ended q m later ∙ sym (source-none s q m now))
     where
       at : Bool → Bool → Option ℕ
       at full source = readBy (conditionBy full source (any (isUnread s q m) (below (slots m)))) (isUnread s q m (slotOf (s .place b))) (dummy s q m) (lowest s q m) (s .place b) m
@@ -127,11 +135,11 @@ module _ (s : State) (b : ℕ) (counter′ : ℕ → ℕ) (queue′ : List ℕ) 
       every [] = nil
       every (m ∷ ms) = cons (slot-else m) (every ms)
 
--- fewer unread slots: a request that has no level left has none then
-module _ (s : State) (r : Request) (mark′ : ℕ → ℕ)
+-- fewer unread slots, while a run begins or goes on: a request that has no level left has none then
+module _ (s : State) (r : Request) (n : ℕ) (begins : Begins s n) (mark′ : ℕ → ℕ)
     (fewer : (m j : ℕ) → m < s .shape .L → j < slots m → mark′ (cell (s .shape) (s .partition (r .block)) m j) ≡ 1 → s .mark (cell (s .shape) (s .partition (r .block)) m j) ≡ 1) where
   abbrev less : State
-  less = setMark mark′ s
+  less = setBegun n (setMark mark′ s)
 
   abbrev own : ℕ
   own = s .partition (r .block)
@@ -148,9 +156,11 @@ module _ (s : State) (r : Request) (mark′ : ℕ → ℕ)
       go false k = k
 
   costs-less : (m : ℕ) → m < s .shape .L → costs s own m ≡ false → costs less own m ≡ false
-  unfolding isSource
-  costs-less m hm e = costs-is less own m ∙ by (filled (s .counter own) m) (isSource s own m) _ _ (left-less m hm) (sym (costs-is s own m) ∙ e)
+  costs-less m hm e = costs-is less own m ∙ ap (λ y. filled (s .counter own) m && (not y || any (isUnread less own m) (below (slots m)))) same ∙ by (filled (s .counter own) m) (isSource s own m) _ _ (left-less m hm) (sym (costs-is s own m) ∙ e)
     where
+      same : isSource less own m ≡ isSource s own m
+      same = unfold isSource topOf joined in (source-still s n begins own m)
+
       by : (x y c d : Bool) → (c ≡ false → d ≡ false) → (x && (not y || c)) ≡ false → (x && (not y || d)) ≡ false
       by false y c d h e = refl
       by true false c d h e = e

@@ -1,15 +1,14 @@
 -- Document 02, P6: the reads that each call sends for a released request, and what the partition reader has left for it then.
 use mathlib.Core.Path.{_≡_, refl, ap, sym, _∙_, subst}
 use mathlib.Core.Logic.{_⊎_, inl, inr, ⊎-elim}
-use mathlib.Core.Bool.{Bool, true, false, not, _&&_, _||_, true≢false}
+use mathlib.Core.Bool.{Bool, true, false, _&&_, _||_, true≢false}
 use mathlib.Core.List.{List, [], _∷_, _++_, map}
 use mathlib.Core.Option.{Option, none, some, Option·getD, Option·map}
-use Prim.Native.Nat.{ℕ, suc, _+_, _-_, _≤_, _<_}
+use Prim.Native.Nat.{ℕ, suc, _-_, _≤_, _<_}
 use native.Mathlib.Omega.{arith}
 use native.Mathlib.Decide.{ℕ-discrete}
 use lib.Dec.{eqb, ltb}
 use lib.ListN.{length}
-use lib.Pow.{pow-pos}
 use borrow.Author.Tests.{eqb-true, eqb-false}
 use Rattle.lists.specs.Search
 use Rattle.lists.specs.Search.{any, count, keep}
@@ -17,29 +16,31 @@ use Rattle.lists.specs.Tables.{put, put-same, put-other}
 use Rattle.lists.specs.Tests.{if_then_else_, and-l}
 use Rattle.rules.specs.Blocks.{isUnread, holder}
 use Rattle.rules.specs.Completion
-use Rattle.rules.specs.Draws.{newOrder, draws, Drew}
+use Rattle.rules.specs.Draws.{draws, Drew}
 use Rattle.rules.specs.Laws.Answers.{opens, Passed, accepted-passed, step-accepted, step-refused, refuse-keeps}
 use Rattle.rules.specs.Laws.Awaited.{release-free}
 use Rattle.rules.specs.Laws.Decided.{decide-in, StepIn, stepBounds-pos}
 use Rattle.rules.specs.Laws.Kept.{drew-of, completed-in}
 use Rattle.rules.specs.Laws.Layout.{cell-inj}
-use Rattle.rules.specs.Levels.{target, grown}
+use Rattle.rules.specs.Jobs.{joined, topOf, levelsOf, leaveQueue, writeAt}
+use Rattle.rules.specs.Levels.{grown}
 use Rattle.rules.specs.Questions
 use Rattle.rules.specs.Questions.{Ask, opening, request, turn, completion, save, load, Call, questions, bounds, number}
 use Rattle.rules.specs.Ranges.{isKind}
 use Rattle.rules.specs.Rebuild
-use Rattle.rules.specs.Rebuild.{doRebuild}
+use Rattle.rules.specs.Rebuild.{doRebuild, fills, gathered}
 use Rattle.rules.specs.Request
 use Rattle.rules.specs.Request.{held, isFront, isSource, release, passLevel}
 use Rattle.rules.specs.Reader.{condition, conditions, dummy, lowest, readFake, readReal, readLevel, readLevels, slotRead, costs, levelsLeft}
 use Rattle.rules.specs.Run
 use Rattle.rules.specs.Run.{act, step}
 use Rattle.rules.specs.Shape.{cell, slots}
-use Rattle.rules.specs.State.{State, Command, cmd, write, Request}
+use Rattle.rules.specs.State.{State, Command, cmd, Request}
 use Rattle.rules.specs.Turn
 use Rattle.rules.specs.Turn.{Step, idle, noDummy, readForRequest, readForJob, rebuild, writeNext, decide, command, doStep}
-use Rattle.reachable.specs.Consequences.{block-lt, released-calm}
-use Rattle.reachable.specs.Decided.{Decided, decided}
+use Rattle.reachable.specs.Begins.{starts, job-begins, request-begins}
+use Rattle.reachable.specs.Consequences.{block-lt, released-calm, done-why}
+use Rattle.reachable.specs.Decided.{Decided, RequestReads, decided}
 use Rattle.reachable.specs.Found.{request-decides}
 use Rattle.reachable.specs.Invariant.{Reached}
 use Rattle.reachable.specs.Kept.Completion.{completed-kept}
@@ -47,6 +48,7 @@ use Rattle.reachable.specs.Kept.Rebuild.Drawing.{drawing, place-out, par
 use Rattle.reachable.specs.Kept.Rebuild.Marks.{mark-else}
 use Rattle.reachable.specs.Live.{front-is, front-eq, not-front}
 use Rattle.reachable.specs.Never.{always-possible}
+use Rattle.reachable.specs.Pending.{leave-queue-mem}
 use Rattle.reachable.specs.ReadsLeft.{remaining, remaining-none, remaining-next, levels-same, levels-else, left-none}
 use Rattle.reachable.specs.Reached.{Was, was-reached, performed-kept}
 use Rattle.reachable.specs.Terms.{firstOf, ownReads, isTurn, readsBy, asRead}
@@ -68,7 +70,7 @@ unfolding keep
 none-told = refl
 
 release-goes : (s s′ : State) (r : Request) (reads : List (ℕ × ℕ)) (c : Command) → Goes s s′ r reads c → Goes s (release s′) r reads c
-unfolding remaining readLevels conditions condition readLevel readReal readFake isSource dummy lowest isUnread holder
+unfolding remaining readLevels conditions condition readLevel readReal readFake isSource dummy lowest isUnread holder topOf joined
 release-goes s s′ r reads c g = record {
   asked = g .asked;
   inHand = release-free s′ (g .asked) (g .inHand) (g .unheld);
@@ -84,11 +86,11 @@ release-goes s s′ r reads c g = record {
 
 -- A job's step reads nothing for a request
 job-own : (s : State) (l : List ℕ) → ownReads (Turn.jobStep s l) ≡ []
-unfolding ownReads Turn.jobStep Turn.rebuildStep Turn.writeStep Turn.gatherStep
+unfolding ownReads Turn.jobStep Turn.rebuildStep Turn.writeStep Turn.gatherStep Turn.nextWrite
 job-own s [] = refl
 job-own s (q ∷ l) = go (eqb (s .sent) 0)
   where
-    draws : (t : Bool) → ownReads (if t then idle else rebuild q (target (s .shape) (s .counter q))) ≡ []
+    draws : (t : Bool) → ownReads (if t then idle else rebuild q (levelsOf s q)) ≡ []
     draws true = refl
     draws false = refl
 
@@ -96,13 +98,13 @@ job-own s (q ∷ l) = go (eqb (s .sent) 0)
     gathers none = draws (any (λ (c : Command). eqb (c .partition) q) (s .outstanding) || Request.releasedFor (s .partition) (s .request) q)
     gathers (some p) = refl
 
-    writes : (t : Bool) → ownReads (if t then writeNext q (target (s .shape) (s .counter q)) (s .sent) else idle) ≡ []
-    writes true = refl
-    writes false = refl
+    writes : (o : Option (ℕ × ℕ)) → ownReads (Turn.nextWrite q o) ≡ []
+    writes none = refl
+    writes (some p) = refl
 
     go : (t : Bool) → ownReads (if t then Turn.gatherStep q (Rebuild.unread s q) (Turn.rebuildStep s q) else Turn.writeStep s q) ≡ []
     go true = gathers (Rebuild.unread s q)
-    go false = writes (ltb (s .sent) (slots (target (s .shape) (s .counter q))))
+    go false = writes (writeAt (levelsOf s q) (s .sent))
 
 module _ (s : State) (f : Reached s) (r : Request) (inHand : s .request ≡ some r) (u : held r ≡ false) where
   -- without a level left, a turn is a job's
@@ -136,19 +138,19 @@ module _ (s : State) (f : Reached s) (r : Request) (inHand : s .request ≡ some
       go (ℓ ∷ ℓs) v = ap (Turn.firstRead q (slotRead s q (s .place (r .block)))) v ∙ reads ℓ ℓs v (slotRead s q (s .place (r .block)) ℓ) refl
 
   -- its slots of the request's partition are no more unread after it
-  behind-left : (x : Step) (js : List ℕ) → Decided s x → StepIn (s .shape) x → Drew (Turn.stepBounds x) js → ownReads x ≡ [] → levelsLeft s r ≡ [] → levelsLeft (doStep x js s) r ≡ []
-  unfolding doStep Turn.markRead Turn.send doRebuild Turn.stepBounds ownReads levelsLeft costs condition isSource isUnread
+  behind-left : (x : Step) (js : List ℕ) → Decided s x → StepIn s x → Drew (Turn.stepBounds x) js → ownReads x ≡ [] → levelsLeft s r ≡ [] → levelsLeft (doStep x js s) r ≡ []
+  unfolding doStep Turn.markRead Turn.send doRebuild Turn.stepBounds ownReads levelsLeft costs condition isSource isUnread topOf joined
   behind-left idle js d h w n v = v
   behind-left noDummy js d h w n v = v
   behind-left (readForRequest q ℓ i) js d h w n v = absurd (omega (arith, ap length n))
-  behind-left (readForJob q ℓ i) js d h w n v = left-none s r (put (cell (s .shape) q ℓ i) 0 (s .mark)) (λ m j hm hj e. fewer m j e (ℕ-discrete (cell (s .shape) (s .partition (r .block)) m j) (cell (s .shape) q ℓ i))) v
+  behind-left (readForJob q ℓ i) js d h w n v = left-none s r (joined s q) (job-begins s q ℓ i d) (put (cell (s .shape) q ℓ i) 0 (s .mark)) (λ m j hm hj e. fewer m j e (ℕ-discrete (cell (s .shape) (s .partition (r .block)) m j) (cell (s .shape) q ℓ i))) v
     where
       fewer : (m j : ℕ) → put (cell (s .shape) q ℓ i) 0 (s .mark) (cell (s .shape) (s .partition (r .block)) m j) ≡ 1
           → Dec (cell (s .shape) (s .partition (r .block)) m j ≡ cell (s .shape) q ℓ i) → s .mark (cell (s .shape) (s .partition (r .block)) m j) ≡ 1
       fewer m j e (yes z) = absurd (omega (arith, sym (put-same (cell (s .shape) q ℓ i) 0 (s .mark)) ∙ ap (put (cell (s .shape) q ℓ i) 0 (s .mark)) (sym z) ∙ e))
       fewer m j e (no z) = sym (put-other (cell (s .shape) q ℓ i) 0 (s .mark) (cell (s .shape) (s .partition (r .block)) m j) z) ∙ e
-  behind-left (rebuild q t) js d h w n v = left-none s r (doRebuild q t (newOrder (slots t) js) s .mark)
-      (λ m j hm hj e. sym (mark-else s f q t (newOrder (slots t) js) (drawing s f q t js d w) (s .partition (r .block)) m j hm hj (λ z. d .apart r inHand u (sym (z .0)))) ∙ e) v
+  behind-left (rebuild q ls) js d h w n v = left-none s r (joined s q) (starts q (d .rest) (d .front) (d .calm) refl) (doRebuild q ls (fills ls js (gathered s q)) s .mark)
+      (λ m j hm hj e. sym (mark-else s f q ls (fills ls js (gathered s q)) (drawing s f q ls js d w) (s .partition (r .block)) m j hm hj (λ z. d .apart r inHand u (sym (z .0)))) ∙ e) v
   behind-left (writeNext q t i) js d h w n v = v
 
   -- and it leaves the request, and where its block is, as they were
@@ -159,16 +161,16 @@ module _ (s : State) (f : Reached s) (r : Request) (inHand : s .request ≡ some
   behind-keeps noDummy js d w n = (refl, refl, refl)
   behind-keeps (readForRequest q ℓ i) js d w n = absurd (omega (arith, ap length n))
   behind-keeps (readForJob q ℓ i) js d w n = (refl, refl, refl)
-  behind-keeps (rebuild q t) js d w n =
-      let z = drawing s f q t js d w in
-      (refl, refl, place-out s f q t (newOrder (slots t) js) z (r .block) (λ k. d .apart r inHand u (partition-in s f q t (newOrder (slots t) js) z (r .block) k)))
+  behind-keeps (rebuild q ls) js d w n =
+      let z = drawing s f q ls js d w in
+      (refl, refl, place-out s f q ls (fills ls js (gathered s q)) z (r .block) (λ k. d .apart r inHand u (partition-in s f q ls (fills ls js (gathered s q)) z (r .block) k)))
   behind-keeps (writeNext q t i) js d w n = (refl, refl, refl)
 
   -- a request's read
-  own-goes : (ℓ i : ℕ) (ℓs js : List ℕ) → levelsLeft s r ≡ ℓ ∷ ℓs → slotRead s (s .partition (r .block)) (s .place (r .block)) ℓ ≡ some i → StepIn (s .shape) (readForRequest (s .partition (r .block)) ℓ i)
+  own-goes : (ℓ i : ℕ) (ℓs js : List ℕ) → levelsLeft s r ≡ ℓ ∷ ℓs → slotRead s (s .partition (r .block)) (s .place (r .block)) ℓ ≡ some i → RequestReads s (s .partition (r .block)) ℓ i → StepIn s (readForRequest (s .partition (r .block)) ℓ i)
       → Goes s (doStep (readForRequest (s .partition (r .block)) ℓ i) js s) r (ownReads (readForRequest (s .partition (r .block)) ℓ i)) (command (readForRequest (s .partition (r .block)) ℓ i))
-  unfolding ownReads command doStep Turn.markRead Turn.send remaining readLevels conditions condition readLevel readReal readFake isSource dummy lowest isUnread holder
-  own-goes ℓ i ℓs js v k h = record {
+  unfolding ownReads command doStep Turn.markRead Turn.send remaining readLevels conditions condition readLevel readReal readFake isSource dummy lowest isUnread holder topOf joined
+  own-goes ℓ i ℓs js v k d h = record {
     asked = passed;
     inHand = ap (passLevel ℓ (suc (length (s .outstanding)))) inHand ∙ unfold passLevel in refl;
     unheld = unfold held in u;
@@ -188,7 +190,7 @@ module _ (s : State) (f : Reached s) (r : Request) (inHand : s .request ≡ some
           (λ e. omega (arith, l, cell-inj (s .shape) (s .partition (r .block)) (s .partition (r .block)) m ℓ j i hm (h .1) hj (h .2) e .1))
 
       above : readLevels (doStep (readForRequest (s .partition (r .block)) ℓ i) js s) (r .block) (count (suc ℓ) (s .shape .L - suc ℓ)) ≡ readLevels s (r .block) (count (suc ℓ) (s .shape .L - suc ℓ))
-      above = levels-same s f (r .block) (block-lt s f r inHand) (put (cell (s .shape) (s .partition (r .block)) ℓ i) 0 (s .mark)) (suc ℓ) other (s .shape .L - suc ℓ) (omega (arith, h .1))
+      above = levels-same s f (r .block) (block-lt s f r inHand) _ (request-begins s f (s .partition (r .block)) ℓ i d) (put (cell (s .shape) (s .partition (r .block)) ℓ i) 0 (s .mark)) (suc ℓ) other (s .shape .L - suc ℓ) (omega (arith, h .1))
 
   -- a turn
   turn-goes : (js : List ℕ) → Drew (Turn.stepBounds (decide s)) js → Reached (doStep (decide s) js s) → Goes s (doStep (decide s) js s) r (ownReads (decide s)) (command (decide s))
@@ -203,8 +205,7 @@ module _ (s : State) (f : Reached s) (r : Request) (inHand : s .request ≡ some
           absurd (true≢false (sym (always-possible s f) ∙ ap (Questions.possible s) e ∙ unfold Questions.possible in refl))
       reads ℓ ℓs v (some i) k =
           let e : decide s ≡ readForRequest q ℓ i = request-decides s r inHand u ℓ ℓs v ∙ ap (Turn.readStep q ℓ) k ∙ unfold Turn.readStep in refl in
-          let h : StepIn (s .shape) (readForRequest q ℓ i) = subst (StepIn (s .shape)) e (decide-in s (f .range)) in
-          subst (λ x. Goes s (doStep x js s) r (ownReads x) (command x)) (sym e) (own-goes ℓ i ℓs js v k h)
+          subst (λ x. Goes s (doStep x js s) r (ownReads x) (command x)) (sym e) (own-goes ℓ i ℓs js v k (subst (Decided s) e (decided s)) (subst (StepIn s) e (decide-in s (f .range))))
 
       go : (ls : List ℕ) → levelsLeft s r ≡ ls → Goes s (doStep (decide s) js s) r (ownReads (decide s)) (command (decide s))
       go [] v =
@@ -228,9 +229,10 @@ module _ (s : State) (f : Reached s) (r : Request) (inHand : s .request ≡ some
   -- ---- A completion
 
   -- the front job is done: it is another partition's
-  end-goes : (p : ℕ) (qs : List ℕ) → s .queue ≡ p ∷ qs → (s .sent ≡ 0 → ⊥) → (ℓs : List ℕ) → readLevels (Completion.endJob p qs s) (r .block) ℓs ≡ readLevels s (r .block) ℓs
-  unfolding Completion.endJob readLevels conditions condition readLevel readReal readFake isSource dummy lowest isUnread holder
-  end-goes p qs e busy ℓs = levels-else s (r .block) (put p (grown (s .shape) (s .counter p)) (s .counter)) qs (put-other p (grown (s .shape) (s .counter p)) (s .counter) (s .partition (r .block)) away) (later ∙ sym now) ℓs
+  end-goes : (p : ℕ) (qs : List ℕ) → s .queue ≡ p ∷ qs → (s .sent ≡ 0 → ⊥) → (ℓs : List ℕ) → readLevels (Completion.endJob p s) (r .block) ℓs ≡ readLevels s (r .block) ℓs
+  unfolding Completion.endJob readLevels conditions condition readLevel readReal readFake isSource dummy lowest isUnread holder topOf joined
+  end-goes p qs e busy ℓs = levels-else s (r .block) (put p (grown (s .shape) (s .counter p) (joined s p)) (s .counter)) (leaveQueue p (joined s p) (s .queue))
+      (put-other p (grown (s .shape) (s .counter p) (joined s p)) (s .counter) (s .partition (r .block)) away) now later ℓs
     where
       away : s .partition (r .block) ≡ p → ⊥
       away z = busy (released-calm s f r inHand u (rw (e, z) (front-is p qs)))
@@ -242,8 +244,8 @@ module _ (s : State) (f : Reached s) (r : Request) (inHand : s .request ≡ some
           go true k = absurd (away (front-eq (s .partition (r .block)) p (s .queue) qs e k))
           go false k = k
 
-      later : isFront qs (s .partition (r .block)) ≡ false
-      later = ⊎-elim (λ n. not-front qs (s .partition (r .block)) (λ m. n (rw e (inr m)))) (λ a. absurd (true≢false (sym (a .0) ∙ now))) (f .released r inHand u)
+      later : isFront (leaveQueue p (joined s p) (s .queue)) (s .partition (r .block)) ≡ false
+      later = ⊎-elim (λ n. not-front (leaveQueue p (joined s p) (s .queue)) (s .partition (r .block)) (λ m. n (leave-queue-mem (s .partition (r .block)) p (joined s p) (s .queue) m))) (λ a. absurd (true≢false (sym (a .0) ∙ now))) (f .released r inHand u)
 
 module _ (s : State) (f : Reached s) (r : Request) (inHand : s .request ≡ some r) (u : held r ≡ false) (c : Command) where
   abbrev done : State
@@ -265,24 +267,23 @@ module _ (s : State) (f : Reached s) (r : Request) (inHand : s .request ≡ some
   unseen-goes s′ e p x k = record { asked = waits; inHand = e; unheld = done-held; block = refl; part = p; place = x; left = sym k; told = inl none-told }
 
   bytes-goes : (o : Option ℕ) (bs : List ℕ) → Goes s (Completion.gatherBytes o bs done) r [] (cmd 0 0 0 0)
-  unfolding Completion.gatherBytes Completion.completed remaining readLevels conditions condition readLevel readReal readFake isSource dummy lowest isUnread holder
+  unfolding Completion.gatherBytes Completion.completed remaining readLevels conditions condition readLevel readReal readFake isSource dummy lowest isUnread holder topOf joined
   bytes-goes none bs = unseen-goes (Completion.completed c s) done-hand refl refl refl
   bytes-goes (some b) bs = unseen-goes (Completion.gatherBytes (some b) bs (Completion.completed c s)) done-hand refl refl refl
 
   finish-goes : (l : List ℕ) → s .queue ≡ l → Goes s (Completion.finishJob l done) r [] (cmd 0 0 0 0)
-  unfolding Completion.finishJob Completion.completed remaining readLevels conditions condition readLevel readReal readFake isSource dummy lowest isUnread holder
+  unfolding Completion.finishJob Completion.completed remaining readLevels conditions condition readLevel readReal readFake isSource dummy lowest isUnread holder topOf joined
   finish-goes [] e = unseen-goes (Completion.completed c s) done-hand refl refl refl
   finish-goes (p ∷ qs) e = go (Completion.jobDone (Completion.completed c s) p) refl
     where
-      go : (t : Bool) → Completion.jobDone (Completion.completed c s) p ≡ t → Goes s (if t then Completion.endJob p qs (Completion.completed c s) else Completion.completed c s) r [] (cmd 0 0 0 0)
-      go true k = unseen-goes (Completion.endJob p qs (Completion.completed c s)) (unfold Completion.endJob in done-hand) (unfold Completion.endJob in refl) (unfold Completion.endJob in refl) (ended (unfold Completion.jobDone in k))
+      go : (t : Bool) → Completion.jobDone (Completion.completed c s) p ≡ t → Goes s (if t then Completion.endJob p (Completion.completed c s) else Completion.completed c s) r [] (cmd 0 0 0 0)
+      go true k = unseen-goes (Completion.endJob p (Completion.completed c s)) (unfold Completion.endJob in done-hand) (unfold Completion.endJob in refl) (unfold Completion.endJob in refl) ended
         where
-          ended : (eqb (s .sent) (slots (target (s .shape) (s .counter p))) && not (any (λ (c : Command). eqb (c .kind) write) (Completion.completed c s .outstanding))) ≡ true
-              → remaining (Completion.endJob p qs (Completion.completed c s)) waits ≡ remaining s r
-          ended k =
-              let a = eqb-true (s .sent) (slots (target (s .shape) (s .counter p))) (and-l (eqb (s .sent) (slots (target (s .shape) (s .counter p)))) (not (any (λ (c : Command). eqb (c .kind) write) (Completion.completed c s .outstanding))) k) in
-              unfold Completion.endJob in (end-goes (Completion.completed c s) (completed-kept s f c (completed-in s (f .range) c)) waits done-hand done-held p qs e
-              (λ z. omega (arith, a, pow-pos (target (s .shape) (s .counter p) + 1))) (count (r .level) (s .shape .L - r .level)))
+          f′ : Reached (Completion.completed c s)
+          f′ = completed-kept s f c (completed-in s (f .range) c)
+
+          ended : remaining (Completion.endJob p (Completion.completed c s)) waits ≡ remaining s r
+          ended = unfold Completion.endJob in (end-goes (Completion.completed c s) f′ waits done-hand done-held p qs e (done-why (Completion.completed c s) f′ p qs e k .1) (count (r .level) (s .shape .L - r .level)))
       go false k = unseen-goes (Completion.completed c s) done-hand refl refl refl
 
   complete-goes : (bs : List ℕ) → Goes s (Completion.complete c bs s) r [] (cmd 0 0 0 0)

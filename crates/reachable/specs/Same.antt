@@ -23,15 +23,15 @@ use Rattle.lists.specs.Distinct.{Mem}
 use Rattle.lists.specs.Members.{mem-below, keep-mem, mem-count, all-mem, mem-all}
 use Rattle.lists.specs.Places.{map-same}
 use Rattle.lists.specs.Search.{find, below, count, keep, isNone}
-use Rattle.lists.specs.Tables.{putAll}
 use Rattle.lists.specs.Tests.{if_then_else_}
 use Rattle.rules.specs.Blocks
-use Rattle.rules.specs.Draws.{newOrder}
 use Rattle.rules.specs.Laws.Form.Saveable.{over}
 use Rattle.rules.specs.Levels.{filled}
 use Rattle.rules.specs.Questions
 use Rattle.rules.specs.Questions.{Ask, opening, request, turn, completion, collect, save, load, questions, possible, firstNo, bounds, Call, number}
+use Rattle.rules.specs.Jobs.{joined, topOf, levelsOf}
 use Rattle.rules.specs.Rebuild
+use Rattle.rules.specs.Rebuild.{gathered, fills, newOrders}
 use Rattle.rules.specs.Reader
 use Rattle.rules.specs.Laws.Reader.{readBy}
 use Rattle.rules.specs.Request
@@ -71,7 +71,7 @@ module _ (s : State) (f : Reached s) (y : ℕ → List ℕ) (o : ℕ → ℕ) (g
       (map-same (λ j. o (cell (s .shape) q ℓ j)) (λ j. s .order (cell (s .shape) q ℓ j)) (below (slots ℓ)) (λ j m. k .orders q ℓ j hq hℓ e (mem-below (slots ℓ) j m)))
 
   slot-same : (q ℓ : ℕ) (x : Place) → q < s .shape .P → ℓ < s .shape .L → filled (counted s q) ℓ ≡ true → Reader.slotRead t q x ℓ ≡ Reader.slotRead s q x ℓ
-  unfolding Reader.slotRead Reader.readLevel Reader.readReal Reader.readFake Reader.condition Request.isSource Blocks.isUnread
+  unfolding Reader.slotRead Reader.readLevel Reader.readReal Reader.readFake Reader.condition Request.isSource Blocks.isUnread topOf joined
   slot-same q ℓ x hq hℓ e = ap₂ (λ a b. readBy (Reader.condition s q ℓ) (Blocks.isUnread s q ℓ (Reader.slotOf x)) b a x ℓ) (lowest-same q ℓ hq hℓ e) (dummy-same q ℓ hq hℓ e)
 
   first-same : (q : ℕ) (x : Place) (ls : List ℕ) → ((ℓ : ℕ) → Mem ℓ ls → Reader.slotRead t q x ℓ ≡ Reader.slotRead s q x ℓ) → Turn.firstRead q (Reader.slotRead t q x) ls ≡ Turn.firstRead q (Reader.slotRead s q x) ls
@@ -80,7 +80,7 @@ module _ (s : State) (f : Reached s) (y : ℕ → List ℕ) (o : ℕ → ℕ) (g
   first-same q x (ℓ ∷ ls) e = ap (λ d. some (Turn.readStep q ℓ d)) (e ℓ (inl refl))
 
   request-same : (r : Option Request) → s .request ≡ r → Turn.requestStep t r ≡ Turn.requestStep s r
-  unfolding Turn.requestStep Reader.levelsLeft Reader.costs Reader.condition Request.isSource Blocks.isUnread
+  unfolding Turn.requestStep Reader.levelsLeft Reader.costs Reader.condition Request.isSource Blocks.isUnread topOf joined
   request-same none e = refl
   request-same (some r) e = go (Request.held r) refl
     where
@@ -102,7 +102,7 @@ module _ (s : State) (f : Reached s) (y : ℕ → List ℕ) (o : ℕ → ℕ) (g
       go false u = first-same q (s .place (r .block)) levels (reads u)
 
   job-same : (qs : List ℕ) → Turn.jobStep t qs ≡ Turn.jobStep s qs
-  unfolding Turn.jobStep Rebuild.unread Turn.rebuildStep Turn.writeStep Blocks.isUnread
+  unfolding Turn.jobStep Rebuild.unread Rebuild.nextUnread Turn.rebuildStep Turn.writeStep Blocks.isUnread topOf levelsOf joined
   job-same [] = refl
   job-same (q ∷ qs) = refl
 
@@ -111,12 +111,12 @@ module _ (s : State) (f : Reached s) (y : ℕ → List ℕ) (o : ℕ → ℕ) (g
   decide-same = ap (λ x. Option·getD x (Turn.jobStep t (s .queue))) (request-same (s .request) refl) ∙ ap (λ x. Option·getD (Turn.requestStep s (s .request)) x) (job-same (s .queue))
 
   possible-same : (x : Step) → possible t x ≡ possible s x
-  unfolding possible Rebuild.gathered Rebuild.chosen Blocks.blocksIn Blocks.entries
+  unfolding possible Rebuild.gathered Rebuild.chosen Blocks.blocksIn Blocks.entries topOf joined
   possible-same idle = refl
   possible-same noDummy = refl
   possible-same (readForRequest q ℓ i) = refl
   possible-same (readForJob q ℓ i) = refl
-  possible-same (rebuild q t) = refl
+  possible-same (rebuild q ls) = refl
   possible-same (writeNext q t i) = refl
 
   -- ---- The form
@@ -163,7 +163,7 @@ module _ (s : State) (f : Reached s) (y : ℕ → List ℕ) (o : ℕ → ℕ) (g
   number-of (request j b bs) m ws n e = rw (ready-same m)
   number-of turn m ws n e = rw (ready-same m, decide-same, possible-same (decide s))
   number-of (completion c bs) m ws n e = rw (ready-same m)
-  number-of collect m ws n e = rw (ready-same m) (unfold Collect.finished Reader.levelsLeft Reader.costs Reader.condition Request.isSource Blocks.isUnread in refl)
+  number-of collect m ws n e = rw (ready-same m) (unfold Collect.finished Reader.levelsLeft Reader.costs Reader.condition Request.isSource Blocks.isUnread topOf joined in refl)
   number-of save m ws n e = rw (ready-same m, rest-same) (save-number m n (Questions.atRest s) refl)
   number-of (load form) m ws n e = absurd (true≢false e)
 
@@ -173,25 +173,25 @@ module _ (s : State) (f : Reached s) (y : ℕ → List ℕ) (o : ℕ → ℕ) (g
 
 -- ---- What a call leaves
 
--- the orders after a step: a rebuild writes those of its target
+-- the orders after a step: a rebuild writes those of its levels
 unfoldable pub ordersAfter : Step → List ℕ → State → (ℕ → ℕ) → ℕ → ℕ
 ordersAfter idle js s o = o
 ordersAfter noDummy js s o = o
 ordersAfter (readForRequest q ℓ i) js s o = o
 ordersAfter (readForJob q ℓ i) js s o = o
-ordersAfter (rebuild q t) js s o = putAll (cell (s .shape) q t 0) (newOrder (slots t) js) o
+ordersAfter (rebuild q ls) js s o = newOrders (s .shape) q (fills ls js (gathered s q)) o
 ordersAfter (writeNext q t i) js s o = o
 
 pub step-over : (x : Step) (js : List ℕ) (s : State) (y : ℕ → List ℕ) (o : ℕ → ℕ) → doStep x js (over y o s) ≡ over y (ordersAfter x js s o) (doStep x js s)
-unfolding doStep ordersAfter Turn.send Turn.markRead Rebuild.doRebuild Rebuild.gathered Rebuild.chosen Blocks.blocksIn Blocks.entries Request.isSource
+unfolding doStep ordersAfter Turn.send Turn.markRead Rebuild.doRebuild Rebuild.gathered Rebuild.chosen Blocks.blocksIn Blocks.entries topOf joined Request.isSource
 step-over idle js s y o = refl
 step-over noDummy js s y o = refl
 step-over (readForRequest q ℓ i) js s y o = refl
 step-over (readForJob q ℓ i) js s y o = refl
-step-over (rebuild q t) js s y o = refl
+step-over (rebuild q ls) js s y o = refl
 step-over (writeNext q t i) js s y o = refl
 
 -- a request is released alike
 pub release-over : (s : State) (y : ℕ → List ℕ) (o : ℕ → ℕ) → Request.release (over y o s) ≡ over y o (Request.release s)
-unfolding Request.releasedIn Request.blocked Request.heldFor Request.undrawnOnly Request.worn Request.isSource Blocks.lookUp
+unfolding Request.releasedIn Request.blocked Request.heldFor Request.undrawnOnly Request.worn Request.isSource Blocks.lookUp topOf joined
 release-over s y o = refl

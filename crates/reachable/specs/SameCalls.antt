@@ -1,6 +1,6 @@
 -- Two states that differ only in what a form leaves out: what each turn, completion and collect does is the same in both, and leaves two such states.
 use mathlib.Core.Path.{_≡_, refl, ap, sym, _∙_, subst}
-use mathlib.Core.Logic.{⊎-elim}
+use mathlib.Core.Logic.{inl, ⊎-elim}
 use mathlib.Core.Bool.{Bool, true, false, not, _&&_}
 use mathlib.Core.List.{List, [], _∷_, _++_}
 use mathlib.Core.Option.{Option, none, some}
@@ -8,41 +8,45 @@ use Prim.Native.Nat.{ℕ, suc, _+_, _<_}
 use native.Mathlib.Omega.{arith}
 use native.Mathlib.Decide.{ℕ-discrete}
 use lib.Dec.{eqb}
-use borrow.Author.Tests.{eqb-true, eqb-false, not-true}
+use lib.ListN.{length, getD}
+use borrow.Author.Tests.{eqb-true, eqb-false}
 use Rattle.rules.specs.Rebuild
-use Rattle.lists.specs.All.{any-all, any-kept, any-none}
+use Rattle.rules.specs.Rebuild.{Fill, fills, gathered, newOrders, writeLevels}
+use Rattle.rules.specs.Setters.{setBegun}
+use Rattle.lists.specs.All.{any-all, any-kept}
 use Rattle.lists.specs.Distinct.{Mem}
-use Rattle.lists.specs.Members.{append-mem, keep-mem, member-mem}
+use Rattle.lists.specs.Members.{all-mem, append-mem, keep-mem, member-mem}
 use Rattle.lists.specs.Search
-use Rattle.lists.specs.Search.{any}
-use Rattle.lists.specs.Tables.{put, put-same, put-other, putAll}
-use Rattle.lists.specs.Tests.{if_then_else_, and-l, and-r}
+use Rattle.lists.specs.Tables.{put, put-same, put-other}
+use Rattle.lists.specs.Tests.{if_then_else_}
 use Rattle.rules.specs.Blocks
 use Rattle.rules.specs.Collect.{finish, finished}
 use Rattle.rules.specs.Completion
 use Rattle.rules.specs.Completion.{isCommand, completed, gatherBytes, finishJob, endJob}
-use Rattle.rules.specs.Draws.{newOrder, Drew}
+use Rattle.rules.specs.Draws.{Drew}
 use Rattle.rules.specs.Laws.Decided.{StepIn}
 use Rattle.rules.specs.Laws.Form.Saveable.{over}
 use Rattle.rules.specs.Laws.Kept.{completed-in}
 use lib.Pow.{pow-pos}
-use Rattle.rules.specs.Levels.{filled, target}
-use Rattle.rules.specs.Questions.{request, turn, completion, collect}
+use Rattle.rules.specs.Jobs.{joined, levelsOf}
+use Rattle.rules.specs.Levels.{filled}
+use Rattle.rules.specs.Questions.{request}
 use Rattle.rules.specs.Ranges.{others}
 use Rattle.rules.specs.Run
 use Rattle.rules.specs.Shape.{Shape, cell, slots}
 use Rattle.rules.specs.State.{State, Command, cmd, read, write, Request, Place, nowhere, stored}
 use Rattle.rules.specs.Turn
 use Rattle.rules.specs.Turn.{Step, idle, noDummy, readForRequest, readForJob, rebuild, writeNext, command, doStep}
-use Rattle.reachable.specs.Cells.{level-at, level-else}
-use Rattle.reachable.specs.Consequences.{holder-place, place-holder, block-lt, finished-read, finished-aside, named-is}
+use Rattle.reachable.specs.Begins.{Begins, counted-still, job-begins, request-begins}
+use Rattle.reachable.specs.Consequences.{levels-first, done-why, next-write, holder-place, place-holder, block-lt, finished-read, finished-aside, named-is}
 use Rattle.reachable.specs.Decided.{Decided}
+use Rattle.reachable.specs.Fills.{In, levelOf, written-here, written-else}
 use Rattle.reachable.specs.Invariant.{Reached}
 use Rattle.reachable.specs.Kept.Collect as CollectKept
 use Rattle.reachable.specs.Kept.Collect.{other-block, place-other, partition-other}
 use Rattle.reachable.specs.Kept.Completion as CompletionKept
 use Rattle.reachable.specs.Kept.Completion.{completed-kept}
-use Rattle.reachable.specs.Kept.Rebuild.Drawing.{Drawing, drawing, lives, top-lt}
+use Rattle.reachable.specs.Kept.Rebuild.Drawing.{Drawing, Here, drawing, lives, fill-of, fill-fits, nodup-fills}
 use Rattle.reachable.specs.Kept.Write as WriteKept
 use Rattle.reachable.specs.Live
 use Rattle.reachable.specs.Live.{counted, Target, front-is}
@@ -65,20 +69,34 @@ module _ (s : State) (f : Reached s) (y : ℕ → List ℕ) (o : ℕ → ℕ) (k
   abbrev Ordered : State → (ℕ → ℕ) → Type 0
   Ordered s′ o′ = (q ℓ j : ℕ) → q < s′ .shape .P → ℓ < s′ .shape .L → filled (counted s′ q) ℓ ≡ true → j < slots ℓ → o′ (cell (s′ .shape) q ℓ j) ≡ s′ .order (cell (s′ .shape) q ℓ j)
 
-  rebuild-orders : (p t : ℕ) (xs : List ℕ) → Drawing s p t xs → Ordered (Turn.send (cmd write p t 0) (Rebuild.doRebuild p t xs s)) (putAll (cell h p t 0) xs o)
-  unfolding Turn.send Rebuild.doRebuild
-  rebuild-orders p t xs d q ℓ j hq hℓ e hj = ⊎-elim
-      (λ w. level-at h p t xs o (d .long) q ℓ j w hj ∙ sym (level-at h p t xs (s .order) (d .long) q ℓ j w hj))
-      (λ w. level-else h p t xs o (d .long) q ℓ j (top-lt s f p t xs d) hℓ hj (w .0) ∙ k .orders q ℓ j hq hℓ (w .1) hj ∙ sym (level-else h p t xs (s .order) (d .long) q ℓ j (top-lt s f p t xs d) hℓ hj (w .0)))
-      (lives s f p t xs d q ℓ hℓ (ap (λ c. filled c ℓ) (sym (sent-counted (cmd write p t 0) (Rebuild.doRebuild p t xs s) q)) ∙ e))
+  rebuild-orders : (p : ℕ) (ls : List ℕ) (xs : List Fill) → Drawing s p ls xs → Ordered (Turn.send (cmd write p (getD ls 0 0) 0) (Rebuild.doRebuild p ls xs s)) (newOrders h p xs o)
+  unfolding Turn.send Rebuild.doRebuild newOrders
+  rebuild-orders p ls xs d q ℓ j hq hℓ e hj = ⊎-elim
+      (λ w. let x = fill-of s f p ls xs d ℓ (w .1) in here (x .0) (x .1 .0) (w .0, x .1 .1))
+      (λ w. else-at o (w .0) ∙ k .orders q ℓ j hq hℓ (w .1) hj ∙ sym (else-at (s .order) (w .0)))
+      (lives s f p ls xs d q ℓ hℓ (ap (λ c. filled c ℓ) (sym (sent-counted (cmd write p (getD ls 0 0) 0) (Rebuild.doRebuild p ls xs s) q)) ∙ e))
+    where
+      fit : (x : Fill) → In x xs → (x .level < h .L) × (length (x .order) ≡ slots (x .level))
+      fit x m = (fill-fits s f p ls xs d x m, d .good x m .long)
+
+      here : (x : Fill) → In x xs → (p ≡ q) × (x .level ≡ ℓ) → writeLevels h p levelOf (λ (x : Fill). x .order) xs o (cell h q ℓ j) ≡ writeLevels h p levelOf (λ (x : Fill). x .order) xs (s .order) (cell h q ℓ j)
+      here x m w = written-here h p levelOf (λ (x : Fill). x .order) xs fit (nodup-fills s f p ls xs d) o x m q ℓ j w hj
+          ∙ sym (written-here h p levelOf (λ (x : Fill). x .order) xs fit (nodup-fills s f p ls xs d) (s .order) x m q ℓ j w hj)
+
+      else-at : (g : ℕ → ℕ) → (Here s f p ls xs d q ℓ → ⊥) → writeLevels h p levelOf (λ (x : Fill). x .order) xs g (cell h q ℓ j) ≡ g (cell h q ℓ j)
+      else-at g n = written-else h p levelOf (λ (x : Fill). x .order) xs fit g q ℓ j hℓ hj (λ v m. n (v, subst (λ l. Mem ℓ l) (d .levels) m))
+
+  -- a run that begins
+  begun-orders : (n : ℕ) → Begins s n → (q ℓ j : ℕ) → q < h .P → ℓ < h .L → filled (counted (setBegun n s) q) ℓ ≡ true → j < slots ℓ → o (cell h q ℓ j) ≡ s .order (cell h q ℓ j)
+  begun-orders n b q ℓ j hq hℓ e hj = k .orders q ℓ j hq hℓ (ap (λ (c : ℕ → ℕ). filled (c q) ℓ) (sym (counted-still s n b)) ∙ e) hj
 
   pub step-orders : (x : Step) (js : List ℕ) → Decided s x → Drew (Turn.stepBounds x) js → Ordered (doStep x js s) (ordersAfter x js s o)
   unfolding doStep ordersAfter Turn.stepBounds
   step-orders idle js d w = k .orders
   step-orders noDummy js d w = k .orders
-  step-orders (readForRequest p m i) js d w = unfold Turn.send Turn.markRead counted Live.drawn in (k .orders)
-  step-orders (readForJob p m i) js d w = unfold Turn.send Turn.markRead counted Live.drawn in (k .orders)
-  step-orders (rebuild p t) js d w = rebuild-orders p t (newOrder (slots t) js) (drawing s f p t js d w)
+  step-orders (readForRequest p m i) js d w = unfold Turn.send Turn.markRead counted Live.drawn in (begun-orders _ (request-begins s f p m i d))
+  step-orders (readForJob p m i) js d w = unfold Turn.send Turn.markRead counted Live.drawn in (begun-orders _ (job-begins s p m i d))
+  step-orders (rebuild p ls) js d w = rebuild-orders p ls (fills ls js (gathered s p)) (drawing s f p ls js d w)
   step-orders (writeNext p t i) js d w = λ q ℓ j hq hℓ e hj. unfold Turn.send in (k .orders q ℓ j hq hℓ (ap (λ (c : ℕ → ℕ). filled (c q) ℓ) (sym (WriteKept.counted-kept s f p t i d js)) ∙ e) hj)
 
 -- the bytes of a write: the slot's block is one whose contents the client has
@@ -94,7 +112,7 @@ written-same s y o c e = go (eqb (c .kind) write) refl (Blocks.holder s (c .part
     go true z (some b) v = sym (e b (eqb-true (c .kind) write z) v)
 
 module _ (s : State) (f : Reached s) where
-  -- a block in a slot of the target of a drawn job
+  -- a block in a slot of a level that a drawn job writes
   target-bytes : (y : ℕ → List ℕ) → Values s y → (q ℓ i b : ℕ) → q < s .shape .P → ℓ < s .shape .L → i < slots ℓ → Target s q ℓ → Blocks.holder s q ℓ i ≡ some b → s .bytes b ≡ y b
   unfolding Blocks.holder
   target-bytes y v q ℓ i b hq hℓ hi z e =
@@ -102,19 +120,22 @@ module _ (s : State) (f : Reached s) where
       let n : s .holds (cell (s .shape) q ℓ i) ≡ suc b = named-is (s .holds (cell (s .shape) q ℓ i)) b e in
       v .drawn b ℓ i (omega (arith, f .range .holds q ℓ i hq hℓ hi)) (x .1) (subst (λ p. Target s p ℓ) (sym (x .0)) z)
 
-pub turn-written : (s : State) → Reached s → (x : Step) (js : List ℕ) → Decided s x → StepIn (s .shape) x → Reached (doStep x js s) → (y : ℕ → List ℕ) → Values (doStep x js s) y
+pub turn-written : (s : State) → Reached s → (x : Step) (js : List ℕ) → Decided s x → StepIn s x → Reached (doStep x js s) → (y : ℕ → List ℕ) → Values (doStep x js s) y
     → (b : ℕ) → command x .kind ≡ write → Blocks.holder (doStep x js s) (command x .partition) (command x .level) (command x .slot) ≡ some b → doStep x js s .bytes b ≡ y b
 unfolding command
 turn-written s f idle js d h f′ y v b z e = absurd (omega (arith, z))
 turn-written s f noDummy js d h f′ y v b z e = absurd (omega (arith, z))
 turn-written s f (readForRequest q ℓ i) js d h f′ y v b z e = absurd (let w : _≡_ {A = ℕ} 1 2 = z in omega arith)
 turn-written s f (readForJob q ℓ i) js d h f′ y v b z e = absurd (let w : _≡_ {A = ℕ} 1 2 = z in omega arith)
-turn-written s f (rebuild q t) js d h f′ y v b z e = target-bytes (doStep (rebuild q t) js s) f′ y v q t 0 b
-    (unfold doStep Turn.send Rebuild.doRebuild in (h .0)) (unfold doStep Turn.send Rebuild.doRebuild in (h .1)) (pow-pos (t + 1))
-    (unfold doStep Turn.send Rebuild.doRebuild in (rw (d .front) (front-is q (d .rest)), (λ x. omega arith), d .goal)) e
+turn-written s f (rebuild q ls) js d h f′ y v b z e = target-bytes (doStep (rebuild q ls) js s) f′ y v q (getD ls 0 0) 0 b
+    (unfold doStep Turn.send Rebuild.doRebuild in (h .0)) (unfold doStep Turn.send Rebuild.doRebuild in (all-mem (h .1) (getD ls 0 0) (subst (λ l. Mem (getD ls 0 0) l) (sym (d .goal)) goal))) (pow-pos (getD ls 0 0 + 1))
+    (unfold doStep Turn.send Rebuild.doRebuild in (rw (d .front) (front-is q (d .rest)), (λ x. omega arith), unfold levelsOf in goal)) e
+  where
+    goal : Mem (getD ls 0 0) (levelsOf s q)
+    goal = let x = levels-first s f q (d .rest) (d .front) in rw (d .goal, x .1) (inl refl)
 turn-written s f (writeNext q t i) js d h f′ y v b z e = target-bytes (doStep (writeNext q t i) js s) f′ y v q t i b
     (unfold doStep Turn.send in (h .0)) (unfold doStep Turn.send in (h .1)) (h .2)
-    (unfold doStep Turn.send in (rw (d .front) (front-is q (d .rest)), (λ x. omega arith), d .goal)) e
+    (unfold doStep Turn.send in (rw (d .front) (front-is q (d .rest)), (λ x. omega arith), next-write s f q t i d .0)) e
 
 -- ---- A completion
 
@@ -200,32 +221,28 @@ module _ (s : State) (f : Reached s) (y : ℕ → List ℕ) (o : ℕ → ℕ) (k
 
 module _ (s : State) (f : Reached s) (y : ℕ → List ℕ) (o : ℕ → ℕ) (k : Same s y o) where
   finish-over : (l : List ℕ) → finishJob l (over y o s) ≡ over y o (finishJob l s)
-  unfolding finishJob Completion.jobDone endJob
+  unfolding finishJob Completion.jobDone endJob joined levelsOf
   finish-over [] = refl
   finish-over (q ∷ l) = go (Completion.jobDone s q)
     where
-      go : (b : Bool) → (if b then endJob q l (over y o s) else over y o s) ≡ over y o (if b then endJob q l s else s)
+      go : (b : Bool) → (if b then endJob q (over y o s) else over y o s) ≡ over y o (if b then endJob q s else s)
       go true = refl
       go false = refl
 
-  end-same : (q : ℕ) (l : List ℕ) → counted (endJob q l s) ≡ counted s → Same (endJob q l s) y o
+  end-same : (q : ℕ) → counted (endJob q s) ≡ counted s → Same (endJob q s) y o
   unfolding endJob
-  end-same q l e = record {
+  end-same q e = record {
     values = record { waiting = k .values .waiting; drawn = λ b ℓ i hb p z. absurd (z .1 refl); known = k .values .known };
     orders = λ p ℓ j hp hℓ z hj. k .orders p ℓ j hp hℓ (ap (λ (c : ℕ → ℕ). filled (c p) ℓ) (sym e) ∙ z) hj;
   }
 
   finish-same : (l : List ℕ) → s .queue ≡ l → Same (finishJob l s) y o
-  unfolding finishJob Completion.jobDone
+  unfolding finishJob
   finish-same [] e = k
   finish-same (q ∷ l) e = go (Completion.jobDone s q) refl
     where
-      go : (b : Bool) → Completion.jobDone s q ≡ b → Same (if b then endJob q l s else s) y o
-      go true z =
-          let a = and-l (eqb (s .sent) (slots (target (s .shape) (s .counter q)))) (not (any (λ (c : Command). eqb (c .kind) write) (s .outstanding))) z in
-          let b = and-r (eqb (s .sent) (slots (target (s .shape) (s .counter q)))) (not (any (λ (c : Command). eqb (c .kind) write) (s .outstanding))) z in
-          end-same q l (CompletionKept.counted-kept s f q l e (λ z. omega (arith, pow-pos (target (s .shape) (s .counter q) + 1), eqb-true (s .sent) (slots (target (s .shape) (s .counter q))) a))
-          (any-none (λ (c : Command). eqb (c .kind) write) (s .outstanding) (not-true (any (λ (c : Command). eqb (c .kind) write) (s .outstanding)) b)))
+      go : (b : Bool) → Completion.jobDone s q ≡ b → Same (if b then endJob q s else s) y o
+      go true z = let w = done-why s f q l e z in end-same q (CompletionKept.counted-kept s f q l e (w .1) (w .2))
       go false z = k
 
 -- both

@@ -1,6 +1,6 @@
 -- A state that calls left and that is at rest can be saved, and what its form brings has the invariant again.
 use mathlib.Core.Path.{_≡_, refl, ap, sym, _∙_}
-use mathlib.Core.Logic.{⊎-elim}
+use mathlib.Core.Logic.{_⊎_, inl, inr, ⊎-elim}
 use mathlib.Core.Bool.{true, true≢false}
 use mathlib.Core.List.{List, [], _∷_}
 use mathlib.Core.Option.{Option, none, some}
@@ -13,6 +13,7 @@ use Rattle.lists.specs.Search
 use Rattle.lists.specs.Tests.{every-yes}
 use Rattle.rules.specs.Form.Loading.{storedAt, bytesIn, ofBlock}
 use Rattle.rules.specs.Form.Payload.{Waiter, waiters}
+use Rattle.rules.specs.Jobs.{joined, topOf}
 use Rattle.rules.specs.Laws.Form.Back.{contentsOf, ordersIn, over-in, agrees}
 use Rattle.rules.specs.Laws.Form.Saveable.{Saveable, over}
 use Rattle.rules.specs.Laws.Form.Tables.{waiters-all}
@@ -50,13 +51,17 @@ rest-facts s e =
     nil-of [] k = refl
     nil-of (c ∷ cs) k = absurd (omega arith)
 
+-- A job that has not begun has left the slots of its partition's blocks unread; the request for a block may have read its slot
+untouched : (s : State) → Reached s → (b ℓ i : ℕ) → b < s .shape .N → s .place b ≡ stored ℓ i → s .begun ≡ 0 → (s .mark (cell (s .shape) (s .partition b) ℓ i) ≡ 1) ⊎ Own s b ℓ
+untouched s f b ℓ i hb e z = ⊎-elim inl (λ k. ⊎-elim inr (λ g. absurd (g .2 .0 z)) k) (f .unread b ℓ i hb e)
+
 module _ (s : State) (f : Reached s) (r : Rests s) where
   calm : (q ℓ : ℕ) → filled (counted s q) ℓ ≡ filled (s .counter q) ℓ
   calm q ℓ = ap (λ c. filled c ℓ) (counted-calm s q (f .unbegun (r .unbegun) .1))
 
   -- no block's slot was read
   unread-all : (b ℓ i : ℕ) → b < s .shape .N → s .place b ≡ stored ℓ i → s .mark (cell (s .shape) (s .partition b) ℓ i) ≡ 1
-  unread-all b ℓ i hb e = ⊎-elim (λ k. k) (λ k. ⊎-elim (λ o. absurd (own o)) (λ g. ⊎-elim (λ k. k) (λ o. absurd (own o)) (f .tidy .untouched b ℓ i hb e (r .unbegun) (g .0))) k) (f .unread b ℓ i hb e)
+  unread-all b ℓ i hb e = ⊎-elim (λ k. k) (λ o. absurd (own o)) (untouched s f b ℓ i hb e (r .unbegun))
     where
       own : Own s b ℓ → ⊥
       own o = let z : none ≡ some (o .0) = sym (r .idle) ∙ o .1 .0 in let v : _≡_ {A = ℕ} 0 1 = cc in omega arith
@@ -104,7 +109,7 @@ module _ (s : State) (f : Reached s) (r : Rests s) where
 pub over-kept : (s : State) → Reached s → (y : ℕ → List ℕ) (o : ℕ → ℕ) → ((b : ℕ) → length (y b) ≡ s .shape .B)
     → ((q ℓ k : ℕ) → q < s .shape .P → ℓ < s .shape .L → filled (counted s q) ℓ ≡ true → k < slots ℓ → o (cell (s .shape) q ℓ k) ≡ s .order (cell (s .shape) q ℓ k))
     → InRange (over y o s) → Reached (over y o s)
-unfolding counted drawn storedAt Live.storedIn pending Request.held
+unfolding counted drawn storedAt Live.storedIn pending Request.held Request.isSource topOf joined
 over-kept s f y o whole same range = record {
   range = range;
   waiting = f .waiting;
@@ -125,6 +130,8 @@ over-kept s f y o whole same range = record {
   full = f .full;
   taken = f .taken;
   begun = f .begun;
+  running = f .running;
+  unbegun = f .unbegun;
   reads = f .reads;
   unheld = f .unheld;
   released = f .released;
@@ -133,12 +140,9 @@ over-kept s f y o whole same range = record {
   unread = f .unread;
   fetched = f .fetched;
   scanned = f .scanned;
-  jobless = f .jobless;
-  unbegun = f .unbegun;
-  spent = f .spent;
   apart = f .apart;
   commands = f .commands;
-  tidy = record { partitions = f .tidy .partitions; places = f .tidy .places; counters = f .tidy .counters; marked = f .tidy .marked; held = f .tidy .held; whole = whole; untouched = f .tidy .untouched };
+  tidy = record { partitions = f .tidy .partitions; places = f .tidy .places; counters = f .tidy .counters; marked = f .tidy .marked; held = f .tidy .held; whole = whole };
 }
 
 module _ (s : State) (f : Reached s) (r : Rests s) where

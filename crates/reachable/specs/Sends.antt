@@ -1,16 +1,19 @@
 -- The commands sent to one slot over a run: each read of it follows a write of it.
-use mathlib.Core.Path.{_≡_, refl, ap, sym, _∙_}
+use mathlib.Core.Path.{_≡_, refl, ap, sym, _∙_, subst}
 use mathlib.Core.Bool.{Bool, true, false, not, _&&_, true≢false, _||_}
 use mathlib.Core.List.{List, [], _∷_, _++_}
 use mathlib.Core.Option.{Option, none, some}
 use Prim.Native.Nat.{ℕ, suc, _<_}
 use native.Mathlib.Omega.{arith}
 use native.Mathlib.Decide.{ℕ-discrete}
+use lib.ListN.{getD}
 use lib.Dec.{eqb, ltb}
 use borrow.Author.Tests.{ltb-true, eqb-true, eqb-false, eq-eqb, ne-eqb, lt-ltb}
 use Rattle.reachable.specs.LastSaved.{OfState, step-last as step-saved, Brought, back, gone, load-silent, load-leaves, resumes-was}
 use Rattle.rules.specs.Resumes.{savedBy, OfLast, Resumes, NoOpen}
 use Rattle.lists.specs.All.{All, nil, cons}
+use Rattle.lists.specs.Distinct.{Mem}
+use Rattle.lists.specs.Members.{decMem}
 use Rattle.lists.specs.Search
 use Rattle.lists.specs.Search.{any}
 use Rattle.lists.specs.Tables.{put, put-same, put-other}
@@ -19,17 +22,18 @@ use Rattle.rules.specs.Blocks
 use Rattle.rules.specs.Collect
 use Rattle.rules.specs.Completion
 use Rattle.rules.specs.Completion.{isCommand}
-use Rattle.rules.specs.Draws.{draws, newOrder, Drew}
+use Rattle.rules.specs.Draws.{draws, Drew}
 use Rattle.rules.specs.Laws.Answers.{Passed, opens, refuse-keeps, accepted-passed, step-accepted, step-refused, open-first}
+use Rattle.rules.specs.Jobs.{joined, levelsOf, slotCount}
 use Rattle.rules.specs.Laws.Decided.{StepIn, decide-in, stepBounds-pos}
 use Rattle.rules.specs.Laws.Kept.{drew-of, completed-in}
 use Rattle.rules.specs.Laws.Layout.{cell-inj}
-use Rattle.rules.specs.Levels.{target}
+use Rattle.rules.specs.Levels.{writtenLevels}
 use Rattle.rules.specs.Open.{fresh}
 use Rattle.rules.specs.Questions
 use Rattle.rules.specs.Questions.{Ask, opening, request, turn, completion, collect, save, load, Call, bounds, number, questions}
 use Rattle.rules.specs.Ranges.{isKind}
-use Rattle.rules.specs.Rebuild.{doRebuild}
+use Rattle.rules.specs.Rebuild.{Fill, fills, gathered, doRebuild}
 use Rattle.rules.specs.Request
 use Rattle.rules.specs.Run
 use Rattle.rules.specs.Run.{Outcome, act, step, run}
@@ -37,14 +41,16 @@ use Rattle.rules.specs.Shape.{Shape, cell, slots}
 use Rattle.rules.specs.State.{State, Command, cmd, read, write, Request, closed}
 use Rattle.rules.specs.Turn
 use Rattle.rules.specs.Turn.{Step, idle, noDummy, readForRequest, readForJob, rebuild, writeNext, decide, command, doStep}
-use Rattle.reachable.specs.Consequences.{request-unread, front-calm, job-unread}
+use Rattle.reachable.specs.Begins.{busy-still, request-begins}
+use Rattle.reachable.specs.Consequences.{request-unread, front-calm, job-unread, all-written, wrote-before}
 use Rattle.reachable.specs.Decided.{Decided, Rebuilds, decided}
 use Rattle.reachable.specs.Invariant.{Reached}
 use Rattle.reachable.specs.Kept.Completion.{completed-kept}
-use Rattle.reachable.specs.Kept.Rebuild.Drawing.{drawing}
+use Rattle.reachable.specs.Kept.Rebuild.Commands.{top-in, first-write}
+use Rattle.reachable.specs.Kept.Rebuild.Drawing.{Drawing, drawing}
 use Rattle.reachable.specs.Kept.Rebuild.Marks.{mark-else}
 use Rattle.rules.specs.Request.{isFront}
-use Rattle.reachable.specs.Live.{Target, front-is, front-eq}
+use Rattle.reachable.specs.Live.{Target, front-is, front-eq, Wrote, writeNumber}
 use Rattle.reachable.specs.Outstanding.{decOne, is-command}
 use Rattle.reachable.specs.Pending.{front-more}
 use Rattle.reachable.specs.Reached.{Was, was-reached, step-was, shut}
@@ -74,11 +80,12 @@ module _ (q ℓ i : ℕ) where
   unfolding lastKind
   kind-none k = refl
 
-  -- In a state, where k is the kind of the last command to the slot: an unread slot, but one of a drawn target to which no write was sent yet, was written last
+  -- In a state, where k is the kind of the last command to the slot: an unread slot, but one of a level that the front job writes to which no write was sent
+  -- yet, was written last
   abbrev pub Last : State → ℕ → Type 0
-  Last s k = ℓ < s .shape .L → i < slots ℓ → s .mark (cell (s .shape) q ℓ i) ≡ 1 → (Target s q ℓ → i < s .sent) → k ≡ write
+  Last s k = ℓ < s .shape .L → i < slots ℓ → s .mark (cell (s .shape) q ℓ i) ≡ 1 → (Target s q ℓ → Wrote s q ℓ i) → k ≡ write
 
-  -- A read of an unread slot outside a drawn target
+  -- A read of an unread slot of no level that a drawn job writes
   module _ (s : State) (p m j : ℕ) (hm : m < s .shape .L) (hj : j < slots m) (un : s .mark (cell (s .shape) p m j) ≡ 1) (out : ¬ Target s p m) (k : ℕ) (fresh : Last s k) where
     read-after : cmd read p m j ≡ cmd read q ℓ i → k ≡ write
     read-after e =
@@ -87,7 +94,7 @@ module _ (q ℓ i : ℕ) where
         let c : j ≡ i = ap (λ (c : Command). c .slot) e in
         fresh (rw (← b) hm) (rw (← b, ← c) hj) (rw (← a, ← b, ← c) un) (λ t. absurd (out (rw (a, b) t)))
 
-    read-last : ℓ < s .shape .L → i < slots ℓ → put (cell (s .shape) p m j) 0 (s .mark) (cell (s .shape) q ℓ i) ≡ 1 → (Target s q ℓ → i < s .sent) → lastKind q ℓ i k (cmd read p m j) ≡ write
+    read-last : ℓ < s .shape .L → i < slots ℓ → put (cell (s .shape) p m j) 0 (s .mark) (cell (s .shape) q ℓ i) ≡ 1 → (Target s q ℓ → Wrote s q ℓ i) → lastKind q ℓ i k (cmd read p m j) ≡ write
     read-last hℓ hi u t = go (decOne p m j q ℓ i)
       where
         go : Dec (One p m j q ℓ i) → lastKind q ℓ i k (cmd read p m j) ≡ write
@@ -98,52 +105,59 @@ module _ (q ℓ i : ℕ) where
 
   -- A turn
   module _ (s : State) (f : Reached s) (k : ℕ) (fresh : Last s k) where
-    turn-last : (x : Step) (js : List ℕ) → Decided s x → StepIn (s .shape) x → Drew (Turn.stepBounds x) js → (command x ≡ cmd read q ℓ i → k ≡ write) × Last (doStep x js s) (lastKind q ℓ i k (command x))
+    turn-last : (x : Step) (js : List ℕ) → Decided s x → StepIn s x → Drew (Turn.stepBounds x) js → (command x ≡ cmd read q ℓ i → k ≡ write) × Last (doStep x js s) (lastKind q ℓ i k (command x))
     unfolding command doStep Turn.stepBounds Turn.send Turn.markRead doRebuild
     turn-last idle js d h w = ((λ e. absurd (omega (arith, ap (λ (c : Command). c .kind) e))), rw (kind-none k) fresh)
     turn-last noDummy js d h w = ((λ e. absurd (omega (arith, ap (λ (c : Command). c .kind) e))), rw (kind-none k) fresh)
     turn-last (readForRequest p m j) js d h w =
         let un = request-unread s f p m j d in
         let out : ¬ Target s p m = λ t. t .1 (front-calm s f p m j d (t .0)) in
-        (read-after s p m j (h .1) (h .2) un out k fresh, read-last s p m j (h .1) (h .2) un out k fresh)
+        let same = busy-still s _ (request-begins s f p m j d) in (
+          read-after s p m j (h .1) (h .2) un out k fresh,
+          λ hℓ hi u v. read-last s p m j (h .1) (h .2) un out k fresh hℓ hi u (λ t.
+              subst (λ n. writeNumber (writtenLevels (s .shape) (s .counter q) n) ℓ i < s .sent) (same (t .1)) (v (t .0, t .1, subst (λ n. Mem ℓ (writtenLevels (s .shape) (s .counter q) n)) (sym (same (t .1))) (t .2)))),
+        )
     turn-last (readForJob p m j) js d h w =
         let un = job-unread s f p m j d in
         let out : ¬ Target s p m = λ t. t .1 (d .calm) in
-        (read-after s p m j (h .1) (h .2) un out k fresh, read-last s p m j (h .1) (h .2) un out k fresh)
-    turn-last (rebuild p t) js d h w = ((λ e. absurd (let z : _≡_ {A = ℕ} 2 1 = ap (λ (c : Command). c .kind) e in omega arith)), drawn-last p t js d w)
+        (read-after s p m j (h .1) (h .2) un out k fresh, λ hℓ hi u v. read-last s p m j (h .1) (h .2) un out k fresh hℓ hi u (λ t. absurd (t .1 (d .calm))))
+    turn-last (rebuild p ls) js d h w = ((λ e. absurd (let z : _≡_ {A = ℕ} 2 1 = ap (λ (c : Command). c .kind) e in omega arith)), drawn-last p ls js d (h .1) w)
       where
-        drawn-last : (p t : ℕ) (js : List ℕ) → Rebuilds s p t → Drew (Turn.stepBounds (rebuild p t)) js → Last (doStep (rebuild p t) js s) (lastKind q ℓ i k (cmd write p t 0))
-        drawn-last p t js d w hℓ hi u v = go (ℕ-discrete p q) (ℕ-discrete t ℓ)
+        drawn-last : (p : ℕ) (ls js : List ℕ) → Rebuilds s p ls → All (λ ℓ. ℓ < s .shape .L) ls → Drew (Turn.stepBounds (rebuild p ls)) js → Last (doStep (rebuild p ls) js s) (lastKind q ℓ i k (cmd write p (getD ls 0 0) 0))
+        drawn-last p ls js d low w hℓ hi u v = go (ℕ-discrete p q) (decMem ℓ ls)
           where
-            other : ((p ≡ q) × (t ≡ ℓ) → ⊥) → lastKind q ℓ i k (cmd write p t 0) ≡ write
-            other n = kind-else k (cmd write p t 0) (λ z. n (z .0, z .1)) ∙ fresh hℓ hi (sym (mark-else s f p t (newOrder (slots t) js) (drawing s f p t js d w) q ℓ i hℓ hi n) ∙ u) (λ z. absurd (z .1 (d .calm)))
+            xs : List Fill
+            xs = fills ls js (gathered s p)
 
-            go : Dec (p ≡ q) → Dec (t ≡ ℓ) → lastKind q ℓ i k (cmd write p t 0) ≡ write
+            dr : Drawing s p ls xs
+            dr = drawing s f p ls js d w
+
+            other : ((p ≡ q) × Mem ℓ ls → ⊥) → lastKind q ℓ i k (cmd write p (getD ls 0 0) 0) ≡ write
+            other n = kind-else k (cmd write p (getD ls 0 0) 0) (λ z. n (z .0, rw (← z .1) (top-in s f p ls xs dr)))
+                ∙ fresh hℓ hi (sym (mark-else s f p ls xs dr q ℓ i hℓ hi n) ∙ u) (λ z. absurd (z .1 (d .calm)))
+
+            here : p ≡ q → Mem ℓ ls → (ℓ ≡ getD ls 0 0) × (i ≡ 0)
+            here a m =
+                let m′ : Mem ℓ (writtenLevels (s .shape) (s .counter q) (joined s p)) = subst (λ x. Mem ℓ (writtenLevels (s .shape) (s .counter x) (joined s p))) a (unfold levelsOf in (rw (d .goal) at m)) in
+                let l : writeNumber (writtenLevels (s .shape) (s .counter q) (joined s p)) ℓ i < 1 = v (ap (isFront (s .queue)) (sym a) ∙ rw (d .front) (front-is p (d .rest)), (λ z. omega arith), m′) in
+                first-write s f p ls xs dr ℓ i m hi (subst (λ x. writeNumber (writtenLevels (s .shape) (s .counter x) (joined s p)) ℓ i < 1) (sym a) l)
+
+            go : Dec (p ≡ q) → Dec (Mem ℓ ls) → lastKind q ℓ i k (cmd write p (getD ls 0 0) 0) ≡ write
             go (no a) b = other (λ z. a (z .0))
             go (yes a) (no b) = other (λ z. b (z .1))
-            go (yes a) (yes b) =
-                let l : i < 1 = v (ap (isFront (s .queue)) (sym a) ∙ rw (d .front) (front-is p (d .rest)), (λ z. omega arith), sym b ∙ d .goal ∙ ap (λ x. target (s .shape) (s .counter x)) a) in
-                let z : 0 ≡ i = omega arith in
-                kind-here k (cmd write p t 0) (omega arith) (a, b, z)
+            go (yes a) (yes b) = let z = here a b in kind-here k (cmd write p (getD ls 0 0) 0) (omega arith) (a, sym (z .0), sym (z .1))
     turn-last (writeNext p t j) js d h w = ((λ e. absurd (let z : _≡_ {A = ℕ} 2 1 = ap (λ (c : Command). c .kind) e in omega arith)), λ hℓ hi u v. go hℓ hi u v (decOne p t j q ℓ i))
       where
-        go : ℓ < s .shape .L → i < slots ℓ → s .mark (cell (s .shape) q ℓ i) ≡ 1 → (Target (doStep (writeNext p t j) js s) q ℓ → i < suc j) → Dec (One p t j q ℓ i) → lastKind q ℓ i k (cmd write p t j) ≡ write
+        go : ℓ < s .shape .L → i < slots ℓ → s .mark (cell (s .shape) q ℓ i) ≡ 1 → (Target (doStep (writeNext p t j) js s) q ℓ → writeNumber (writtenLevels (s .shape) (s .counter q) (s .begun)) ℓ i < suc (s .sent)) → Dec (One p t j q ℓ i) → lastKind q ℓ i k (cmd write p t j) ≡ write
         go hℓ hi u v (yes z) = kind-here k (cmd write p t j) (omega arith) z
         go hℓ hi u v (no z) = kind-else k (cmd write p t j) z ∙ fresh hℓ hi u (λ x. early x (v (x .0, (λ y. omega arith), x .2)))
           where
-            early : Target s q ℓ → i < suc j → i < s .sent
-            early x l =
-                let a = front-eq q p (s .queue) (d .rest) (d .front) (x .0) in
-                let b : ℓ ≡ t = x .2 ∙ ap (λ y. target (s .shape) (s .counter y)) a ∙ sym (d .goal) in
-                let c : i ≡ j → ⊥ = λ y. z (sym a, sym b, sym y) in
-                omega (arith, d .now)
+            early : Target s q ℓ → writeNumber (writtenLevels (s .shape) (s .counter q) (s .begun)) ℓ i < suc (s .sent) → Wrote s q ℓ i
+            early x l = wrote-before s f p t j d q ℓ i x hi l (λ y. z (sym (y .0), sym (y .1), sym (y .2)))
 
-    end-last : (p : ℕ) (rest : List ℕ) → s .queue ≡ p ∷ rest → s .sent ≡ slots (target (s .shape) (s .counter p)) → Last (Completion.endJob p rest s) k
+    end-last : (p : ℕ) (rest : List ℕ) → s .queue ≡ p ∷ rest → s .sent ≡ slotCount (levelsOf s p) → Last (Completion.endJob p s) k
     unfolding Completion.endJob
-    end-last p rest e all hℓ hi u v = fresh hℓ hi u (λ z.
-        let a = front-eq q p (s .queue) rest e (z .0) in
-        let w : s .sent ≡ slots ℓ = all ∙ ap (λ x. slots (target (s .shape) (s .counter x))) (sym a) ∙ ap slots (sym (z .2)) in
-        omega (arith, w))
+    end-last p rest e all hℓ hi u v = fresh hℓ hi u (λ z. all-written s f q ℓ i z hi (ap (λ x. slotCount (levelsOf s x)) (front-eq q p (s .queue) rest e (z .0)) ∙ sym all))
 
     collect-last : (r : Option Request) → Last (Collect.collected r s) k
     unfolding Collect.collected Collect.finish
@@ -161,8 +175,8 @@ module _ (q ℓ i : ℕ) where
       f′ : Reached s′
       f′ = completed-kept s f c (completed-in s (f .range) c)
 
-      ended : (p : ℕ) (qs : List ℕ) → s .queue ≡ p ∷ qs → (t : Bool) → Completion.jobDone s′ p ≡ t → Last (if t then Completion.endJob p qs s′ else s′) k
-      ended p qs e true z = end-last s′ f′ k fresh p qs e (eqb-true (s .sent) (slots (target (s .shape) (s .counter p))) (and-l (eqb (s .sent) (slots (target (s .shape) (s .counter p)))) (not (Search.any (λ (c : Command). eqb (c .kind) write) (s′ .outstanding))) z))
+      ended : (p : ℕ) (qs : List ℕ) → s .queue ≡ p ∷ qs → (t : Bool) → Completion.jobDone s′ p ≡ t → Last (if t then Completion.endJob p s′ else s′) k
+      ended p qs e true z = end-last s′ f′ k fresh p qs e (eqb-true (s .sent) (slotCount (levelsOf s′ p)) (and-l (eqb (s .sent) (slotCount (levelsOf s′ p))) (not (Search.any (λ (c : Command). eqb (c .kind) write) (s′ .outstanding))) z))
       ended p qs e false z = fresh
 
       go : (t : Bool) (b : Option ℕ) (qs : List ℕ) → s .queue ≡ qs → Last (if t then Completion.gatherBytes b bs s′ else Completion.finishJob qs s′) k

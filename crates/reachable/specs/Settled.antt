@@ -9,6 +9,7 @@ use lib.Dec.{eqb}
 use borrow.Author.Tests.{eqb-true, eqb-false}
 use Rattle.lists.specs.Search.{isNone}
 use Rattle.lists.specs.Tests.{if_then_else_, and-true}
+use Rattle.rules.specs.Jobs.{joined, topOf}
 use Rattle.rules.specs.Blocks.{lookUp}
 use Rattle.rules.specs.Draws.{draws}
 use Rattle.rules.specs.Laws.Answers.{step-accepted, step-refused, open-first, load-first}
@@ -33,7 +34,7 @@ pub closed-settled : Settled closed
 closed-settled r e h = absurd (no-request r (unfold closed in e))
 
 release-settles : (s : State) → Settled (release s)
-unfolding blocked heldFor undrawnOnly worn isSource
+unfolding blocked heldFor undrawnOnly worn isSource topOf joined
 release-settles s r e h = go (s .request) e
   where
     first : {x y : Request} → some x ≡ some y → x ≡ y

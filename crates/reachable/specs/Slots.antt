@@ -1,44 +1,51 @@
 -- What the slots hold is what has its place there: the rules gather and count by slots, these lemmas by places.
 use mathlib.Core.Path.{_≡_, refl, ap, sym, _∙_}
-use mathlib.Core.Logic.{inl, inr, ⊎-elim}
-use mathlib.Core.Bool.{Bool, true, false, _&&_, _||_, true≢false}
-use mathlib.Core.List.{List, _∷_, map}
-use mathlib.Core.Option.{Option, none, some}
-use Prim.Native.Nat.{ℕ, zero, suc, _-_, _^_, _≤_, _<_}
+use mathlib.Core.Logic.{_⊎_, inl, inr, ⊎-elim}
+use mathlib.Core.Bool.{true, _&&_, _||_}
+use mathlib.Core.List.{List, [], _∷_, map}
+use Prim.Native.Nat.{ℕ, zero, suc, _+_, _-_, _^_, _≤_, _<_, min}
 use native.Mathlib.Omega.{arith}
-use lib.ListN.{length, length-map}
+use lib.ListN.{length, length-map, take, length-take}
 use lib.Dec.{eqb, ltb}
 use borrow.Author.Tests.{eqb-true, eq-eqb, ltb-true, lt-ltb}
 use Rattle.lists.specs.All.{keep-passes}
 use Rattle.lists.specs.Distinct.{Mem, NoDup}
-use Rattle.lists.specs.Members.{all-mem, keep-mem, mem-keep, nodup-below, mem-below, below-mem, mem-member, member-mem, map-mem, mem-map, nodup-sub, nodup-keep-map, nodup-map, keep-same}
-use Rattle.lists.specs.Search.{find, keep, below}
-use Rattle.lists.specs.Tests.{if_then_else_, and-l, and-r, and-true, or-true, or-left, or-right, both-true}
+use Rattle.lists.specs.Members.{all-mem, keep-mem, mem-keep, nodup-below, mem-below, below-mem, mem-member, member-mem, map-mem, mem-map, nodup-sub, nodup-keep-map, nodup-map, keep-same, append-mem, member-append, append-right}
+use Rattle.lists.specs.Search.{keep, below, member}
+use Rattle.lists.specs.Tests.{and-l, and-r, and-true, or-true, or-left, or-right, both-true}
 use Rattle.rules.specs.Blocks.{entries, blocksIn}
 use Rattle.rules.specs.Laws.Layout.{offset-in}
-use Rattle.rules.specs.Laws.Levels.{sources-le}
-use Rattle.rules.specs.Levels.{sources}
-use Rattle.rules.specs.Rebuild
-use Rattle.rules.specs.Rebuild.{gathered, chosen}
+use Rattle.rules.specs.Jobs.{joined, topOf}
+use Rattle.rules.specs.Laws.Levels.{top-lt, levels-pos}
+use Rattle.rules.specs.Levels.{filled, sourceLevels}
+use Rattle.rules.specs.Rebuild.{gathered, gatherFrom, entriesIn, chosen}
 use Rattle.rules.specs.Shape.{cell, offset, slots}
 use Rattle.rules.specs.State.{State, stored}
 use Rattle.reachable.specs.Blocks.{lt-below, is-below, place-lt, stored-inj, nodup-in, in-why, why-in, Gathered}
 use Rattle.reachable.specs.Cells.{offset-of, offset-cell}
 use Rattle.reachable.specs.Invariant.{Reached}
-use Rattle.reachable.specs.Live.{isBelow, storedIn}
+use Rattle.reachable.specs.Live.{isBelow, storedIn, counted, counted-calm}
 
 -- the front job's partition is one of the shape's
 pub front-in : (s : State) → Reached s → (q : ℕ) (rest : List ℕ) → s .queue ≡ q ∷ rest → q < s .shape .P
 front-in s f q rest e = all-mem (f .range .queue) q (rw e (inl refl))
 
-pub is-chosen : (o : Option ℕ) (b : ℕ) → Rebuild.isChosen o b ≡ true → o ≡ some b
-unfolding Rebuild.isChosen
-is-chosen none b e = absurd (true≢false (sym e))
-is-chosen (some a) b e = ap some (eqb-true a b e)
+-- what the slots of some levels hold
+entries-why : (at : ℕ → ℕ → ℕ) (v : ℕ) (ls : List ℕ) → Mem v (entriesIn at ls) → (ℓ : ℕ) × (i : ℕ) × (Mem ℓ ls × (i < slots ℓ) × (at ℓ i ≡ v))
+unfolding entriesIn
+entries-why at v [] m = absurd m
+entries-why at v (ℓ ∷ ls) m = go (append-mem v (map (at ℓ) (below (2 ^ (ℓ + 1)))) (entriesIn at ls) m) (entries-why at v ls)
+  where
+    go : Mem v (map (at ℓ) (below (2 ^ (ℓ + 1)))) ⊎ Mem v (entriesIn at ls) → (Mem v (entriesIn at ls) → (ℓ : ℕ) × (i : ℕ) × (Mem ℓ ls × (i < slots ℓ) × (at ℓ i ≡ v)))
+        → (m : ℕ) × (i : ℕ) × (Mem m (ℓ ∷ ls) × (i < slots m) × (at m i ≡ v))
+    go (inl k) ih = let r = mem-map (at ℓ) v (below (2 ^ (ℓ + 1))) k in (ℓ, r .0, (inl refl, mem-below (2 ^ (ℓ + 1)) (r .0) (r .1 .0), sym (r .1 .1)))
+    go (inr k) ih = let r = ih k in (r .0, r .1, (inr (r .2 .0), r .2 .1, r .2 .2))
 
-chosen-is : (o : Option ℕ) (b : ℕ) → o ≡ some b → Rebuild.isChosen o b ≡ true
-unfolding Rebuild.isChosen
-chosen-is o b e = rw e (eq-eqb b b refl)
+why-entries : (at : ℕ → ℕ → ℕ) (ls : List ℕ) (ℓ i : ℕ) → Mem ℓ ls → i < slots ℓ → Mem (at ℓ i) (entriesIn at ls)
+unfolding entriesIn
+why-entries at [] ℓ i m l = absurd m
+why-entries at (k ∷ ls) ℓ i (inl e) l = member-append (at ℓ i) (map (at k) (below (2 ^ (k + 1)))) (entriesIn at ls) (rw e (map-mem (at k) i (below (2 ^ (k + 1))) (below-mem (2 ^ (k + 1)) i (rw e at l))))
+why-entries at (k ∷ ls) ℓ i (inr m) l = append-right (at ℓ i) (map (at k) (below (2 ^ (k + 1)))) (entriesIn at ls) (why-entries at ls ℓ i m l)
 
 module _ (s : State) (f : Reached s) (q : ℕ) (hq : q < s .shape .P) where
   -- the slot of an entry that names a block is the block's place
@@ -104,39 +111,63 @@ module _ (s : State) (f : Reached s) (q : ℕ) (hq : q < s .shape .P) where
       named zero l m = absurd (omega arith)
       named (suc b) l m = let y = entry-why top b ht m in map-mem suc b (storedIn s q top) (why-in s q top b (y .0) (y .1) (y .2))
 
-  -- The chosen block, by places
-  pub chosen-stored : chosen s q ≡ (if ltb (length (storedIn s q (s .shape .L))) (2 ^ (s .shape .L - 1)) then find (λ b. eqb (s .partition b) q) (s .waiting) else none)
+  -- The chosen blocks, by places
+  pub chosen-stored : chosen s q ≡ take (min (joined s q) (2 ^ (s .shape .L - 1) - length (storedIn s q (s .shape .L)))) (keep (λ b. eqb (s .partition b) q) (s .waiting))
   unfolding chosen
   chosen-stored = rw (held-stored (s .shape .L) (omega arith))
 
-  -- a block is chosen only where the partition has room
-  pub chosen-room : (b : ℕ) → chosen s q ≡ some b → length (storedIn s q (s .shape .L)) < 2 ^ (s .shape .L - 1)
-  chosen-room b e = go (ltb (length (storedIn s q (s .shape .L))) (2 ^ (s .shape .L - 1))) refl (sym chosen-stored ∙ e)
-    where
-      go : (t : Bool) → ltb (length (storedIn s q (s .shape .L))) (2 ^ (s .shape .L - 1)) ≡ t → (if t then find (λ b. eqb (s .partition b) q) (s .waiting) else none) ≡ some b → length (storedIn s q (s .shape .L)) < 2 ^ (s .shape .L - 1)
-      go true k e = ltb-true _ _ k
-      go false k e = let z : _≡_ {A = ℕ} 0 1 = cc in absurd (omega arith)
+  -- the partition has room for them
+  pub chosen-room : length (chosen s q) + length (storedIn s q (s .shape .L)) ≤ 2 ^ (s .shape .L - 1)
+  chosen-room = omega (arith, f .full q, ap length chosen-stored, length-take (min (joined s q) (2 ^ (s .shape .L - 1) - length (storedIn s q (s .shape .L)))) (keep (λ b. eqb (s .partition b) q) (s .waiting)))
 
-  from : ℕ
-  from = sources (s .shape) (s .counter q)
+  -- Before its orders are drawn: document 01: the gathered blocks are the chosen ones and those whose place is in a source
+  module _ (calm : s .sent ≡ 0) where
+    abbrev heldAt : ℕ → ℕ → ℕ
+    heldAt ℓ i = s .holds (cell (s .shape) q ℓ i)
 
-  top-from : from ≤ s .shape .L
-  unfolding from
-  top-from = sources-le (s .shape) (s .counter q)
+    abbrev from : List ℕ
+    from = sourceLevels (topOf s q) (s .counter q)
 
-  -- Document 01: the gathered blocks are the chosen one and those whose place is in a source
-  pub gathered-stored : gathered s q ≡ keep (λ b. Rebuild.isChosen (chosen s q) b || (eqb (s .partition b) q && isBelow (sources (s .shape) (s .counter q)) (s .place b))) (below (s .shape .N))
-  unfolding gathered from
-  gathered-stored = keep-same _ _ (below (s .shape .N)) (λ b m. ap (λ x. Rebuild.isChosen (chosen s q) b || x) (both-true _ _
-      (λ e. let y = entry-why from b top-from (member-mem (suc b) (entries s q from) e) in and-true (eq-eqb (s .partition b) q (y .1)) (y .2))
-      (λ e. mem-member (suc b) (entries s q from) (why-entry from b (mem-below (s .shape .N) b m) (eqb-true (s .partition b) q (and-l (eqb (s .partition b) q) (isBelow from (s .place b)) e)) (and-r (eqb (s .partition b) q) (isBelow from (s .place b)) e)))))
+    source-lt : (ℓ : ℕ) → Mem ℓ from → ℓ < suc (topOf s q)
+    unfolding sourceLevels
+    source-lt ℓ m = mem-below (suc (topOf s q)) ℓ (keep-mem (filled (s .counter q)) (below (suc (topOf s q))) ℓ m)
 
-  pub gathered-why : (b : ℕ) → Mem b (gathered s q) → Gathered s q b
-  unfolding gathered from
-  gathered-why b m = ⊎-elim (λ e. inl (is-chosen (chosen s q) b e)) (λ e. let y = entry-why from b top-from (member-mem (suc b) (entries s q from) e) in inr (y .1, y .2))
-      (or-true (Rebuild.isChosen (chosen s q) b) _ (all-mem (keep-passes _ (below (s .shape .N))) b m))
+    levels-in : topOf s q < s .shape .L
+    levels-in = unfold topOf in (top-lt (s .shape) (s .counter q) (joined s q) (levels-pos (s .shape) (f .range .shape)))
 
-  pub why-gathered : (b : ℕ) → b < s .shape .N → Gathered s q b → Mem b (gathered s q)
-  unfolding gathered from
-  why-gathered b h (inl e) = mem-keep _ (below (s .shape .N)) b (below-mem (s .shape .N) b h) (or-left (Rebuild.isChosen (chosen s q) b) _ (chosen-is (chosen s q) b e))
-  why-gathered b h (inr e) = mem-keep _ (below (s .shape .N)) b (below-mem (s .shape .N) b h) (or-right (Rebuild.isChosen (chosen s q) b) _ (mem-member (suc b) (entries s q from) (why-entry from b h (e .0) (e .1))))
+    is-source : (ℓ : ℕ) → ℓ < suc (topOf s q) → filled (s .counter q) ℓ ≡ true → Mem ℓ from
+    unfolding sourceLevels
+    is-source ℓ l e = mem-keep (filled (s .counter q)) (below (suc (topOf s q))) ℓ (below-mem (suc (topOf s q)) ℓ l) e
+
+    source-why : (b : ℕ) → Mem (suc b) (entriesIn heldAt from) → (b < s .shape .N) × (s .partition b ≡ q) × (isBelow (suc (topOf s q)) (s .place b) ≡ true)
+    source-why b m =
+        let r = entries-why heldAt (suc b) from m in
+        let hℓ : r .0 < s .shape .L = omega (arith, source-lt (r .0) (r .2 .0), levels-in) in
+        let a = f .agree .held q (r .0) (r .1) b hq hℓ (r .2 .1) (r .2 .2) in
+        (omega (arith, f .range .holds q (r .0) (r .1) hq hℓ (r .2 .1), r .2 .2), a .0, lt-below (suc (topOf s q)) (r .0) (r .1) (s .place b) (a .1) (source-lt (r .0) (r .2 .0)))
+
+    why-source : (b : ℕ) → b < s .shape .N → s .partition b ≡ q → isBelow (suc (topOf s q)) (s .place b) ≡ true → Mem (suc b) (entriesIn heldAt from)
+    why-source b hb e k =
+        let x = is-below (suc (topOf s q)) (s .place b) k in
+        let w = place-lt (s .shape .L) (x .0) (x .1) (s .place b) (f .range .places b hb) (x .2 .0) in
+        let a = f .agree .placed b (x .0) (x .1) hb (x .2 .0) in
+        let live : filled (s .counter q) (x .0) ≡ true = ap (λ c. filled c (x .0)) (sym (ap (counted s) e ∙ counted-calm s q calm)) ∙ a .0 in
+        let m = is-source (x .0) (x .2 .1) live in
+        let h : heldAt (x .0) (x .1) ≡ suc b = ap (λ p. s .holds (cell (s .shape) p (x .0) (x .1))) (sym e) ∙ a .1 in
+        rw h at (why-entries heldAt from (x .0) (x .1) m (w .1))
+
+    pub gathered-stored : gathered s q ≡ keep (λ b. member b (chosen s q) || (eqb (s .partition b) q && isBelow (suc (topOf s q)) (s .place b))) (below (s .shape .N))
+    unfolding gathered gatherFrom
+    gathered-stored = keep-same _ _ (below (s .shape .N)) (λ b m. ap (λ x. member b (chosen s q) || x) (both-true _ _
+        (λ e. let y = source-why b (member-mem (suc b) (entriesIn heldAt from) e) in and-true (eq-eqb (s .partition b) q (y .1)) (y .2))
+        (λ e. mem-member (suc b) (entriesIn heldAt from) (why-source b (mem-below (s .shape .N) b m) (eqb-true (s .partition b) q (and-l (eqb (s .partition b) q) (isBelow (suc (topOf s q)) (s .place b)) e)) (and-r (eqb (s .partition b) q) (isBelow (suc (topOf s q)) (s .place b)) e)))))
+
+    pub gathered-why : (b : ℕ) → Mem b (gathered s q) → Gathered s q b
+    unfolding gathered gatherFrom
+    gathered-why b m = ⊎-elim (λ e. inl (member-mem b (chosen s q) e)) (λ e. let y = source-why b (member-mem (suc b) (entriesIn heldAt from) e) in inr (y .1, y .2))
+        (or-true (member b (chosen s q)) _ (all-mem (keep-passes _ (below (s .shape .N))) b m))
+
+    pub why-gathered : (b : ℕ) → b < s .shape .N → Gathered s q b → Mem b (gathered s q)
+    unfolding gathered gatherFrom
+    why-gathered b h (inl e) = mem-keep _ (below (s .shape .N)) b (below-mem (s .shape .N) b h) (or-left (member b (chosen s q)) _ (mem-member b (chosen s q) e))
+    why-gathered b h (inr e) = mem-keep _ (below (s .shape .N)) b (below-mem (s .shape .N) b h) (or-right (member b (chosen s q)) _ (mem-member (suc b) (entriesIn heldAt from) (why-source b h (e .0) (e .1))))

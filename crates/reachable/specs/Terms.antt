@@ -1,10 +1,14 @@
 -- Words that the theorems use: nothing of the invariant.
 use mathlib.Core.Path.{_≡_}
-use mathlib.Core.Bool.{Bool, true, false, _&&_}
+use mathlib.Core.Bool.{Bool, true, false, not, _&&_}
 use mathlib.Core.List.{List, [], _∷_, _++_, map}
 use mathlib.Core.Option.{Option, none, some}
-use Prim.Native.Nat.{ℕ, _^_, _≤_, _<_}
+use Prim.Native.Nat.{ℕ, _+_, _^_, _≤_, _<_}
 use lib.Dec.{eqb, ltb}
+use lib.ListN.{length}
+use Rattle.rules.specs.Jobs.{queued, leaveQueue, slotCount}
+use Rattle.rules.specs.Laws.Single.Rules.{writtenApart}
+use Rattle.rules.specs.Levels.{grown, writtenLevels}
 use Rattle.rules.specs.Laws.Answers.{opens}
 use Rattle.rules.specs.Questions.{Ask, opening, request, turn, completion, collect, save, load, Call, number}
 use Rattle.lists.specs.All.{All}
@@ -34,6 +38,32 @@ OfSaved (completion c bs) = Unit {0}
 OfSaved collect = Unit {0}
 OfSaved save = Unit {0}
 OfSaved (load form) = (u : State) × (d : Call) × (CallsLeft u × (d .ask ≡ save) × (form ≡ step u d .1 .bytes))
+
+-- ---- Document 02, P7: the run of the front job
+
+-- From s to t the run ends, of the jobs that it began with: at least one, all of the front's partition. Exactly these leave the queue; the jobs for other
+-- partitions stay as they are, in their order; the counter of the partition grows by as many, and no other. As many writes were sent as the written levels
+-- have slots, which are no more than these jobs would have sent one after the other
+pub record Ends (s t : State) : Type 0 where
+  pub part : ℕ
+  pub rest : List ℕ
+  pub front : s .queue ≡ part ∷ rest
+  pub some-jobs : 1 ≤ s .begun
+  pub all-queued : s .begun ≤ queued (s .queue) part
+  pub queue : t .queue ≡ leaveQueue part (s .begun) (s .queue)
+  pub fewer : length (t .queue) + s .begun ≡ length (s .queue)
+  pub own : queued (t .queue) part + s .begun ≡ queued (s .queue) part
+  pub others : keep (λ p. not (eqb part p)) (t .queue) ≡ keep (λ p. not (eqb part p)) (s .queue)
+  pub counter : t .counter part ≡ grown (s .shape) (s .counter part) (s .begun)
+  pub counters : (p : ℕ) → ¬ (p ≡ part) → t .counter p ≡ s .counter p
+  pub begun : t .begun ≡ 0
+  pub writes : s .sent ≡ slotCount (writtenLevels (s .shape) (s .counter part) (s .begun))
+  pub no-more : s .sent ≤ writtenApart (s .shape) (s .counter part) (s .begun)
+
+-- no completion of these calls moves the queue: no run ends
+abbrev pub Unended : State → List Call → Type 0
+Unended s [] = Unit {0}
+Unended s (c ∷ cs) = ((d : Command) (bs : List ℕ) → c .ask ≡ completion d bs → step s c .0 .queue ≡ s .queue) × Unended (step s c .0) cs
 
 -- ---- Slots and commands
 

@@ -6,7 +6,7 @@ use mathlib.Core.Logic.{_⊎_, inl, inr, ⊎-elim}
 use mathlib.Core.Bool.{Bool, true, false, not, _&&_, true≢false}
 use mathlib.Core.List.{List, [], _∷_, _++_}
 use mathlib.Core.Option.{Option, none, some}
-use Prim.Native.Nat.{ℕ, _+_, _^_, _≤_, _<_}
+use Prim.Native.Nat.{ℕ, suc, _+_, _≤_, _<_}
 use native.Mathlib.Omega.{arith}
 use lib.ListN.{length}
 use borrow.Author.Tests.{leb-false}
@@ -22,7 +22,8 @@ use Rattle.rules.specs.Completion.{isCommand}
 use Rattle.rules.specs.Figures.{nowhereBlocks, storedBlocks, waitingBlocks, jobsFor}
 use Rattle.rules.specs.Laws.Answers.{opens}
 use Rattle.rules.specs.Laws.Figures.{places-add, ColumnsAdd, columns-add, front-counts}
-use Rattle.rules.specs.Levels.{filled, sources}
+use Rattle.rules.specs.Levels.{filled}
+use Rattle.rules.specs.Jobs.{topOf, capacity}
 use Rattle.rules.specs.Memory.{needed}
 use Rattle.rules.specs.Questions
 use Rattle.rules.specs.Questions.{Ask, opening, request, turn, completion, collect, save, load, Call, possible, questions, firstNo, number}
@@ -107,8 +108,8 @@ module _ (left : State) (calls : CallsLeft left) where
       go (shut w) = closed-decides left w noDummy e (unfold Questions.sends in refl)
 
   -- ---- "The request is held while a job for p is queued or running." P4: "If the only job for p is at the front of the queue and hasn't drawn its order,
-  -- the request is no longer held." Exactly then: a request that may be released is released by the call that makes it so, and that another level has
-  -- been read 2^ℓ times never holds one here
+  -- the request is no longer held." P7: a run counts as one, once it has begun. Exactly then: a request that may be released is released by the call that
+  -- makes it so, and that another level has been read 2^ℓ times never holds one here
   held-why : (r : Request) → left .request ≡ some r → held r ≡ true → (member (left .partition (r .block)) (left .queue) ≡ true) × (undrawnOnly left (left .partition (r .block)) ≡ false)
   held-why r e u = go was
     where
@@ -134,16 +135,16 @@ module _ (left : State) (calls : CallsLeft left) where
       go true u = let w = held-why r e u in u ∙ sym (and-true (w .0) (ap not (w .1)))
       go false u = u ∙ sym (⊎-elim (λ w. ap (λ t. t && not (undrawnOnly left q)) w) (λ w. and-false (member q (left .queue)) (ap not w)) (released-why r e u))
 
-  -- P4: "and the job draws its order only after the request is collected"
-  pub draws-later : (q t : ℕ) → decide left ≡ rebuild q t → (r : Request) → left .request ≡ some r → held r ≡ false → ¬ (left .partition (r .block) ≡ q)
-  draws-later q t e r h u = let d : Rebuilds left q t = rw e at (decided left) in d .apart r h u
+  -- P4: "and the job draws its order only after the request is collected"; P7: its orders
+  pub draws-later : (q : ℕ) (ls : List ℕ) → decide left ≡ rebuild q ls → (r : Request) → left .request ≡ some r → held r ≡ false → ¬ (left .partition (r .block) ≡ q)
+  draws-later q ls e r h u = let d : Rebuilds left q ls = rw e at (decided left) in d .apart r h u
 
-  -- P4: "and the wanted block leaves the job": the next order that is drawn after a collect, the first write since it, gathers its block only if that is
-  -- the one chosen from the cache, as any block that waits. Calls in between may save, and load what was just saved
+  -- P4: "and the wanted block leaves the job": the next orders that are drawn after a collect, the first write since it, gather its block only if that is
+  -- one of those chosen from the cache, as any block that waits. Calls in between may save, and load what was just saved
   pub wanted-leaves : (k : Call) → k .ask ≡ collect → number left k ≡ 0 → (r : Request) → left .request ≡ some r
-      → (ds : List Call) → Resumes [] ds (run (step left k .0) ds) → Unwritten (run (step left k .0) ds) → (q t : ℕ) → decide (after (step left k .0) ds) ≡ rebuild q t
-      → Mem (r .block) (gathered (after (step left k .0) ds) q) → chosen (after (step left k .0) ds) q ≡ some (r .block)
-  wanted-leaves k a z r e ds v n q t d m = go (stays .1)
+      → (ds : List Call) → Resumes [] ds (run (step left k .0) ds) → Unwritten (run (step left k .0) ds) → (q : ℕ) (ls : List ℕ) → decide (after (step left k .0) ds) ≡ rebuild q ls
+      → Mem (r .block) (gathered (after (step left k .0) ds) q) → Mem (r .block) (chosen (after (step left k .0) ds) q)
+  wanted-leaves k a z r e ds v n q ls d m = go (stays .1)
     where
       s′ : State
       s′ = after (step left k .0) ds
@@ -151,9 +152,9 @@ module _ (left : State) (calls : CallsLeft left) where
       stays : (s′ .place (r .block) ≡ nowhere) × Was s′
       stays = after-stays ds (step left k .0) (r .block) [] (collected-nowhere left k a z r e) n v (nothing refl) (step-was left k (rw a tt) was)
 
-      go : Was s′ → chosen s′ q ≡ some (r .block)
-      go (live f) = let x : Rebuilds s′ q t = rw d at (decided s′) in gathered-chosen s′ f q (r .block) (front-in s′ f q (x .rest) (x .front)) (stays .0) m
-      go (shut w) = absurd (closed-decides s′ w (rebuild q t) d (unfold Questions.sends in refl))
+      go : Was s′ → Mem (r .block) (chosen s′ q)
+      go (live f) = let x : Rebuilds s′ q ls = rw d at (decided s′) in gathered-chosen s′ f q (r .block) (front-in s′ f q (x .rest) (x .front)) (x .calm) (stays .0) m
+      go (shut w) = absurd (closed-decides s′ w (rebuild q ls) d (unfold Questions.sends in refl))
 
   -- ---- "Then it sends one read to each filled level of p": while a request that isn't held has a level left that costs a read, a turn reads the
   -- first of these levels; no turn is idle then
@@ -171,13 +172,13 @@ module _ (left : State) (calls : CallsLeft left) where
       go none k = absurd (never-lacks-dummy (decides ∙ ap (Turn.readStep q ℓ) k ∙ unfold Turn.readStep in refl))
       go (some i) k = (i, decides ∙ ap (Turn.readStep q ℓ) k ∙ unfold Turn.readStep in refl)
 
-  -- A turn never gathers more blocks than the target holds
-  pub never-gathers-more : (q t : ℕ) → decide left ≡ rebuild q t → length (gathered left q) ≤ 2 ^ t
-  never-gathers-more q t e = go was
+  -- A turn never gathers more blocks than the written levels hold
+  pub never-gathers-more : (q : ℕ) (ls : List ℕ) → decide left ≡ rebuild q ls → length (gathered left q) ≤ capacity ls
+  never-gathers-more q ls e = go was
     where
-      go : Was left → length (gathered left q) ≤ 2 ^ t
-      go (live f) = let d : Rebuilds left q t = rw e at (decided left) in rw (d .goal) (never-many left f q (front-in left f q (d .rest) (d .front)))
-      go (shut w) = absurd (closed-decides left w (rebuild q t) e (unfold Questions.sends in refl))
+      go : Was left → length (gathered left q) ≤ capacity ls
+      go (live f) = let d : Rebuilds left q ls = rw e at (decided left) in rw (d .goal) (never-many left f q (front-in left f q (d .rest) (d .front)) (d .calm) (d .rest) (d .front))
+      go (shut w) = absurd (closed-decides left w (rebuild q ls) e (unfold Questions.sends in refl))
 
   -- ..so a turn's 2 says that the open or the load was refused, or that the memory is too short
   pub never-late : (k : Call) → k .ask ≡ turn → number left k ≡ 2 → (left ≡ closed) ⊎ (k .memory < needed (left .shape))
@@ -242,12 +243,12 @@ module _ (left : State) (calls : CallsLeft left) where
       go (shut w) = rw w (unfold closed in none-apart)
 
   -- ---- "It reads every unread slot of the sources, levels ascending, and slots ascending within a level": the front job's next read is of
-  -- the first unread slot of its sources, wherever its cursor is
+  -- the first unread slot of its sources, wherever its cursor is. P7: "Filled levels up to t are the sources"
   pub first-unread : (q : ℕ) (rest : List ℕ) → left .queue ≡ q ∷ rest → left .sent ≡ 0
-      → unread left q ≡ find (λ p. isUnread left q (p .0) (p .1)) (places (sources (left .shape) (left .counter q)))
+      → unread left q ≡ find (λ p. filled (left .counter q) (p .0) && isUnread left q (p .0) (p .1)) (places (suc (topOf left q)))
   first-unread q rest e z = go was
     where
-      go : Was left → unread left q ≡ find (λ p. isUnread left q (p .0) (p .1)) (places (sources (left .shape) (left .counter q)))
+      go : Was left → unread left q ≡ find (λ p. filled (left .counter q) (p .0) && isUnread left q (p .0) (p .1)) (places (suc (topOf left q)))
       go (live f) = scan-all left f q rest e z
       go (shut w) = let z : left .queue ≡ [] = unfold closed in (ap (λ (x : State). x .queue) w) in absurd (no-queue q rest (sym z ∙ e))
 

@@ -1,38 +1,38 @@
 -- The rule on worn levels holds no request: while a request is held, and so has sent no read, a level of its partition that is no source has been read
--- less than 2^ℓ times beside the only job, not yet drawn. Its reads are at most the jobs drawn since it was written, and one for that job; and as some level below it is empty, these are
--- less than 2^ℓ.
+-- less than 2^ℓ times beside the only run, not yet drawn. Its reads are at most the jobs drawn since it was written, and one for each job of that run; and
+-- as counter + j does not carry into it, these are less than 2^ℓ.
 use mathlib.Core.Path.{_≡_, refl, ap, sym, _∙_}
-use mathlib.Core.Logic.{_⊎_, ⊎-elim}
+use mathlib.Core.Logic.{⊎-elim}
 use mathlib.Core.Bool.{Bool, true, false, not, _&&_, true≢false}
-use mathlib.Core.List.{List, [], _∷_}
+use mathlib.Core.List.{List, _∷_}
 use mathlib.Core.Option.{some}
-use Prim.Native.Nat.{ℕ, suc, _+_, _%_, _^_, _≤_, _<_}
+use Prim.Native.Nat.{ℕ, zero, suc, _+_, _%_, _^_, _≤_, _<_}
 use native.Mathlib.Nat.{mod-lt}
 use native.Mathlib.Omega.{arith}
 use native.Mathlib.Decide.{decLt}
 use lib.Dec.{leb}
 use lib.Pow.{pow-pos}
-use borrow.Author.Tests.{eqb-true, leb-true}
-use Rattle.lists.specs.Distinct.{Mem}
+use borrow.Author.Tests.{leb-true}
 use Rattle.lists.specs.Search.{any, below, member}
 use Rattle.lists.specs.All.{any-all, below-below}
 use Rattle.lists.specs.Tests.{and-l, and-r, not-true}
 use Rattle.rules.specs.Blocks.{readsOf}
-use Rattle.rules.specs.Laws.Levels.{levels-pos}
-use Rattle.rules.specs.Levels.{filled, target, grown}
-use Rattle.rules.specs.Request.{isFront, behindFront, undrawnOnly, isSource, worn, heldFor, blocked, held}
+use Rattle.rules.specs.Jobs.{queued, begunWith, joined, topOf}
+use Rattle.rules.specs.Laws.Levels.{levels-pos, joins-pos, queued-front}
+use Rattle.rules.specs.Levels.{filled, joins, grown, topLevel}
+use Rattle.rules.specs.Request.{undrawnOnly, isSource, worn, heldFor, blocked, held}
 use Rattle.rules.specs.State.{State, Request}
-use Rattle.reachable.specs.Bits.{filled-source, grown-mod}
-use Rattle.reachable.specs.Consequences.{block-lt}
+use Rattle.rules.specs.Laws.Grown.{grown-mod}
+use Rattle.reachable.specs.Consequences.{block-lt, joins-front}
 use Rattle.reachable.specs.Invariant.{Reached}
-use Rattle.reachable.specs.Live.{counted, counted-calm, pending, passedBy, undrawn, times, Alone, only-alone, gathers-source}
-use Rattle.reachable.specs.Pending.{times-here, times-none, bit-no, passed-why}
+use Rattle.reachable.specs.Live.{counted, counted-calm, pending, passedBy, undrawn, Alone, only-alone, gathers-source, source-is, front-rest}
+use Rattle.reachable.specs.Pending.{undrawn-calm, bit-no, passed-why}
 
--- a job that is the only one is one
-once : (q : ℕ) (qs : List ℕ) → isFront qs q ≡ true → ¬ Mem q (behindFront qs) → times q qs ≡ 1
-unfolding isFront behindFront
-once q [] e n = absurd (true≢false (sym e))
-once q (p ∷ qs) e n = let w : p ≡ q = eqb-true p q e in ap (λ x. times q (x ∷ qs)) w ∙ times-here q qs ∙ ap suc (times-none q qs n)
+-- no jobs are queued but those that run together
+together : (b n : ℕ) → 1 ≤ n → begunWith b 1 ≤ begunWith b n
+unfolding begunWith
+together zero n l = l
+together (suc b) n l = omega arith
 
 module _ (s : State) (f : Reached s) (r : Request) (inHand : s .request ≡ some r) (u : held r ≡ true) (alone : Alone s (s .partition (r .block))) where
   abbrev q : ℕ
@@ -43,7 +43,7 @@ module _ (s : State) (f : Reached s) (r : Request) (inHand : s .request ≡ some
 
   -- a filled level that is no source
   few : (ℓ : ℕ) → ℓ < s .shape .L → filled (s .counter q) ℓ ≡ true → isSource s q ℓ ≡ false → readsOf (s .shape) (s .mark) q ℓ < 2 ^ ℓ
-  unfolding pending undrawn
+  unfolding pending
   few ℓ hℓ full n = ⊎-elim (λ g. absurd (true≢false (sym (gathers-source s q ℓ g) ∙ n))) less (f .reads q ℓ (f .range .partitions (r .block) hb) hℓ (ap (λ c. filled c ℓ) (counted-calm s q (alone .2)) ∙ full))
     where
       hL : 1 ≤ s .shape .L
@@ -52,18 +52,24 @@ module _ (s : State) (f : Reached s) (r : Request) (inHand : s .request ≡ some
       hc : s .counter q < 2 ^ s .shape .L
       hc = f .range .counters q (f .range .partitions (r .block) hb)
 
-      above : target (s .shape) (s .counter q) < ℓ
-      above = go (decLt (target (s .shape) (s .counter q)) ℓ)
+      front : (rest : List ℕ) × (s .queue ≡ q ∷ rest)
+      front = front-rest (s .queue) q (alone .0)
+
+      above : topLevel (s .shape) (s .counter q) (joined s q) < ℓ
+      above = go (decLt (topLevel (s .shape) (s .counter q) (joined s q)) ℓ)
         where
-          go : Dec (target (s .shape) (s .counter q) < ℓ) → target (s .shape) (s .counter q) < ℓ
+          go : Dec (topLevel (s .shape) (s .counter q) (joined s q) < ℓ) → topLevel (s .shape) (s .counter q) (joined s q) < ℓ
           go (yes l) = l
-          go (no l) = absurd (true≢false (sym (gathers-source s q ℓ (alone .0, alone .2, filled-source (s .shape) (s .counter q) hL hc ℓ (omega arith) full)) ∙ n))
+          go (no l) = absurd (true≢false (sym (source-is s q ℓ (alone .0) (unfold topOf in (omega arith)) full) ∙ n))
 
       low : r .level ≡ 0
       low = ⊎-elim (λ z. z) (λ z. absurd (true≢false (sym u ∙ z))) (f .unheld r inHand)
 
-      jobs : times q (undrawn (s .queue) (s .sent)) ≡ 1
-      jobs = ap (λ n. times q (undrawn (s .queue) n)) (alone .2) ∙ once q (s .queue) (alone .0) (alone .1)
+      jobs : queued (undrawn (s .queue) (s .begun) (s .sent)) q ≤ joined s q
+      jobs =
+          let one : 1 ≤ joins (s .shape) (s .counter q) (queued (s .queue) q) = joins-pos (s .shape) (s .counter q) (queued (s .queue) q) hc (rw (front .1) (queued-front q (front .0))) in
+          let more : begunWith (s .begun) 1 ≤ joined s q = unfold joined in (together (s .begun) (joins (s .shape) (s .counter q) (queued (s .queue) q)) one) in
+          omega (arith, more, alone .1, ap (λ qs. queued qs q) (undrawn-calm (s .queue) (s .begun) (s .sent) (alone .2)))
 
       less : readsOf (s .shape) (s .mark) q ℓ ≤ counted s q % 2 ^ ℓ + pending s q ℓ → readsOf (s .shape) (s .mark) q ℓ < 2 ^ ℓ
       less k = omega (
@@ -72,8 +78,8 @@ module _ (s : State) (f : Reached s) (r : Request) (inHand : s .request ≡ some
         jobs,
         ap (λ c. c % 2 ^ ℓ) (counted-calm s q (alone .2)),
         bit-no (passedBy (s .partition) (s .request) q ℓ) (λ j. let w = passed-why (s .partition) (s .request) r q ℓ inHand j in omega (arith, low, w .1)),
-        grown-mod (s .shape) (s .counter q) hL hc ℓ above hℓ,
-        mod-lt (grown (s .shape) (s .counter q)) (pow-pos ℓ),
+        grown-mod (s .shape) (s .counter q) (joined s q) hL hc (joins-front s f q (front .0) (front .1)) ℓ above hℓ,
+        mod-lt (grown (s .shape) (s .counter q) (joined s q)) (pow-pos ℓ),
       )
 
   never-worn : (ℓ : ℕ) → ℓ < s .shape .L → worn s q ℓ ≡ true → ⊥

@@ -7,6 +7,7 @@ pub mod SessionsC
 pub mod SessionsD
 pub mod SessionsE
 pub mod SessionsF
+pub mod SessionsG
 pub mod Reads
 pub mod Even
 pub mod Beside

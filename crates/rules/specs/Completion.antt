@@ -7,10 +7,10 @@ use lib.Dec.{eqb}
 use Rattle.lists.specs.Tests.{if_then_else_}
 use Rattle.lists.specs.Search.{any, without, firstLeft}
 use Rattle.lists.specs.Tables.{put}
-use Rattle.rules.specs.Shape.{slots}
 use Rattle.rules.specs.State.{Command, read, write, Request, State}
 use Rattle.rules.specs.Setters.{_▷_, setBytes, setCounter, setQueue, setBegun, setCursor, setSent, setOutstanding, setRequest}
-use Rattle.rules.specs.Levels.{target, grown}
+use Rattle.rules.specs.Levels.{grown}
+use Rattle.rules.specs.Jobs.{joined, levelsOf, leaveQueue, slotCount}
 use Rattle.rules.specs.Blocks.{holder}
 
 unfoldable pub isCommand : Command → Command → Bool
@@ -33,15 +33,20 @@ completeRead c bs s = s ▷ completed c ▷ gatherBytes (holder s (c .partition)
 
 -- "When the last write completes": the front job, for q, has sent all its writes, and none is outstanding
 unfoldable pub jobDone : State → ℕ → Bool
-jobDone s q = eqb (s .sent) (slots (target (s .shape) (s .counter q))) && not (any (λ c. eqb (c .kind) write) (s .outstanding))
+jobDone s q = eqb (s .sent) (slotCount (levelsOf s q)) && not (any (λ c. eqb (c .kind) write) (s .outstanding))
 
--- "The counter grows by 1, or from 2^L − 1 falls to 2^(L−1), and the job leaves the queue."
-unfoldable pub endJob : ℕ → List ℕ → State → State
-endJob q qs s = s ▷ setCounter (put q (grown (s .shape) (s .counter q)) (s .counter)) ▷ setQueue qs ▷ setBegun 0 ▷ setCursor 0 ▷ setSent 0
+-- "At its end the counter grows by j (a full one falls as before) and all j leave the queue."
+unfoldable pub endJob : ℕ → State → State
+endJob q s =
+    s ▷ setBegun 0
+    ▷ setCounter (put q (grown (s .shape) (s .counter q) (joined s q)) (s .counter))
+    ▷ setQueue (leaveQueue q (joined s q) (s .queue))
+    ▷ setCursor 0
+    ▷ setSent 0
 
 unfoldable pub finishJob : List ℕ → State → State
 finishJob [] s = s
-finishJob (q ∷ qs) s = if jobDone s q then endJob q qs s else s
+finishJob (q ∷ qs) s = if jobDone s q then endJob q s else s
 
 unfoldable pub completeWrite : Command → State → State
 completeWrite c s = s ▷ completed c ▷ finishJob (s .queue)

@@ -6,6 +6,7 @@ use lib.ListN.{length}
 use lib.Dec.{eqb}
 use Rattle.lists.specs.Search.{keep, below, member}
 use Rattle.rules.specs.State.{State}
+use Rattle.rules.specs.Jobs.{queued}
 use Rattle.rules.specs.Blocks.{isNowhere}
 
 -- "Each figure of blocks counts them by their place", which is "nowhere, waiting in the cache, or in a level" (document 01): the blocks that are
@@ -25,7 +26,7 @@ inPartition s q bs = length (keep (λ b. eqb (s .partition b) q) bs)
 
 -- "A begun job counts as queued": it is the front of the queue until its last write has completed
 unfoldable pub jobsFor : State → ℕ → ℕ
-jobsFor s q = length (keep (λ j. eqb j q) (s .queue))
+jobsFor s q = queued (s .queue) q
 
 -- "One line per partition: ..counter, stored blocks, waiting blocks and queued jobs"
 unfoldable pub figures : State → ℕ → List ℕ

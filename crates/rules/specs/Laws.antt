@@ -3,14 +3,19 @@ pub mod Even
 pub mod Answers
 pub mod Layout
 pub mod Levels
+pub mod Bits
+pub mod Grown
 pub mod Drawn
 pub mod Orders
 pub mod Waiting
+pub mod Leaving
+pub mod Queue
 pub mod Reader
 pub mod Range
 pub mod RangeSetters
 pub mod Decided
 pub mod Bounds
+pub mod Rebuilt
 pub mod Kept
 pub mod Shapes
 pub mod Released
@@ -21,3 +26,6 @@ pub mod Silent
 pub mod Found
 pub mod Awaited
 pub mod Form
+pub mod Single
+pub mod Price
+pub mod Together

@@ -6,6 +6,7 @@ pub mod Ranges
 pub mod Memory
 pub mod Draws
 pub mod Levels
+pub mod Jobs
 pub mod Blocks
 pub mod Open
 pub mod Request

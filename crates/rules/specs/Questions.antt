@@ -2,7 +2,7 @@
 use mathlib.Core.Bool.{Bool, true, false, not, _&&_, _||_}
 use mathlib.Core.List.{List, [], _∷_}
 use mathlib.Core.Option.{Option, none, some}
-use Prim.Native.Nat.{ℕ, _^_}
+use Prim.Native.Nat.{ℕ}
 use lib.ListN.{length, replicate}
 use lib.Dec.{ltb, leb, eqb}
 use Rattle.lists.specs.Tests.{if_then_else_, every}
@@ -12,6 +12,7 @@ use Rattle.rules.specs.State.{Command, read, write, Request, State}
 use Rattle.rules.specs.Ranges.{isKind, bytesOf, inRange}
 use Rattle.rules.specs.Memory.{needed}
 use Rattle.rules.specs.Draws.{draws}
+use Rattle.rules.specs.Jobs.{capacity}
 use Rattle.rules.specs.Rebuild.{gathered}
 use Rattle.rules.specs.Turn.{Step, idle, noDummy, readForRequest, readForJob, rebuild, writeNext, decide, command, stepBounds}
 use Rattle.rules.specs.Completion.{isCommand}
@@ -58,16 +59,16 @@ sends idle = false
 sends noDummy = true
 sends (readForRequest q ℓ i) = true
 sends (readForJob q ℓ i) = true
-sends (rebuild q t) = true
+sends (rebuild q ls) = true
 sends (writeNext q t i) = true
 
--- "A step that lacks an unread dummy, or would gather more blocks than the target holds, answers 2."
+-- "A step that lacks an unread dummy, or would gather more blocks than the target holds", than the written levels hold, "answers 2."
 unfoldable pub possible : State → Step → Bool
 possible s idle = true
 possible s noDummy = false
 possible s (readForRequest q ℓ i) = true
 possible s (readForJob q ℓ i) = true
-possible s (rebuild q t) = leb (length (gathered s q)) (2 ^ t)
+possible s (rebuild q ls) = leb (length (gathered s q)) (capacity ls)
 possible s (writeNext q t i) = true
 
 unfoldable pub inHand : (Request → Bool) → Option Request → Bool

@@ -1,18 +1,19 @@
--- Document 01, "Turn": the rebuild that a job makes of its partition q.
-use mathlib.Core.Bool.{Bool, false, _&&_, _||_}
-use mathlib.Core.List.{List, _++_, map, []}
+-- Document 01, "Turn", and document 02, P7: the rebuild that the jobs of a run make of their partition q.
+use mathlib.Core.Bool.{_&&_, _||_}
+use mathlib.Core.List.{List, _++_, map, [], _∷_}
 use mathlib.Core.Option.{Option, none, some}
-use Prim.Native.Nat.{ℕ, zero, suc, _+_, _-_, _^_}
-use lib.ListN.{getD, replicate}
-use lib.Dec.{ltb, leb, eqb}
-use Rattle.lists.specs.Tests.{if_then_else_}
+use Prim.Native.Nat.{ℕ, zero, suc, _+_, _-_, _^_, min}
+use lib.ListN.{getD, replicate, take, drop}
+use lib.Dec.{leb, eqb}
 use Rattle.lists.specs.Search.{find, keep, without, below, member, indexOf}
 use Rattle.lists.specs.Tables.{putAll}
-use Rattle.rules.specs.Shape.{slots, cell, offset}
+use Rattle.rules.specs.Shape.{Shape, slots, cell, offset}
 use Rattle.rules.specs.State.{Place, stored, State}
 use Rattle.rules.specs.Setters.{_▷_, setPlace, setWaiting, setOrder, setMark, setHolds, setBegun, setSent}
-use Rattle.rules.specs.Levels.{sources}
-use Rattle.rules.specs.Blocks.{entries, blocksIn, isUnread}
+use Rattle.rules.specs.Draws.{newOrder}
+use Rattle.rules.specs.Levels.{filled, sourceLevels}
+use Rattle.rules.specs.Jobs.{joined, topOf}
+use Rattle.rules.specs.Blocks.{blocksIn, isUnread}
 
 -- the slots of the levels below n: level and slot, "levels ascending, and slots ascending within a level"
 unfoldable pub places : ℕ → List (ℕ × ℕ)
@@ -20,21 +21,40 @@ places zero = []
 places (suc n) = places n ++ map (λ i. (n, i)) (below (slots n))
 
 -- "It reads every unread slot of the sources, levels ascending, and slots ascending within a level": it goes over them once, and this is the
--- next unread one from where it is
+-- next unread one from where it is. "Filled levels up to t are the sources."
+unfoldable pub nextUnread : State → ℕ → ℕ → Option (ℕ × ℕ)
+nextUnread s q t = find (λ p. leb (s .cursor) (offset (p .0) (p .1)) && (filled (s .counter q) (p .0) && isUnread s q (p .0) (p .1))) (places (suc t))
+
 unfoldable pub unread : State → ℕ → Option (ℕ × ℕ)
-unread s q = find (λ p. leb (s .cursor) (offset (p .0) (p .1)) && isUnread s q (p .0) (p .1)) (places (sources (s .shape) (s .counter q)))
+unread s q = nextUnread s q (topOf s q)
 
--- "The block that has waited longest for q, if one waits and q stores fewer than 2^(L−1) blocks, else a dummy"
-unfoldable pub chosen : State → ℕ → Option ℕ
-chosen s q = if ltb (blocksIn s q (s .shape .L)) (2 ^ (s .shape .L - 1)) then find (λ b. eqb (s .partition b) q) (s .waiting) else none
+-- "Up to j waiting blocks are taken, longest first, while the partition stores fewer than 2^(L−1)"
+unfoldable pub chosen : State → ℕ → List ℕ
+chosen s q = take (min (joined s q) (2 ^ (s .shape .L - 1) - blocksIn s q (s .shape .L))) (keep (λ b. eqb (s .partition b) q) (s .waiting))
 
-unfoldable pub isChosen : Option ℕ → ℕ → Bool
-isChosen none b = false
-isChosen (some a) b = eqb a b
+-- what the slots of these levels of q hold
+unfoldable pub entriesIn : (ℕ → ℕ → ℕ) → List ℕ → List ℕ
+entriesIn at [] = []
+entriesIn at (ℓ ∷ ls) = map (at ℓ) (below (slots ℓ)) ++ entriesIn at ls
 
--- "The gathered blocks", "by ascending number": the chosen one, and those that a slot of a source holds
+-- "The gathered blocks", "by ascending number": the chosen ones, and those that a slot of a source holds
+unfoldable pub gatherFrom : List ℕ → List ℕ → ℕ → List ℕ
+gatherFrom chosen entries n = keep (λ b. member b chosen || member (suc b) entries) (below n)
+
 unfoldable pub gathered : State → ℕ → List ℕ
-gathered s q = keep (λ b. isChosen (chosen s q) b || member (suc b) (entries s q (sources (s .shape) (s .counter q)))) (below (s .shape .N))
+gathered s q = gatherFrom (chosen s q) (entriesIn (λ ℓ i. s .holds (cell (s .shape) q ℓ i)) (sourceLevels (topOf s q) (s .counter q))) (s .shape .N)
+
+-- A level that is written: its order, and its blocks
+pub record Fill : Type 0 where
+  pub level : ℕ
+  pub order : List ℕ
+  pub blocks : List ℕ
+
+-- "The levels .. are written, highest first, each with its own order, all drawn, highest first. Blocks go by ascending number into the highest
+-- of these levels until it has 2^ℓ, then the next": from the levels, the numbers drawn and the gathered blocks
+unfoldable pub fills : List ℕ → List ℕ → List ℕ → List Fill
+fills [] js bs = []
+fills (ℓ ∷ ls) js bs = record { level = ℓ; order = newOrder (slots ℓ) js; blocks = take (2 ^ ℓ) bs } ∷ fills ls (drop (slots ℓ - 1) js) (drop (2 ^ ℓ) bs)
 
 -- "Gives the gathered blocks their new place": "items of a level are its blocks by ascending number, then its dummies", so block number k of them
 -- is item k, at the slot that the order gives it
@@ -50,7 +70,7 @@ unfoldable pub itemHolds : List ℕ → Option ℕ → ℕ
 itemHolds blocks none = 0
 itemHolds blocks (some k) = getD (map suc blocks) k 0
 
--- what the n slots of the target hold, slot 0 first
+-- what the n slots of a level hold, slot 0 first
 unfoldable pub newHolds : ℕ → List ℕ → List ℕ → List ℕ
 newHolds n blocks o = map (λ i. itemHolds blocks (indexOf i o)) (below n)
 
@@ -58,18 +78,38 @@ newHolds n blocks o = map (λ i. itemHolds blocks (indexOf i o)) (below n)
 unfoldable pub cleared : ℕ → ℕ → (ℕ → ℕ) → ℕ → ℕ
 cleared a n f = putAll a (replicate n 0) f
 
--- the chosen block waits no longer
-unfoldable pub leave : Option ℕ → List ℕ → List ℕ
-leave none xs = xs
-leave (some b) xs = without (eqb b) xs
+-- the places after these levels are written, one after the other
+unfoldable pub newPlaces : List Fill → (ℕ → Place) → ℕ → Place
+newPlaces [] f = f
+newPlaces (x ∷ xs) f = newPlaces xs (newPlace (x .level) (x .blocks) (x .order) f)
 
--- The rebuild of q into its target t by an order o: the sources hold nothing more, and then the target's slots are written and unread
-unfoldable pub doRebuild : ℕ → ℕ → List ℕ → State → State
-doRebuild q t o s =
-    s ▷ setPlace (newPlace t (gathered s q) o (s .place))
+-- a table after some levels of q are written, one after the other: each with its entries
+module _ {A : Type 0} (h : Shape) (q : ℕ) (level : A → ℕ) (entries : A → List ℕ) where
+  unfoldable pub writeLevels : List A → (ℕ → ℕ) → ℕ → ℕ
+  writeLevels [] f = f
+  writeLevels (x ∷ xs) f = writeLevels xs (putAll (cell h q (level x) 0) (entries x) f)
+
+unfoldable pub newOrders : Shape → ℕ → List Fill → (ℕ → ℕ) → ℕ → ℕ
+newOrders h q xs f = writeLevels h q (λ (x : Fill). x .level) (λ (x : Fill). x .order) xs f
+
+unfoldable pub newMarks : Shape → ℕ → List ℕ → (ℕ → ℕ) → ℕ → ℕ
+newMarks h q ls f = writeLevels h q (λ ℓ. ℓ) (λ ℓ. replicate (slots ℓ) 1) ls f
+
+unfoldable pub newHeld : Shape → ℕ → List Fill → (ℕ → ℕ) → ℕ → ℕ
+newHeld h q xs f = writeLevels h q (λ (x : Fill). x .level) (λ (x : Fill). newHolds (slots (x .level)) (x .blocks) (x .order)) xs f
+
+-- the chosen blocks wait no longer
+unfoldable pub leave : List ℕ → List ℕ → List ℕ
+leave [] xs = xs
+leave (b ∷ bs) xs = leave bs (without (eqb b) xs)
+
+-- The rebuild of q: the levels up to t hold nothing more, and then the slots of the written ones are written and unread
+unfoldable pub doRebuild : ℕ → List ℕ → List Fill → State → State
+doRebuild q ls xs s =
+    s ▷ setPlace (newPlaces xs (s .place))
     ▷ setWaiting (leave (chosen s q) (s .waiting))
-    ▷ setOrder (putAll (cell (s .shape) q t 0) o (s .order))
-    ▷ setMark (putAll (cell (s .shape) q t 0) (replicate (slots t) 1) (s .mark))
-    ▷ setHolds (putAll (cell (s .shape) q t 0) (newHolds (slots t) (gathered s q) o) (cleared (cell (s .shape) q 0 0) (slots (sources (s .shape) (s .counter q)) - 2) (s .holds)))
-    ▷ setBegun 1
+    ▷ setOrder (newOrders (s .shape) q xs (s .order))
+    ▷ setMark (newMarks (s .shape) q ls (s .mark))
+    ▷ setHolds (newHeld (s .shape) q xs (cleared (cell (s .shape) q 0 0) (slots (suc (topOf s q)) - 2) (s .holds)))
+    ▷ setBegun (joined s q)
     ▷ setSent 1

@@ -10,29 +10,27 @@ use Rattle.lists.specs.Tests.{if_then_else_}
 use Rattle.lists.specs.Search.{any, isNone, below, member}
 use Rattle.rules.specs.State.{Found, Request, State}
 use Rattle.rules.specs.Setters.{_▷_, setRequest}
-use Rattle.rules.specs.Levels.{filled, sources}
+use Rattle.rules.specs.Levels.{filled}
+use Rattle.rules.specs.Jobs.{queued, begunWith, topOf}
 use Rattle.rules.specs.Blocks.{readsOf, lookUp}
 
 -- "Request (read or write, block, contents) takes two draws below P: the block's next partition, then an eviction partition."
 unfoldable pub accept : ℕ → ℕ → List ℕ → List ℕ → State → State
 accept k b bs js s = s ▷ setRequest (some (record { kind = k; block = b; bytes = bs; next = getD js 0 0; evict = getD js 1 0; level = 0; found = none; awaits = 0 }))
 
--- the front job is for q; the jobs behind it
+-- the front job is for q
 unfoldable pub isFront : List ℕ → ℕ → Bool
 isFront [] q = false
 isFront (p ∷ _) q = eqb p q
 
-unfoldable pub behindFront : List ℕ → List ℕ
-behindFront [] = []
-behindFront (_ ∷ qs) = qs
-
--- Document 02, P4: "If the only job for p is at the front of the queue and hasn't drawn its order"
+-- Document 02, P4: "If the only job for p is at the front of the queue and hasn't drawn its order"; P7: "the run counts as one job for look-ups
+-- during a rebuild": no job for p is queued but those that run together. Before it begins it is one
 unfoldable pub undrawnOnly : State → ℕ → Bool
-undrawnOnly s q = isFront (s .queue) q && (not (member q (behindFront (s .queue))) && eqb (s .sent) 0)
+undrawnOnly s q = isFront (s .queue) q && (leb (queued (s .queue) q) (begunWith (s .begun) 1) && eqb (s .sent) 0)
 
 -- "A source level": a filled level from 0 up to the first empty one, of the front job, if it is for q
 unfoldable pub isSource : State → ℕ → ℕ → Bool
-isSource s q ℓ = isFront (s .queue) q && ltb ℓ (sources (s .shape) (s .counter q))
+isSource s q ℓ = isFront (s .queue) q && (leb ℓ (topOf s q) && filled (s .counter q) ℓ)
 
 -- "Other levels are read as before, but if one of them has been read 2^ℓ times since it was written, the request is held." (In states that calls
 -- left none is held by that: `held-while` of crate reachable. Its own read may be the 2^ℓ-th, once it is held no longer)

@@ -62,9 +62,9 @@ pub record State : Type 0 where
   pub mark : ℕ → ℕ  -- "which slots have been read since the level was written": 1 if written and not read since, at the slot's cell
   pub holds : ℕ → ℕ  -- which block is in a slot: 0 for a dummy, b + 1 for block b, at the slot's cell
   pub queue : List ℕ  -- "a first-in first-out queue of jobs, each a partition number", front first
-  pub begun : ℕ  -- "a job has begun once one of its commands is sent": 1 once the front job has, else 0
+  pub begun : ℕ  -- "a job has begun once one of its commands is sent": how many jobs the front one runs for, 0 until it has begun
   pub cursor : ℕ  -- how many slots of its sources the front job has gone over
-  pub sent : ℕ  -- how many writes the front job has sent: 0 until its order is drawn
+  pub sent : ℕ  -- how many writes the front job has sent: 0 until its orders are drawn
   pub outstanding : List Command
   pub request : Option Request
 

@@ -3,26 +3,25 @@ use mathlib.Core.Bool.{_||_}
 use mathlib.Core.List.{List, [], _∷_, _++_}
 use mathlib.Core.Option.{Option, none, some, Option·getD}
 use Prim.Native.Nat.{ℕ, suc}
-use lib.ListN.{length}
-use lib.Dec.{ltb, eqb}
+use lib.ListN.{length, getD}
+use lib.Dec.{eqb}
 use Rattle.lists.specs.Tests.{if_then_else_}
 use Rattle.lists.specs.Search.{any}
 use Rattle.lists.specs.Tables.{put}
-use Rattle.rules.specs.Shape.{slots, cell, offset}
+use Rattle.rules.specs.Shape.{cell, offset}
 use Rattle.rules.specs.State.{Command, cmd, read, write, Request, State}
 use Rattle.rules.specs.Setters.{_▷_, setMark, setBegun, setCursor, setSent, setOutstanding, setRequest}
-use Rattle.rules.specs.Draws.{newOrder, orderBounds}
-use Rattle.rules.specs.Levels.{target}
+use Rattle.rules.specs.Jobs.{joined, levelsOf, writeAt, ordersBounds}
 use Rattle.rules.specs.Request.{held, isSource, passLevel, releasedFor}
 use Rattle.rules.specs.Reader.{levelsLeft, slotRead}
-use Rattle.rules.specs.Rebuild.{unread, doRebuild}
+use Rattle.rules.specs.Rebuild.{unread, gathered, fills, doRebuild}
 
 pub data Step : Type 0 where
   idle : Step  -- there is no command to send
   noDummy : Step  -- the request lacks an unread dummy, or in a source an unread item
   readForRequest : ℕ → ℕ → ℕ → Step  -- partition, level, slot
   readForJob : ℕ → ℕ → ℕ → Step
-  rebuild : ℕ → ℕ → Step  -- partition, target: draws the order and sends the first write
+  rebuild : ℕ → List ℕ → Step  -- partition, written levels, highest first: draws the orders and sends the first write
   writeNext : ℕ → ℕ → ℕ → Step
 
 -- ---- What a turn does next
@@ -47,14 +46,18 @@ unfoldable pub gatherStep : ℕ → Option (ℕ × ℕ) → Step → Step
 gatherStep q none after = after
 gatherStep q (some p) after = readForJob q (p .0) (p .1)
 
--- "When those have completed, the next turn .. draws an order of 2^(t+1) slots .. and sends the first of 2^(t+1) writes": nothing of q is
--- outstanding. P4: "and the job draws its order only after the request is collected"
+-- "When those have completed, the next turn .. draws .. and sends the first of .. writes": nothing of q is outstanding. P4: "and
+-- the job draws its order only after the request is collected"
 unfoldable pub rebuildStep : State → ℕ → Step
-rebuildStep s q = if any (λ c. eqb (c .partition) q) (s .outstanding) || releasedFor (s .partition) (s .request) q then idle else rebuild q (target (s .shape) (s .counter q))
+rebuildStep s q = if any (λ c. eqb (c .partition) q) (s .outstanding) || releasedFor (s .partition) (s .request) q then idle else rebuild q (levelsOf s q)
 
--- ".. of 2^(t+1) writes, slots ascending"
+-- ".. of 2^(t+1) writes, slots ascending"; with several levels, "highest first"
+unfoldable pub nextWrite : ℕ → Option (ℕ × ℕ) → Step
+nextWrite q none = idle
+nextWrite q (some p) = writeNext q (p .0) (p .1)
+
 unfoldable pub writeStep : State → ℕ → Step
-writeStep s q = let t = target (s .shape) (s .counter q) in if ltb (s .sent) (slots t) then writeNext q t (s .sent) else idle
+writeStep s q = nextWrite q (writeAt (levelsOf s q) (s .sent))
 
 -- "The front job, for partition q, runs so"
 unfoldable pub jobStep : State → List ℕ → Step
@@ -70,16 +73,16 @@ command idle = cmd 0 0 0 0
 command noDummy = cmd 0 0 0 0
 command (readForRequest q ℓ i) = cmd read q ℓ i
 command (readForJob q ℓ i) = cmd read q ℓ i
-command (rebuild q t) = cmd write q t 0
+command (rebuild q ls) = cmd write q (getD ls 0 0) 0
 command (writeNext q t i) = cmd write q t i
 
--- the bounds of its draws: "draws an order of 2^(t+1) slots"
+-- the bounds of its draws: "draws an order of 2^(t+1) slots" for each written level
 unfoldable pub stepBounds : Step → List ℕ
 stepBounds idle = []
 stepBounds noDummy = []
 stepBounds (readForRequest q ℓ i) = []
 stepBounds (readForJob q ℓ i) = []
-stepBounds (rebuild q t) = orderBounds (slots t)
+stepBounds (rebuild q ls) = ordersBounds ls
 stepBounds (writeNext q t i) = []
 
 -- ---- What a turn changes
@@ -98,8 +101,8 @@ doStep noDummy js s = s
 doStep (readForRequest q ℓ i) js s =
     s ▷ markRead q ℓ i
     ▷ setRequest (passLevel ℓ (suc (length (s .outstanding))) (s .request))
-    ▷ setBegun (if isSource s q ℓ then 1 else s .begun)
+    ▷ setBegun (if isSource s q ℓ then joined s q else s .begun)
     ▷ send (cmd read q ℓ i)
-doStep (readForJob q ℓ i) js s = s ▷ markRead q ℓ i ▷ setBegun 1 ▷ setCursor (suc (offset ℓ i)) ▷ send (cmd read q ℓ i)
-doStep (rebuild q t) js s = s ▷ doRebuild q t (newOrder (slots t) js) ▷ send (cmd write q t 0)
-doStep (writeNext q t i) js s = s ▷ setSent (suc i) ▷ send (cmd write q t i)
+doStep (readForJob q ℓ i) js s = s ▷ markRead q ℓ i ▷ setCursor (suc (offset ℓ i)) ▷ setBegun (joined s q) ▷ send (cmd read q ℓ i)
+doStep (rebuild q ls) js s = s ▷ doRebuild q ls (fills ls js (gathered s q)) ▷ send (cmd write q (getD ls 0 0) 0)
+doStep (writeNext q t i) js s = s ▷ setSent (suc (s .sent)) ▷ send (cmd write q t i)

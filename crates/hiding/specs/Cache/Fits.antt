@@ -35,7 +35,7 @@ module _ (e n : ℕ) (s : State) (f : Fits e n s) where
   doStep-fits noDummy js = f
   doStep-fits (readForRequest q ℓ i) js = record { room = f .room; waits = pass-waits e ℓ (suc (length (s .outstanding))) (s .waiting) (s .request) (f .waits) }
   doStep-fits (readForJob q ℓ i) js = record { room = f .room; waits = f .waits }
-  doStep-fits (rebuild q t) js = record { room = f .room; waits = leave-waits e (s .waiting) (Rebuild.chosen s q) (s .request) (f .waits) }
+  doStep-fits (rebuild q ls) js = record { room = f .room; waits = leave-waits e (s .waiting) (Rebuild.chosen s q) (s .request) (f .waits) }
   doStep-fits (writeNext q t i) js = record { room = f .room; waits = f .waits }
 
   collected-fits : (r : Option Request) → s .request ≡ r → Fits e n (Collect.collected r s)

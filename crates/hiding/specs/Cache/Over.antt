@@ -19,6 +19,7 @@ use Rattle.rules.specs.Unfold.{model}
 use Rattle.rules.specs.Collect
 use Rattle.rules.specs.Run
 use Rattle.rules.specs.Run.{act}
+use Rattle.rules.specs.Levels.{joins, isFull}
 use Rattle.rules.specs.Memory
 use Rattle.rules.specs.Setters.{setShape, setRequest}
 use Rattle.rules.specs.State.{State, Request, Command}
@@ -77,7 +78,7 @@ module _ (e : ℕ) (s : State) where
   doStep-E noDummy js = refl
   doStep-E (readForRequest q ℓ i) js = refl
   doStep-E (readForJob q ℓ i) js = refl
-  doStep-E (rebuild q t) js = refl
+  doStep-E (rebuild q ls) js = refl
   doStep-E (writeNext q t i) js = refl
 
   gatherBytes-E : (o : Option ℕ) (bs : List ℕ) → Completion.gatherBytes o bs (withE e s) ≡ withE e (Completion.gatherBytes o bs s)
@@ -90,7 +91,7 @@ module _ (e : ℕ) (s : State) where
   finishJob-E [] = refl
   finishJob-E (q ∷ l) = go (Completion.jobDone s q)
     where
-      go : (t : Bool) → (if t then Completion.endJob q l (withE e s) else withE e s) ≡ withE e (if t then Completion.endJob q l s else s)
+      go : (t : Bool) → (if t then Completion.endJob q (withE e s) else withE e s) ≡ withE e (if t then Completion.endJob q s else s)
       go true = refl
       go false = refl
 
@@ -176,7 +177,7 @@ module _ (e : ℕ) (s : State) where
   possible-E noDummy = refl
   possible-E (readForRequest q ℓ i) = refl
   possible-E (readForJob q ℓ i) = refl
-  possible-E (rebuild q t) = refl
+  possible-E (rebuild q ls) = refl
   possible-E (writeNext q t i) = refl
 
   finished-E : (r : Option Request) → Questions.inHand (Collect.finished (withE e s)) r ≡ Questions.inHand (Collect.finished s) r
@@ -202,7 +203,7 @@ rangeRequest-E e n h (some r) = refl
 -- Two caches, of e and of n places
 module _ (e n : ℕ) (s : State) (le : e ≤ n) (he : 1 ≤ e) (hn : n ≤ s .shape .N) (w : Waits e (s .waiting) (s .request)) where
   inRange-E : Ranges.inRange (withE e s) ≡ Ranges.inRange (withE n s)
-  unfolding Ranges.inRange Ranges.ranges Ranges.eachCell Shape.within Tests.between Ranges.rangeCommand Shape.cell
+  unfolding Ranges.inRange Ranges.ranges Ranges.eachCell Shape.within Tests.between Ranges.rangeCommand Shape.cell joins isFull
   inRange-E = rw (
     waits-fits e (s .waiting) (s .request) w,
     waits-fits n (s .waiting) (s .request) (waits-more e n (s .waiting) (s .request) le w),

@@ -14,6 +14,7 @@ use Rattle.rules.specs.Draws.{draws}
 use Rattle.rules.specs.Questions
 use Rattle.rules.specs.Questions.{Ask, opening, request, turn, completion, collect, Call, bounds, questions, number, save, load}
 use Rattle.rules.specs.Completion
+use Rattle.rules.specs.Jobs.{joined, topOf, levelsOf}
 use Rattle.rules.specs.Unfold.{model}
 use Rattle.rules.specs.Collect
 use Rattle.rules.specs.Run
@@ -78,13 +79,13 @@ module _ (s : State) where
   releasedFor-bare q (some r) = refl
 
   rebuildStep-bare : (q : ℕ) → Turn.rebuildStep (bare s) q ≡ Turn.rebuildStep s q
-  unfolding Turn.rebuildStep
+  unfolding Turn.rebuildStep levelsOf joined
   rebuildStep-bare q = rw (releasedFor-bare q (s .request))
 
   jobStep-bare : (l : List ℕ) → Turn.jobStep (bare s) l ≡ Turn.jobStep s l
   unfolding Turn.jobStep
   jobStep-bare [] = refl
-  jobStep-bare (q ∷ l) = rw (rebuildStep-bare q) (unfold Rebuild.unread Blocks.isUnread Turn.writeStep in refl)
+  jobStep-bare (q ∷ l) = rw (rebuildStep-bare q) (unfold Rebuild.unread Rebuild.nextUnread Blocks.isUnread Turn.writeStep topOf levelsOf joined in refl)
 
   pub decide-bare : decide (bare s) ≡ decide s
   unfolding decide
@@ -116,7 +117,7 @@ module _ (s : State) where
   possible-bare noDummy = refl
   possible-bare (readForRequest q ℓ i) = refl
   possible-bare (readForJob q ℓ i) = refl
-  possible-bare (rebuild q t) = refl
+  possible-bare (rebuild q ls) = refl
   possible-bare (writeNext q t i) = refl
 
   finished-bare : (o : Option Request) → Questions.inHand (Collect.finished (bare s)) (bareRequest o) ≡ Questions.inHand (Collect.finished s) o
@@ -184,7 +185,7 @@ module _ (s : State) where
   doStep-bare noDummy js = rw (same-bare (s .request))
   doStep-bare (readForRequest q ℓ i) js = rw (passLevel-bare ℓ (suc (length (s .outstanding))) (s .request))
   doStep-bare (readForJob q ℓ i) js = rw (same-bare (s .request))
-  doStep-bare (rebuild q t) js = rw (same-bare (s .request))
+  doStep-bare (rebuild q ls) js = rw (same-bare (s .request))
   doStep-bare (writeNext q t i) js = rw (same-bare (s .request))
 
   gatherBytes-bare : (o : Option ℕ) (bs cs : List ℕ) → bare (Completion.gatherBytes o bs (bare s)) ≡ bare (Completion.gatherBytes o cs s)
@@ -193,11 +194,11 @@ module _ (s : State) where
   gatherBytes-bare (some b) bs cs = rw (same-bare (s .request))
 
   finishJob-bare : (l : List ℕ) → bare (Completion.finishJob l (bare s)) ≡ bare (Completion.finishJob l s)
-  unfolding Completion.finishJob Completion.jobDone Completion.endJob
+  unfolding Completion.finishJob Completion.jobDone Completion.endJob levelsOf joined
   finishJob-bare [] = rw (same-bare (s .request))
   finishJob-bare (q ∷ l) = go (Completion.jobDone s q)
     where
-      go : (t : Bool) → bare (if t then Completion.endJob q l (bare s) else bare s) ≡ bare (if t then Completion.endJob q l s else s)
+      go : (t : Bool) → bare (if t then Completion.endJob q (bare s) else bare s) ≡ bare (if t then Completion.endJob q s else s)
       go true = rw (same-bare (s .request))
       go false = rw (same-bare (s .request))
 

@@ -2,14 +2,16 @@
 use mathlib.Core.List.{List, [], _∷_, _++_}
 use mathlib.Core.Option.{Option, none, some}
 use Prim.Native.Nat.{ℕ, zero, suc}
-use lib.ListN.{length, getD, replicate}
+use lib.ListN.{length, getD, replicate, take, drop}
 use lib.Dec.{eqb}
 use mathlib.Core.Bool.{Bool, true, false}
 use Rattle.lists.specs.Tests.{if_then_else_}
 use Rattle.lists.specs.Tables.{putAll}
 use Rattle.rules.specs.Completion.{complete}
+use Rattle.rules.specs.Jobs.{joined}
 use Rattle.rules.specs.Open.{fresh}
 use Rattle.rules.specs.Request.{release}
+use Rattle.rules.specs.Rebuild.{newMarks}
 use Rattle.rules.specs.Setters.{_▷_, setPartition, setPlace, setWaiting, setMark, setQueue, setBegun, setSent, setRequest}
 use Rattle.rules.specs.Turn.{Step, idle, noDummy, readForRequest, readForJob, rebuild, writeNext, command, send, doStep}
 use Rattle.rules.specs.State.{Command, cmd, write, Place, Request, State}
@@ -37,7 +39,7 @@ slotted idle e = idle
 slotted noDummy e = noDummy
 slotted (readForRequest q ℓ x) e = readForRequest q ℓ (getD e 0 0)
 slotted (readForJob q ℓ x) e = readForJob q ℓ x
-slotted (rebuild q t) e = rebuild q t
+slotted (rebuild q ls) e = rebuild q ls
 slotted (writeNext q t x) e = writeNext q t x
 
 abbrev pub commandP : State → Later → List ℕ → Command
@@ -58,12 +60,19 @@ seenOpen h (suc n) = (suc n, lacking (suc n) (replicate (h .N) (h .P)), nothingS
 
 -- ---- What is drawn
 
+-- as levels of q are written, one after the other: what is left of each one's old order
+abbrev pub LegalWrites : Shape → ℕ → List ℕ → (ℕ → ℕ) → List ℕ → Type 0
+LegalWrites h q [] mark e = None e
+LegalWrites h q (ℓ ∷ ls) mark e =
+    let n = length (unreadIn h mark (q, ℓ)) in
+    Arranges (unreadIn h mark (q, ℓ)) (take n e) × LegalWrites h q ls (putAll (cell h q ℓ 0) (replicate (slots ℓ) 1) mark) (drop n e)
+
 abbrev pub legalStep : State → Step → List ℕ → Type 0
 legalStep i idle e = None e
 legalStep i noDummy e = None e
 legalStep i (readForRequest q ℓ x) e = Pick (unreadIn (i .shape) (i .mark) (q, ℓ)) e
 legalStep i (readForJob q ℓ x) e = Drew (length (unreadIn (i .shape) (i .mark) (q, ℓ)) ∷ []) e  -- the place of slot x, which nobody sees
-legalStep i (rebuild q t) e = Arranges (unreadIn (i .shape) (i .mark) (q, t)) e  -- nothing, if the target has no unread slots
+legalStep i (rebuild q ls) e = LegalWrites (i .shape) q ls (i .mark) e  -- nothing, if the written levels have no unread slots
 legalStep i (writeNext q t x) e = None e
 
 abbrev pub legalIf : ℕ → State → Later → List ℕ → Type 0
@@ -77,21 +86,21 @@ legalIf zero i (later-reload m n) e = None e
 
 -- ---- The state after an accepted call, by its public part
 
-unfoldable pub rebuildP : ℕ → ℕ → (ℕ → Place) → List ℕ → State → State
-rebuildP q t place waiting s =
+unfoldable pub rebuildP : ℕ → List ℕ → (ℕ → Place) → List ℕ → State → State
+rebuildP q ls place waiting s =
     s ▷ setPlace place
     ▷ setWaiting waiting
-    ▷ setMark (putAll (cell (s .shape) q t 0) (replicate (slots t) 1) (s .mark))
-    ▷ setBegun 1
+    ▷ setMark (newMarks (s .shape) q ls (s .mark))
+    ▷ setBegun (joined s q)
     ▷ setSent 1
-    ▷ send (cmd write q t 0)
+    ▷ send (cmd write q (getD ls 0 0) 0)
 
 abbrev pub nextStepI : State → Step → List ℕ → State
 nextStepI i idle e = i
 nextStepI i noDummy e = i
 nextStepI i (readForRequest q ℓ x) e = doStep (readForRequest q ℓ (getD e 0 0)) [] i
 nextStepI i (readForJob q ℓ x) e = doStep (readForJob q ℓ x) [] i
-nextStepI i (rebuild q t) e = rebuildP q t (i .place) (i .waiting) i
+nextStepI i (rebuild q ls) e = rebuildP q ls (i .place) (i .waiting) i
 nextStepI i (writeNext q t x) e = doStep (writeNext q t x) [] i
 
 unfoldable pub collectedI : Option Request → State → State

@@ -2,19 +2,19 @@
 use mathlib.Core.List.{List, [], _∷_, _++_, map}
 use mathlib.Core.Bool.{Bool, _&&_, _||_}
 use mathlib.Core.Option.{Option, none, some}
-use Prim.Native.Nat.{ℕ, zero, suc, _-_, _^_}
-use lib.ListN.{length, getD, replicate}
+use Prim.Native.Nat.{ℕ, zero, suc, _-_, _^_, min}
+use lib.ListN.{length, getD, replicate, take, drop}
 use lib.Dec.{ltb, eqb}
 use Rattle.lists.specs.Tables.{put}
 use Rattle.lists.specs.Places.{removeAt}
 use Rattle.lists.specs.Distinct.{index}
 use Rattle.lists.specs.Tests.{if_then_else_}
-use Rattle.lists.specs.Search.{find, keep, below, member}
+use Rattle.lists.specs.Search.{keep, below, member}
 use Rattle.rules.specs.Turn.{Step, idle, noDummy, readForRequest, readForJob, rebuild, writeNext, doStep}
-use Rattle.rules.specs.Levels.{sources}
+use Rattle.rules.specs.Jobs.{joined, topOf}
 use Rattle.rules.specs.Setters.{_▷_, setPartition, setPlace, setWaiting, setQueue, setRequest, setBytes, setOrder, setHolds}
 use Rattle.rules.specs.Request.{accept, release, isSource}
-use Rattle.rules.specs.Rebuild.{isChosen, leave, newPlace}
+use Rattle.rules.specs.Rebuild.{Fill, leave, newPlaces}
 use Rattle.rules.specs.Ranges.{others}
 use Rattle.rules.specs.Shape.{Shape, slots}
 use Rattle.rules.specs.State.{Place, nowhere, stored, Request, State}
@@ -61,11 +61,21 @@ rank s its k = clamp (length (unreadIn (s .shape) (s .mark) k)) (wanted (isSourc
 
 -- ---- What a rebuild of q gathers, by the places: this machine has no slots to read. In a state that calls left it is what the rules gather
 
-unfoldable pub chosenM : State → ℕ → Option ℕ
-chosenM s q = if ltb (length (storedIn s q (s .shape .L))) (2 ^ (s .shape .L - 1)) then find (λ b. eqb (s .partition b) q) (s .waiting) else none
+unfoldable pub chosenM : State → ℕ → List ℕ
+chosenM s q = take (min (joined s q) (2 ^ (s .shape .L - 1) - length (storedIn s q (s .shape .L)))) (keep (λ b. eqb (s .partition b) q) (s .waiting))
 
 unfoldable pub gatheredM : State → ℕ → List ℕ
-gatheredM s q = keep (λ b. isChosen (chosenM s q) b || (eqb (s .partition b) q && isBelow (sources (s .shape) (s .counter q)) (s .place b))) (below (s .shape .N))
+gatheredM s q = keep (λ b. member b (chosenM s q) || (eqb (s .partition b) q && isBelow (suc (topOf s q)) (s .place b))) (below (s .shape .N))
+
+-- the levels that are written and their blocks, with no order
+unfoldable pub fillsM : List ℕ → List ℕ → List Fill
+fillsM [] bs = []
+fillsM (ℓ ∷ ls) bs = record { level = ℓ; order = []; blocks = take (2 ^ ℓ) bs } ∷ fillsM ls (drop (2 ^ ℓ) bs)
+
+-- the items after these levels of q are written
+unfoldable pub itemsWritten : ℕ → List ℕ → List ℕ → Items → Items
+itemsWritten q [] bs it = it
+itemsWritten q (ℓ ∷ ls) bs it = itemsWritten q ls (drop (2 ^ ℓ) bs) (update (q, ℓ) (newItems (slots ℓ) (take (2 ^ ℓ) bs)) it)
 
 -- ---- The state after an accepted call
 
@@ -74,7 +84,7 @@ nextStepM s idle e = s
 nextStepM s noDummy e = s
 nextStepM s (readForRequest q ℓ x) e = doStep (readForRequest q ℓ (getD e 0 0)) [] s
 nextStepM s (readForJob q ℓ x) e = doStep (readForJob q ℓ x) [] s
-nextStepM s (rebuild q t) e = rebuildP q t (newPlace t (gatheredM s q) [] (s .place)) (leave (chosenM s q) (s .waiting)) s
+nextStepM s (rebuild q ls) e = rebuildP q ls (newPlaces (fillsM ls (gatheredM s q)) (s .place)) (leave (chosenM s q) (s .waiting)) s
 nextStepM s (writeNext q t x) e = doStep (writeNext q t x) [] s
 
 unfoldable pub collectedM : Option Request → State → State
@@ -103,7 +113,7 @@ itemsStep s it idle e = it
 itemsStep s it noDummy e = it
 itemsStep s it (readForRequest q ℓ x) e = update (q, ℓ) (removeAt (rank s (it (q, ℓ)) (q, ℓ)) (it (q, ℓ))) it
 itemsStep s it (readForJob q ℓ x) e = update (q, ℓ) (removeAt (getD e 0 0) (it (q, ℓ))) it
-itemsStep s it (rebuild q t) e = update (q, t) (newItems (slots t) (gatheredM s q)) it
+itemsStep s it (rebuild q ls) e = itemsWritten q ls (gatheredM s q) it
 itemsStep s it (writeNext q t x) e = it
 
 abbrev pub itemsM : ℕ → State → Items → Later → List ℕ → Items

@@ -20,7 +20,7 @@ use Rattle.rules.specs.Shape.{Shape, within, slots, cell}
 use Rattle.rules.specs.Open.{fresh}
 use Rattle.rules.specs.Collect.{finished}
 use Rattle.rules.specs.Turn.{readForRequest, rebuild, decide}
-use Rattle.rules.specs.Levels.{sources}
+use Rattle.rules.specs.Jobs.{topOf}
 use Rattle.rules.specs.Laws.Reader.{slotIn}
 use Rattle.rules.specs.Questions.{bounds, possible, atRest}
 use Rattle.rules.specs.Ranges.{inRange}
@@ -43,9 +43,9 @@ pub record Reachable (h : Shape) : Type 1 where
   pub able : (s : State) → Holds s → possible s (decide s) ≡ true
   -- the cache has room for every block
   pub room : (s : State) (b : ℕ) → Holds s → b < h .N → (ltb (length (s .waiting)) (h .E) || member b (s .waiting)) ≡ true
-  -- a rebuild that is decided on gathers by slots what there is by places, and its sources are read throughout
-  pub gathers : (s : State) (q t : ℕ) → Holds s → decide s ≡ rebuild q t → (gathered s q ≡ gatheredM s q) × (chosen s q ≡ chosenM s q)
-  pub spent : (s : State) (q t ℓ i : ℕ) → Holds s → decide s ≡ rebuild q t → ℓ < sources (s .shape) (s .counter q) → i < slots ℓ → ¬ (s .mark (cell (s .shape) q ℓ i) ≡ 1)
+  -- a rebuild that is decided on gathers by slots what there is by places, and the levels up to t have no unread slot
+  pub gathers : (s : State) (q : ℕ) (ls : List ℕ) → Holds s → decide s ≡ rebuild q ls → (gathered s q ≡ gatheredM s q) × (chosen s q ≡ chosenM s q)
+  pub spent : (s : State) (q : ℕ) (ls : List ℕ) (ℓ i : ℕ) → Holds s → decide s ≡ rebuild q ls → ℓ < suc (topOf s q) → i < slots ℓ → ¬ (s .mark (cell (s .shape) q ℓ i) ≡ 1)
   -- what a request is about to read is unread
   pub unread : (s : State) (q ℓ x : ℕ) → Holds s → decide s ≡ readForRequest q ℓ x → s .mark (cell (s .shape) q ℓ x) ≡ 1
   -- the block of a request that is about to read level ℓ: its own slot there is its place, and holds it ..

@@ -5,7 +5,7 @@ use mathlib.Core.Option.{Option, none, some, Option·getD}
 use Prim.Native.Nat.{ℕ}
 use lib.ListN.{length, replicate}
 use lib.Dec.{eqb, leb, ltb}
-use Rattle.lists.specs.Search.{keep, any, below, isNone, member}
+use Rattle.lists.specs.Search.{keep, any, all, below, isNone, member}
 use Rattle.lists.specs.Tests.{if_then_else_}
 use Rattle.rules.specs.Memory.{needed}
 use Rattle.rules.specs.Completion.{isCommand}
@@ -129,7 +129,7 @@ checked s idle = idle
 checked s noDummy = noDummy
 checked s (readForRequest q ℓ x) = if isNil (unreadIn (s .shape) (s .mark) (q, ℓ)) then idle else readForRequest q ℓ x
 checked s (readForJob q ℓ x) = if member x (unreadIn (s .shape) (s .mark) (q, ℓ)) then readForJob q ℓ x else idle
-checked s (rebuild q t) = if ltb q (s .shape .P) && ltb t (s .shape .L) then rebuild q t else idle
+checked s (rebuild q ls) = if ltb q (s .shape .P) && all (λ ℓ. ltb ℓ (s .shape .L)) ls then rebuild q ls else idle
 checked s (writeNext q t x) = writeNext q t x
 
 unfoldable pub decideP : State → Step

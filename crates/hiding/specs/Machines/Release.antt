@@ -10,6 +10,7 @@ use Rattle.lists.specs.Tests.{if_then_else_}
 use Rattle.rules.specs.Blocks.{foundAt, lookUp}
 use Rattle.rules.specs.Laws.Released.{released-same}
 use Rattle.rules.specs.Completion.{awaitsLess, completed}
+use Rattle.rules.specs.Jobs.{joined, topOf}
 use Rattle.rules.specs.Request.{held, undrawnOnly, worn, isSource, heldFor, blocked, withFound, releasedIn, release}
 use Rattle.rules.specs.Setters.{setRequest}
 use Rattle.rules.specs.State.{State, Command, Request, Found, Place, nowhere, stored, foundNowhere}
@@ -35,7 +36,7 @@ lookUp-forget s b = go (s .place b) (member b (s .waiting))
     go (stored ℓ i) t = refl
 
 released-forget : (s : State) (r : Request) → releasedIn (forget s) r ≡ releasedIn s r
-unfolding releasedIn blocked heldFor undrawnOnly worn isSource
+unfolding releasedIn blocked heldFor undrawnOnly worn isSource topOf joined
 released-forget s r = rw (lookUp-forget s (r .block))
 
 pub forget-release : (s : State) → forget (release s) ≡ release (forget s)
@@ -45,7 +46,7 @@ forget-release s = ap (λ g. setRequest (Option·map g (s .request)) (forget s))
 
 module _ (s : State) where
   blocked-hide : (r : Request) → s .request ≡ some r → blocked (hide s) (publicRequest (r .evict) (r .level) (r .found) (r .awaits)) ≡ blocked s r
-  unfolding blocked heldFor undrawnOnly worn isSource
+  unfolding blocked heldFor undrawnOnly worn isSource topOf joined
   blocked-hide r e = rw e
 
   lookUp-hide : (b : ℕ) → lookUp (hide s) b ≡ foundNowhere

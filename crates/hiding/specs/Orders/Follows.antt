@@ -3,9 +3,9 @@ use mathlib.Core.Path.{_≡_, refl, ap, _∙_, fun-ext, subst, sym}
 use mathlib.Core.Bool.{Bool, true, false}
 use mathlib.Core.List.{List, [], _∷_, map}
 use mathlib.Core.Option.{Option, none, some}
-use Prim.Native.Nat.{ℕ, zero, suc, _+_}
+use Prim.Native.Nat.{ℕ, zero, suc, _+_, _-_, _^_}
+use lib.ListN.{take, drop}
 use lib.Dec.{eqb, leb}
-use lib.Pow.{pow-pos}
 use native.Mathlib.Omega.{arith}
 use native.Mathlib.Decide.{ℕ-discrete}
 use borrow.Author.Tests.{ne-eqb}
@@ -23,8 +23,8 @@ use Rattle.rules.specs.Request.{accept, release, isSource}
 use Rattle.rules.specs.Questions.{bounds, questions, inHand, firstNo}
 use Rattle.rules.specs.Completion
 use Rattle.rules.specs.Completion.{complete}
-use Rattle.rules.specs.Laws.Levels.{sources-le}
-use Rattle.rules.specs.Levels
+use Rattle.rules.specs.Jobs.{joined, topOf, levelsOf}
+use Rattle.rules.specs.Laws.Levels.{levels-pos, top-lt}
 use Rattle.rules.specs.Shape.{Shape, slots, cell}
 use Rattle.rules.specs.Draws.{newOrder, Drew}
 use Rattle.rules.specs.Collect
@@ -35,19 +35,18 @@ use Rattle.rules.specs.Turn.{Step, idle, noDummy, readForRequest, readForJob, r
 use Rattle.rules.specs.Blocks
 use Rattle.rules.specs.Run.{act, perform, sentCommand}
 use Rattle.rules.specs.Rebuild
-use Rattle.rules.specs.Rebuild.{gathered, newPlace, itemPlace}
+use Rattle.rules.specs.Rebuild.{gathered, newPlace, itemPlace, newPlaces, fills}
 use Rattle.rules.specs.Laws.Range.{range-facts, InRange}
 use Rattle.matching.specs.Reads.{arranges-mem}
-use Rattle.matching.specs.Order.{order-ok}
 use Rattle.reachable.specs.Live.{storedIn, isBelow}
 use Rattle.hiding.specs.Machines.Ideal.{slotted, lacking, nothingSent, seenIf, rebuildP}
 use Rattle.hiding.specs.Machines.Middle
-use Rattle.hiding.specs.Machines.Middle.{levelOnly, forget, chosenM, gatheredM, Items, nextStepM, performM, nextM, itemsStep, itemsM, collectedM}
-use Rattle.hiding.specs.Orders.Trades.{HiddenOn, OpenP, rebuild-step, decideP-open, tradeStep, tradeIf}
+use Rattle.hiding.specs.Machines.Middle.{levelOnly, forget, chosenM, gatheredM, fillsM, itemsWritten, Items, nextStepM, performM, nextM, itemsStep, itemsM, collectedM}
+use Rattle.hiding.specs.Orders.Trades.{HiddenOn, OpenP, rebuild-step, trade-orders, decideP-open, tradeStep, tradeIf}
 use Rattle.hiding.specs.Orders.Number.{slotless, step-hide, bounds-hide, number-reload, save-rests, saved-yes}
 use Rattle.hiding.specs.Orders.Rank.{rank-is, in-order}
 use Rattle.hiding.specs.Machines.Rules.{on, numberR, called, boundsR, nextR, seenR, Orders, itemsIn, slotsIn, itemsOf, ordersOf, view}
-use Rattle.hiding.specs.Orders.Items.{orders-read, items-read, orders-written, items-written, items-left}
+use Rattle.hiding.specs.Orders.Items.{orders-read, items-read, fits, levels-written, items-cleared, items-left}
 use Rattle.hiding.specs.Machines.Public.{Later, later-request, later-turn, later-completion, later-collect, ask, hide, unreadIn, decideP, later-save, later-reload, saved, saveP, numberP, questionsP}
 use Rattle.hiding.specs.Unchanged.{Rest, complete-rest}
 use Rattle.hiding.specs.Machines.Release.{forget-release}
@@ -65,12 +64,12 @@ unfolding storedIn
 storedIn-forget s q top = keep-same _ _ (below (s .shape .N)) (λ b m. rw (below-level top (s .place b)))
 
 chosen-forget : (s : State) (q : ℕ) → chosenM (forget s) q ≡ chosenM s q
-unfolding chosenM
+unfolding chosenM joined
 chosen-forget s q = rw (storedIn-forget s q (s .shape .L))
 
 gathered-forget : (s : State) (q : ℕ) → gatheredM (forget s) q ≡ gatheredM s q
-unfolding gatheredM
-gathered-forget s q = keep-same _ _ (below (s .shape .N)) (λ b m. rw (chosen-forget s q, below-level (Levels.sources (s .shape) (s .counter q)) (s .place b)))
+unfolding gatheredM topOf joined
+gathered-forget s q = keep-same _ _ (below (s .shape .N)) (λ b m. rw (chosen-forget s q, below-level (suc (topOf s q)) (s .place b)))
 
 place-forget : (t : ℕ) (blocks o : List ℕ) (f : ℕ → Place) → (λ (b : ℕ). levelOnly (newPlace t blocks o f b)) ≡ newPlace t blocks [] (λ b. levelOnly (f b))
 unfolding newPlace itemPlace
@@ -79,6 +78,14 @@ place-forget t blocks o f = fun-ext (λ b. go (indexOf b blocks) (f b))
     go : (k : Option ℕ) (x : Place) → levelOnly (itemPlace t o k x) ≡ itemPlace t [] k (levelOnly x)
     go none x = refl
     go (some k) x = refl
+
+-- ..level by level
+places-forget : (ls js bs : List ℕ) (f : ℕ → Place) → (λ (b : ℕ). levelOnly (newPlaces (fills ls js bs) f b)) ≡ newPlaces (fillsM ls bs) (λ b. levelOnly (f b))
+unfolding newPlaces fills fillsM
+places-forget [] js bs f = refl
+places-forget (ℓ ∷ ls) js bs f =
+    places-forget ls (drop (2 ^ (ℓ + 1) - 1) js) (drop (2 ^ ℓ) bs) (newPlace ℓ (take (2 ^ ℓ) bs) (newOrder (2 ^ (ℓ + 1)) js) f)
+    ∙ ap (newPlaces (fillsM ls (drop (2 ^ ℓ) bs))) (place-forget ℓ (take (2 ^ ℓ) bs) (newOrder (2 ^ (ℓ + 1)) js) f)
 
 put-forget : (b : ℕ) (f : ℕ → Place) → (λ (a : ℕ). levelOnly (put b nowhere f a)) ≡ put b nowhere (λ a. levelOnly (f a))
 unfolding put
@@ -90,21 +97,21 @@ put-forget b f = fun-ext (λ a. go a (eqb a b) refl)
 
 -- a completion's bytes are those of no block, where no slot holds one
 complete-forget : (s : State) (c : Command) (bs : List ℕ) → forget (complete c bs s) ≡ complete c bs (forget s)
-unfolding complete Completion.completeRead Completion.completeWrite Completion.completed Completion.gatherBytes Completion.finishJob Completion.endJob Completion.jobDone Blocks.holder Blocks.named
+unfolding complete Completion.completeRead Completion.completeWrite Completion.completed Completion.gatherBytes Completion.finishJob Completion.endJob Completion.jobDone Blocks.holder Blocks.named joined levelsOf
 complete-forget s c bs = go (eqb (c .kind) 1) (Blocks.holder s (c .partition) (c .level) (c .slot)) (s .queue)
   where
     s′ : State
     s′ = Completion.completed c s
 
-    ended : (q : ℕ) (qs : List ℕ) (t : Bool) → forget (if t then Completion.endJob q qs s′ else s′) ≡ (if t then Completion.endJob q qs (forget s′) else forget s′)
-    ended q qs true = refl
-    ended q qs false = refl
+    ended : (q : ℕ) (t : Bool) → forget (if t then Completion.endJob q s′ else s′) ≡ (if t then Completion.endJob q (forget s′) else forget s′)
+    ended q true = refl
+    ended q false = refl
 
     go : (t : Bool) (b : Option ℕ) (qs : List ℕ) → forget (if t then Completion.gatherBytes b bs s′ else Completion.finishJob qs s′) ≡ (if t then forget s′ else Completion.finishJob qs (forget s′))
     go true none qs = refl
     go true (some b) qs = refl
     go false b [] = refl
-    go false b (q ∷ qs) = ended q qs (Completion.jobDone s′ q)
+    go false b (q ∷ qs) = ended q (Completion.jobDone s′ q)
 
 -- ---- the state after a call, as the middle machine has it
 
@@ -133,7 +140,7 @@ module _ (h : Shape) (reach : Reachable h) (s : State) (k : reach .Holds s) (hid
 
   -- a request's read
   request-follows : (q ℓ x : ℕ) (p : OpenP (s .shape) (s .mark) (readForRequest q ℓ 0)) → decide s ≡ readForRequest q ℓ x → StepFollows (readForRequest q ℓ x) p
-  unfolding doStep Turn.markRead Turn.send isSource
+  unfolding doStep Turn.markRead Turn.send isSource topOf joined
   request-follows q ℓ x p e =
       let r = rank-is h reach s k hid q ℓ x e in
       let m = in-order h reach s k hid q ℓ x e in
@@ -149,7 +156,7 @@ module _ (h : Shape) (reach : Reachable h) (s : State) (k : reach .Holds s) (hid
 
   -- a job's read
   job-follows : (q ℓ x : ℕ) (p : OpenP (s .shape) (s .mark) (readForJob q ℓ x)) → StepFollows (readForJob q ℓ x) p
-  unfolding doStep Turn.markRead Turn.send
+  unfolding doStep Turn.markRead Turn.send joined
   job-follows q ℓ x p =
       let m = arranges-mem x (unreadIn (s .shape) (s .mark) (q, ℓ)) (ordersOf s (q, ℓ)) (hid (q, ℓ)) p in (
         refl,
@@ -161,18 +168,18 @@ module _ (h : Shape) (reach : Reachable h) (s : State) (k : reach .Holds s) (hid
       )
 
   -- a rebuild
-  rebuild-follows : (q t : ℕ) (p : OpenP (s .shape) (s .mark) (rebuild q t)) → decide s ≡ rebuild q t → Drew (stepBounds (rebuild q t)) d → StepFollows (rebuild q t) p
-  unfolding doStep Rebuild.doRebuild Turn.send rebuildP
-  rebuild-follows q t p e b =
-      let g = reach .gathers s q t k e in
-      let a = order-ok (slots t) (pow-pos (t + 1)) d (rebuild-step s q t d .0 b) in
+  rebuild-follows : (q : ℕ) (ls : List ℕ) (p : OpenP (s .shape) (s .mark) (rebuild q ls)) → decide s ≡ rebuild q ls → Drew (stepBounds (rebuild q ls)) d → StepFollows (rebuild q ls) p
+  unfolding doStep Rebuild.doRebuild Turn.send rebuildP joined topOf
+  rebuild-follows q ls p e b =
+      let g = reach .gathers s q ls k e in
+      let w = levels-written (s .shape) q (p .0) ls (p .1) d (gathered s q) (rebuild-step s q ls d .0 b) (s .mark) (s .order)
+      (Rebuild.cleared (cell (s .shape) q 0 0) (slots (suc (topOf s q)) - 2) (s .holds)) (fits s rangeOf) in
       rw (gathered-forget s q, chosen-forget s q, ← g .0, ← g .1) (
         refl,
         record {
-          state = rw (place-forget t (gathered s q) (newOrder (slots t) d) (s .place));
-          items = items-written s rangeOf q t (p .0) (p .1) (gathered s q) (newOrder (slots t) d) a
-              (Levels.sources (s .shape) (s .counter q)) (sources-le (s .shape) (s .counter q)) (λ ℓ i. reach .spent s q t ℓ i k e);
-          orders = orders-written s rangeOf q t (p .0) (p .1) (gathered s q) (newOrder (slots t) d) a;
+          state = rw (places-forget ls d (gathered s q) (s .place));
+          items = w .1 ∙ ap (itemsWritten q ls (gathered s q)) (items-cleared s rangeOf q (suc (topOf s q)) (top-lt (s .shape) (s .counter q) (joined s q) (levels-pos (s .shape) (rangeOf .shape))) (λ ℓ i. reach .spent s q ls ℓ i k e));
+          orders = w .0 ∙ sym (trade-orders (s .shape) q (p .0) ls (p .1) (s .mark) (ordersOf s) d);
         },
       )
 
@@ -193,7 +200,7 @@ module _ (h : Shape) (reach : Reachable h) (s : State) (k : reach .Holds s) (hid
   step-follows noDummy p e b = noDummy-follows p
   step-follows (readForRequest q ℓ x) p e b = request-follows q ℓ x p e
   step-follows (readForJob q ℓ x) p e b = job-follows q ℓ x p
-  step-follows (rebuild q t) p e b = rebuild-follows q t p e b
+  step-follows (rebuild q ls) p e b = rebuild-follows q ls p e b
   step-follows (writeNext q t x) p e b = write-follows q t x p b
 
   -- ---- the other calls

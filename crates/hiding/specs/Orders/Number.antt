@@ -9,6 +9,7 @@ use lib.Dec.{eqb, leb, ltb}
 use borrow.Author.Tests.{leb-true, ltb-true, lt-ltb, le-leb, eq-eqb, ne-eqb}
 use native.Mathlib.Omega.{arith}
 use native.Mathlib.Decide.{ℕ-discrete}
+use Rattle.lists.specs.All.{all-map, yes-all}
 use Rattle.rules.specs.Form.Loading.{loads, loadedForm}
 use Rattle.rules.specs.Form.Sums.{summed}
 use Rattle.rules.specs.Form.Longest.{longest}
@@ -21,7 +22,7 @@ use Rattle.lists.specs.Distinct.{Mem}
 use Rattle.rules.specs.Memory.{needed}
 use Rattle.rules.specs.Laws.Kept.{kind-read}
 use Rattle.rules.specs.Blocks
-use Rattle.rules.specs.Levels
+use Rattle.rules.specs.Jobs.{joined, topOf, levelsOf, writeAt}
 use Rattle.rules.specs.Laws.Range.{range-facts}
 use Rattle.rules.specs.Request.{held, isSource, releasedFor}
 use Rattle.rules.specs.Reader.{condition, slotRead, costs, levelsLeft}
@@ -48,7 +49,7 @@ slotless idle = idle
 slotless noDummy = noDummy
 slotless (readForRequest q ℓ x) = readForRequest q ℓ 0
 slotless (readForJob q ℓ x) = readForJob q ℓ x
-slotless (rebuild q t) = rebuild q t
+slotless (rebuild q ls) = rebuild q ls
 slotless (writeNext q t x) = writeNext q t x
 
 looks-hide : (s : State) (q : ℕ) (o : Option Request) → s .request ≡ o → releasedFor ((hide s) .partition) (blank o) q ≡ releasedFor (s .partition) o q
@@ -57,27 +58,27 @@ looks-hide s q none e = refl
 looks-hide s q (some r) e = rw (held-public r) (rw e)
 
 jobStep-hide : (s : State) (qs : List ℕ) → jobStep (hide s) qs ≡ jobStep s qs
-unfolding jobStep Rebuild.unread Turn.rebuildStep Turn.writeStep Blocks.isUnread
+unfolding jobStep Rebuild.unread Rebuild.nextUnread Turn.rebuildStep Turn.writeStep Blocks.isUnread topOf levelsOf joined
 jobStep-hide s [] = refl
 jobStep-hide s (q ∷ qs) = rw (looks-hide s q (s .request) refl)
 
 -- a job's step has no slot to lose
 job-slotless : (s : State) (qs : List ℕ) → slotless (jobStep s qs) ≡ jobStep s qs
-unfolding jobStep Turn.gatherStep Turn.rebuildStep Turn.writeStep
+unfolding jobStep Turn.gatherStep Turn.rebuildStep Turn.writeStep Turn.nextWrite
 job-slotless s [] = refl
-job-slotless s (q ∷ qs) = go (eqb (s .sent) 0) (Rebuild.unread s q) (any (λ c. eqb (c .partition) q) (s .outstanding) || releasedFor (s .partition) (s .request) q) (ltb (s .sent) _)
+job-slotless s (q ∷ qs) = go (eqb (s .sent) 0) (Rebuild.unread s q) (any (λ c. eqb (c .partition) q) (s .outstanding) || releasedFor (s .partition) (s .request) q) (writeAt (levelsOf s q) (s .sent))
   where
-    go : (t : Bool) (o : Option (ℕ × ℕ)) (a b : Bool) →
-        let x = if t then Turn.gatherStep q o (if a then idle else rebuild q (Levels.target (s .shape) (s .counter q))) else (if b then writeNext q (Levels.target (s .shape) (s .counter q)) (s .sent) else idle) in
+    go : (t : Bool) (o : Option (ℕ × ℕ)) (a : Bool) (w : Option (ℕ × ℕ)) →
+        let x = if t then Turn.gatherStep q o (if a then idle else rebuild q (levelsOf s q)) else Turn.nextWrite q w in
         slotless x ≡ x
-    go true none true b = refl
-    go true none false b = refl
-    go true (some p) a b = refl
-    go false o a true = refl
-    go false o a false = refl
+    go true none true w = refl
+    go true none false w = refl
+    go true (some p) a w = refl
+    go false o a none = refl
+    go false o a (some p) = refl
 
 costs-hide : (s : State) (r : Request) → s .request ≡ some r → costs (hide s) ((hide s) .partition 0) ≡ costs s (s .partition (r .block))
-unfolding costs condition isSource Blocks.isUnread
+unfolding costs condition isSource topOf joined Blocks.isUnread
 costs-hide s r e = rw e
 
 left-hide : (s : State) (r : Request) → s .request ≡ some r → levelsLeft (hide s) (publicRequest (r .evict) (r .level) (r .found) (r .awaits)) ≡ levelsLeft s r
@@ -125,7 +126,7 @@ slotless-tells idle = refl
 slotless-tells noDummy = refl
 slotless-tells (readForRequest q ℓ x) = refl
 slotless-tells (readForJob q ℓ x) = refl
-slotless-tells (rebuild q t) = refl
+slotless-tells (rebuild q ls) = refl
 slotless-tells (writeNext q t x) = refl
 
 slotless-bounds : (x : Step) → stepBounds (slotless x) ≡ stepBounds x
@@ -149,7 +150,7 @@ checked-open s idle o = refl
 checked-open s noDummy o = refl
 checked-open s (readForRequest q ℓ x) o = rw (isNil-mem x _ o)
 checked-open s (readForJob q ℓ x) o = rw (mem-member x _ o)
-checked-open s (rebuild q t) o = rw (lt-ltb q (s .shape .P) (o .0), lt-ltb t (s .shape .L) (o .1))
+checked-open s (rebuild q ls) o = rw (lt-ltb q (s .shape .P) (o .0), yes-all (all-map (λ ℓ k. lt-ltb ℓ (s .shape .L) k) (o .1)))
 checked-open s (writeNext q t x) o = refl
 
 -- ---- the number

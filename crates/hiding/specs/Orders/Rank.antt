@@ -14,6 +14,7 @@ use Rattle.lists.specs.Distinct.{Mem, index, index-mem, index-at, index-here, i
 use Rattle.lists.specs.Places.{index-map}
 use Rattle.lists.specs.Members.{member-mem, mem-member, mem-below, map-mem, mem-map}
 use Rattle.rules.specs.Laws.Range.{range-facts}
+use Rattle.rules.specs.Jobs.{joined, topOf}
 use Rattle.rules.specs.Request.{isSource}
 use Rattle.rules.specs.Reader.{dummy, lowest}
 use Rattle.rules.specs.Laws.Reader.{slotIn, ifUnread}
@@ -100,7 +101,7 @@ module _ (h : Shape) (reach : Reachable h) (s : State) (k : reach .Holds s)
     in-range : (q < s .shape .P) × (ℓ < s .shape .L) × (x < slots ℓ)
     in-range = go (decide s) e (decide-in s (range-facts s (reach .range s k)))
       where
-        go : (y : Turn.Step) → y ≡ readForRequest q ℓ x → StepIn (s .shape) y → (q < s .shape .P) × (ℓ < s .shape .L) × (x < slots ℓ)
+        go : (y : Turn.Step) → y ≡ readForRequest q ℓ x → StepIn s y → (q < s .shape .P) × (ℓ < s .shape .L) × (x < slots ℓ)
         go y f b = rw f at b
 
     open-step : Mem x (unreadIn (s .shape) (s .mark) (q, ℓ))
@@ -192,7 +193,7 @@ module _ (h : Shape) (reach : Reachable h) (s : State) (k : reach .Holds s)
 
     -- the rank of the wanted item is the place of the slot that is read
     pub rank-is : clamp (length (unreadIn (s .shape) (s .mark) (q, ℓ))) (wanted (isSource s q ℓ) (s .request) (itemsOf s (q, ℓ))) ≡ index x hs
-    unfolding isSource
+    unfolding isSource topOf joined
     rank-is =
         let i : wanted (isSource s q ℓ) (s .request) (itemsOf s (q, ℓ)) ≡ index x hs = rw (its-is, reads .inHand) rank-of in
         rw i (clamp-id _ (index x hs) (omega (arith, hid (q, ℓ) .0, index-mem x hs in-order .0)))

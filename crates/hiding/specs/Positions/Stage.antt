@@ -13,6 +13,7 @@ use Rattle.lists.specs.Search.{isNone}
 use Rattle.lists.specs.Tests.{if_then_else_}
 use Rattle.lists.specs.Tables.{put}
 use Rattle.rules.specs.Blocks
+use Rattle.rules.specs.Jobs.{joined, topOf, levelsOf}
 use Rattle.rules.specs.Request.{passLevel, isSource, accept, release}
 use Rattle.rules.specs.Draws.{Drew}
 use Rattle.rules.specs.Laws.Released.{released-same}
@@ -77,16 +78,16 @@ module _ (s : State) where
   Leads i′ s′ = (i′ ≡ hide s′) × (positions s ≡ positions s′)
 
   step-leads : (x : Step) (e : List ℕ) → Leads (nextStepI (hide s) x e) (nextStepM s x e)
-  unfolding doStep Turn.markRead Turn.send rebuildP isSource
+  unfolding doStep Turn.markRead Turn.send rebuildP isSource topOf joined
   step-leads idle e = (refl, refl)
   step-leads noDummy e = (refl, refl)
   step-leads (readForRequest q ℓ x) e = (rw (pass-blank ℓ (suc (length (s .outstanding))) (s .request), pass-present (s .partition) ℓ (suc (length (s .outstanding))) (s .request)), sym (pass-positions (s .partition) ℓ (suc (length (s .outstanding))) (s .request)))
   step-leads (readForJob q ℓ x) e = (refl, refl)
-  step-leads (rebuild q t) e = (refl, refl)
+  step-leads (rebuild q ls) e = (refl, refl)
   step-leads (writeNext q t x) e = (refl, refl)
 
   complete-leads : (c : Command) (bs bs′ : List ℕ) → Leads (complete c bs′ (hide s)) (complete c bs s)
-  unfolding complete Completion.completeRead Completion.completeWrite Completion.gatherBytes Completion.finishJob Completion.endJob Completion.jobDone Blocks.holder Blocks.named
+  unfolding complete Completion.completeRead Completion.completeWrite Completion.gatherBytes Completion.finishJob Completion.endJob Completion.jobDone Blocks.holder Blocks.named joined levelsOf
   complete-leads c bs bs′ = rw (← hide-completed c s) (go (eqb (c .kind) 1) (Blocks.holder s (c .partition) (c .level) (c .slot)) (s .queue))
     where
       s′ : State
@@ -95,15 +96,15 @@ module _ (s : State) where
       same : positions s ≡ positions s′
       same = unfold Completion.completed in (sym (less-positions (s .partition) c (s .outstanding) (s .request)))
 
-      ended : (q : ℕ) (qs : List ℕ) (t : Bool) → Leads (if t then Completion.endJob q qs (hide s′) else hide s′) (if t then Completion.endJob q qs s′ else s′)
-      ended q qs true = (refl, same)
-      ended q qs false = (refl, same)
+      ended : (q : ℕ) (t : Bool) → Leads (if t then Completion.endJob q (hide s′) else hide s′) (if t then Completion.endJob q s′ else s′)
+      ended q true = (refl, same)
+      ended q false = (refl, same)
 
       go : (t : Bool) (b : Option ℕ) (qs : List ℕ) → Leads (if t then hide s′ else Completion.finishJob qs (hide s′)) (if t then Completion.gatherBytes b bs s′ else Completion.finishJob qs s′)
       go true none qs = (refl, same)
       go true (some b) qs = (refl, same)
       go false b [] = (refl, same)
-      go false b (q ∷ qs) = ended q qs (Completion.jobDone s′ q)
+      go false b (q ∷ qs) = ended q (Completion.jobDone s′ q)
 
   collect-leads : (o : Option Request) → s .request ≡ o → Leads (collectedI (blank o) (hide s)) (collectedM o s)
   unfolding collectedI collectedM

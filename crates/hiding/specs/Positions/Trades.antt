@@ -45,7 +45,7 @@ module _ (h : Shape) (i : State) where
   step-shape noDummy e = refl
   step-shape (readForRequest q ℓ x) e = refl
   step-shape (readForJob q ℓ x) e = refl
-  step-shape (rebuild q t) e = refl
+  step-shape (rebuild q ls) e = refl
   step-shape (writeNext q t x) e = refl
 
   collect-shape : (o : Option Request) → (collectedI o i) .shape ≡ i .shape

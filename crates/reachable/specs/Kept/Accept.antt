@@ -29,6 +29,8 @@ accept-kept s f e k b bs js range = record {
   full = f .full;
   taken = f .taken;
   begun = f .begun;
+  running = f .running;
+  unbegun = f .unbegun;
   reads = λ p m hp hm l. ⊎-elim inl (λ n. inr (omega (arith, more p m))) (f .reads p m hp hm l);
   unheld = λ r w. inl (sym (ap (λ (x : Request). x .level) (first w)));
   released = λ r w k. absurd (true≢false (ap Request.held (first w) ∙ k));
@@ -37,14 +39,11 @@ accept-kept s f e k b bs js range = record {
   unread = λ x m j hx y. ⊎-elim inl (λ n. ⊎-elim (λ o. absurd (no-request (o .0) (o .1 .0))) (λ n. inr (inr n)) n) (f .unread x m j hx y);
   fetched = λ r m j w p l. absurd (omega (arith, l, ap (λ (x : Request). x .level) (first w)));
   scanned = f .scanned;
-  jobless = f .jobless;
-  unbegun = f .unbegun;
-  spent = f .spent;
   apart = f .apart;
   commands = all-map (λ c n. ⊎-elim
       (λ a. inl (record { kind = a .kind; isRead = a .isRead; full = a .full; whose = ⊎-elim (λ p. absurd (true≢false (sym p ∙ passed-none (s .partition) (s .request) (c .partition) (c .level) e))) inr (a .whose) }))
       inr n) (f .commands);
-  tidy = record { partitions = f .tidy .partitions; places = f .tidy .places; counters = f .tidy .counters; marked = f .tidy .marked; held = f .tidy .held; whole = f .tidy .whole; untouched = λ x m j hx y c a. ⊎-elim inl (λ o. absurd (no-request (o .0) (o .1 .0))) (f .tidy .untouched x m j hx y c a) };
+  tidy = record { partitions = f .tidy .partitions; places = f .tidy .places; counters = f .tidy .counters; marked = f .tidy .marked; held = f .tidy .held; whole = f .tidy .whole };
 }
   where
     more : (p m : ℕ) → pending s p m ≤ pending (Request.accept k b bs js s) p m

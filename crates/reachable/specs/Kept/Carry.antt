@@ -13,14 +13,15 @@ use Rattle.lists.specs.Lengths.{bit}
 use Rattle.rules.specs.Blocks.{readsOf}
 use Rattle.rules.specs.Laws.Range.{InRange}
 use Rattle.rules.specs.Levels.{filled}
-use Rattle.rules.specs.Request.{held}
+use Rattle.rules.specs.Jobs.{queued, joined, topOf}
+use Rattle.rules.specs.Request.{held, isSource}
 use Rattle.rules.specs.Setters.{setRequest, setOutstanding}
 use Rattle.rules.specs.Shape.{cell}
 use Rattle.rules.specs.State.{State, Command, Request, Found, stored}
 use Rattle.rules.specs.Form.Loading.{storedAt}
 use Rattle.reachable.specs.Invariant.{Reached, Reading, Writing, Own, Aside}
 use Rattle.reachable.specs.Live
-use Rattle.reachable.specs.Live.{counted, drawn, pending, passedBy, undrawn, times, Gathers, Alone}
+use Rattle.reachable.specs.Live.{counted, drawn, pending, passedBy, undrawn, Alone}
 use Rattle.reachable.specs.Terms.{Apart}
 
 abbrev pub carrying : Option Found → ℕ → Request → Request
@@ -29,7 +30,7 @@ carrying x n r = record { kind = r .kind; block = r .block; bytes = r .bytes; ne
 -- what is asked of a request that is not held
 abbrev pub Loose : State → Request → ℕ → List Command → Type 0
 Loose s r n os = ((¬ Mem (s .partition (r .block)) (s .queue)) ⊎ Alone s (s .partition (r .block)))
-    × (((ℓ : ℕ) → r .level ≤ ℓ → ℓ < s .shape .L → filled (s .counter (s .partition (r .block))) ℓ ≡ true → ¬ Gathers s (s .partition (r .block)) ℓ → readsOf (s .shape) (s .mark) (s .partition (r .block)) ℓ < 2 ^ ℓ)
+    × (((ℓ : ℕ) → r .level ≤ ℓ → ℓ < s .shape .L → filled (s .counter (s .partition (r .block))) ℓ ≡ true → isSource s (s .partition (r .block)) ℓ ≡ false → readsOf (s .shape) (s .mark) (s .partition (r .block)) ℓ < 2 ^ ℓ)
     × All (Aside s r) (drop n os))
 
 module _ (s : State) (f : Reached s) (r : Request) (inHand : s .request ≡ some r) (x : Option Found) (n : ℕ) (os : List Command) (apart : Apart os)
@@ -43,7 +44,7 @@ module _ (s : State) (f : Reached s) (r : Request) (inHand : s .request ≡ some
 
   pending-same : (p m : ℕ) → pending s p m ≡ pending s′ p m
   unfolding pending
-  pending-same p m = ap (λ t. times p (undrawn (s .queue) (s .sent)) + bit t) (passed-same p m)
+  pending-same p m = ap (λ t. queued (undrawn (s .queue) (s .begun) (s .sent)) p + bit t) (passed-same p m)
 
   own-same : (b ℓ : ℕ) → Own s b ℓ → Own s′ b ℓ
   own-same b ℓ o =
@@ -57,7 +58,7 @@ module _ (s : State) (f : Reached s) (r : Request) (inHand : s .request ≡ some
   the y e = cc
 
   pub carry-kept : InRange s′ → Reached s′
-  unfolding counted drawn storedAt Live.storedIn
+  unfolding counted drawn storedAt Live.storedIn isSource topOf joined
   carry-kept range = record {
     range = range;
     waiting = f .waiting;
@@ -68,17 +69,16 @@ module _ (s : State) (f : Reached s) (r : Request) (inHand : s .request ≡ some
     full = f .full;
     taken = f .taken;
     begun = f .begun;
+    running = f .running;
+    unbegun = f .unbegun;
     reads = λ p m hp hm e. ⊎-elim inl (λ k. inr (omega (arith, pending-same p m))) (f .reads p m hp hm e);
     unheld = λ y e. subst (λ (y : Request). (y .level ≡ 0) ⊎ (held y ≡ false)) (the y e) sent;
     released = λ y e. subst (λ (y : Request). held y ≡ false → (¬ Mem (s .partition (y .block)) (s .queue)) ⊎ Alone s (s .partition (y .block))) (the y e) (λ k. loose k .0);
-    unworn = λ y e. subst (λ (y : Request). held y ≡ false → (ℓ : ℕ) → y .level ≤ ℓ → ℓ < s .shape .L → filled (s .counter (s .partition (y .block))) ℓ ≡ true → ¬ Gathers s (s .partition (y .block)) ℓ → readsOf (s .shape) (s .mark) (s .partition (y .block)) ℓ < 2 ^ ℓ) (the y e) (λ k. loose k .1 .0);
+    unworn = λ y e. subst (λ (y : Request). held y ≡ false → (ℓ : ℕ) → y .level ≤ ℓ → ℓ < s .shape .L → filled (s .counter (s .partition (y .block))) ℓ ≡ true → isSource s (s .partition (y .block)) ℓ ≡ false → readsOf (s .shape) (s .mark) (s .partition (y .block)) ℓ < 2 ^ ℓ) (the y e) (λ k. loose k .1 .0);
     unawaited = λ y e. subst (λ (y : Request). held y ≡ false → All (Aside s y) (drop (y .awaits) os)) (the y e) (λ k. loose k .1 .1);
     unread = λ b m j hx e. ⊎-elim inl (λ k. inr (⊎-elim (λ o. inl (own-same b m o)) inr k)) (f .unread b m j hx e);
     fetched = λ y m j e. subst (λ (y : Request). s .place (y .block) ≡ stored m j → m < y .level → s .mark (cell (s .shape) (s .partition (y .block)) m j) ≡ 0) (the y e) (f .fetched r m j inHand);
     scanned = f .scanned;
-    jobless = f .jobless;
-    unbegun = f .unbegun;
-    spent = f .spent;
     apart = apart;
     commands = all-map (λ c k. ⊎-elim (λ a. inl (reading-same c a)) inr k) commands;
     tidy = record {
@@ -88,6 +88,5 @@ module _ (s : State) (f : Reached s) (r : Request) (inHand : s .request ≡ some
       marked = f .tidy .marked;
       held = f .tidy .held;
       whole = f .tidy .whole;
-      untouched = λ b m j hx e c a. ⊎-elim inl (λ o. inr (own-same b m o)) (f .tidy .untouched b m j hx e c a);
     };
   }

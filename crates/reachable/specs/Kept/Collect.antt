@@ -19,21 +19,22 @@ use Rattle.rules.specs.Blocks
 use Rattle.lists.specs.Search.{member}
 use Rattle.lists.specs.Tests.{if_then_else_}
 use Rattle.lists.specs.Totals.{total-le}
+use Rattle.rules.specs.Jobs.{queued}
 use Rattle.rules.specs.Collect
 use Rattle.rules.specs.Collect.{finish, emptied}
 use Rattle.rules.specs.Laws.Range.{InRange, RequestIn}
-use Rattle.rules.specs.Levels.{filled, sources}
+use Rattle.rules.specs.Levels.{filled}
 use Rattle.rules.specs.Ranges.{others, bytesOf}
 use Rattle.rules.specs.Shape.{slots, Shape, cell, offset}
 use Rattle.rules.specs.State.{State, Request, Place, nowhere, stored, write}
 use Rattle.reachable.specs.Blocks.{not-nowhere, stored-inj, at-why, why-at, in-why, why-in, nodup-at, nodup-in}
-use Rattle.reachable.specs.Consequences.{block-lt, finished-read, finished-aside}
-use Rattle.reachable.specs.Invariant.{Reached, Waiting, Items, Agree, Room, Full, taken, Taken, holdsOf, Reads, Unread, Commands, Tidy, SlotCell, Own}
+use Rattle.reachable.specs.Consequences.{block-lt, finished-read, finished-aside, busy-begun}
+use Rattle.reachable.specs.Invariant.{Reached, Waiting, Items, Agree, Room, Full, taken, Taken, holdsOf, Reads, Unread, Commands, Tidy, SlotCell}
 use Rattle.rules.specs.Form.Loading.{storedAt, isIn}
 use Rattle.reachable.specs.Live
 use Rattle.rules.specs.Request.{isFront}
-use Rattle.reachable.specs.Live.{counted, counted-calm, drawn, pending, undrawn, Gathers, times, passedBy}
-use Rattle.reachable.specs.Pending.{Filled, front-more, front-append, times-here, times-append, undrawn-append, passed-why}
+use Rattle.reachable.specs.Live.{counted, counted-calm, drawn, pending, undrawn, Gathers, passedBy, Source}
+use Rattle.reachable.specs.Pending.{Filled, front-more, front-append, queued-here, queued-more, undrawn-append, passed-why, queued-append}
 
 module _ (s : State) (f : Reached s) (r : Request) (inHand : s .request ≡ some r) (done : Collect.finished s r ≡ true) where
   abbrev h : Shape
@@ -51,8 +52,8 @@ module _ (s : State) (f : Reached s) (r : Request) (inHand : s .request ≡ some
   hb : b < h .N
   hb = block-lt s f r inHand
 
-  filled-queue : Filled (s .queue) (s .sent)
-  filled-queue n = let x = f .begun n in (x .0, x .1, x .2 .0)
+  filled-queue : Filled (s .queue) (s .begun) (s .sent)
+  filled-queue n = f .running (busy-begun s f n)
 
   pub counted-kept : counted s′ ≡ counted s
   counted-kept = fun-ext (λ p. go p (ℕ-discrete (s .sent) 0))
@@ -199,15 +200,15 @@ module _ (s : State) (f : Reached s) (r : Request) (inHand : s .request ≡ some
   unfolding finish bit pending passedBy
   reads-kept p m hp hm e = ⊎-elim (λ g. inl (front-append (s .queue) more p (g .0), g .1, g .2)) (λ k. inr (omega (arith, less, ap (λ c. c p % 2 ^ m) counted-kept))) (f .reads p m hp hm (rw counted-kept at e))
     where
-      jobs : times p (undrawn (s .queue ++ more) (s .sent)) ≡ times p (undrawn (s .queue) (s .sent)) + times p more
-      jobs = ap (times p) (undrawn-append (s .queue) more (s .sent) filled-queue) ∙ times-append p (undrawn (s .queue) (s .sent)) more
+      jobs : queued (undrawn (s .queue ++ more) (s .begun) (s .sent)) p ≡ queued (undrawn (s .queue) (s .begun) (s .sent)) p + queued more p
+      jobs = ap (λ qs. queued qs p) (undrawn-append (s .queue) more (s .begun) (s .sent) filled-queue) ∙ queued-more p (undrawn (s .queue) (s .begun) (s .sent)) more
 
       -- the read that the request has sent is now one of a job's
-      one : (t : Bool) → passedBy (s .partition) (s .request) p m ≡ t → bit t ≤ times p more
+      one : (t : Bool) → passedBy (s .partition) (s .request) p m ≡ t → bit t ≤ queued more p
       one true k =
           let w = passed-why (s .partition) (s .request) r p m inHand k in
-          let z : times (s .partition b) more ≡ suc (times (s .partition b) (r .evict ∷ [])) = times-here (s .partition b) (r .evict ∷ []) in
-          let v : times p more ≡ times (s .partition b) more = ap (λ x. times x more) (sym (w .0)) in
+          let z : queued more (s .partition b) ≡ suc (queued (r .evict ∷ []) (s .partition b)) = queued-here (s .partition b) (r .evict ∷ []) in
+          let v : queued more p ≡ queued more (s .partition b) = ap (queued more) (sym (w .0)) in
           omega (arith, z, v)
       one false k = omega arith
 
@@ -229,14 +230,9 @@ module _ (s : State) (f : Reached s) (r : Request) (inHand : s .request ≡ some
       (λ a. inr (inr (rw v (gathers-still (s .partition x) m a)))) k)
       (f .unread x m j hx (sym (place-other x n) ∙ e))
 
-  still-scanned : (l : List ℕ) → s .queue ≡ l → (q ℓ i : ℕ) → isFront (s .queue ++ more) q ≡ true → s .sent ≡ 0 → ℓ < sources (s .shape) (s .counter q) → i < slots ℓ → offset ℓ i < s .cursor
+  still-scanned : (q ℓ i : ℕ) → isFront (s .queue ++ more) q ≡ true → s .sent ≡ 0 → Source (s .shape) (s .counter q) (s .begun) ℓ → i < slots ℓ → offset ℓ i < s .cursor
       → s .mark (cell (s .shape) q ℓ i) ≡ 0
-  still-scanned [] e q ℓ i a z l hi c = absurd (omega (arith, f .unbegun (f .jobless e) .0))
-  still-scanned (x ∷ xs) e q ℓ i a z l hi c = f .scanned q ℓ i (sym (front-more (s .queue) more q x xs e) ∙ a) z l hi c
-
-  longer : (l : List ℕ) → l ++ more ≡ [] → _≡_ {A = ℕ} 0 1
-  longer [] e = cc
-  longer (x ∷ xs) e = cc
+  still-scanned q ℓ i a z l hi c = let x = f .running (l .0) in f .scanned q ℓ i (sym (front-more (s .queue) more q (x .0) (x .1) (x .2 .0)) ∙ a) z l hi c
 
   commands-kept : Commands s′
   unfolding finish
@@ -286,13 +282,6 @@ module _ (s : State) (f : Reached s) (r : Request) (inHand : s .request ≡ some
     marked = rw counted-kept (f .tidy .marked);
     held = held-kept;
     whole = whole-kept;
-    untouched = λ x m j hx e c a.
-        let n = other-block x m j e in
-        let v = partition-other x n in
-        let y : s .place x ≡ stored m j = sym (place-other x n) ∙ e in
-        let not-own : Own s x m → ⊥ = λ o. let w : o .0 ≡ r = cc (o .1 .0, inHand) in n (sym (o .1 .1) ∙ ap (λ (y : Request). y .block) w) in
-        inl (ap (λ p. s .mark (cell (s .shape) p m j)) v
-        ∙ ⊎-elim (λ k. k) (λ k. ⊎-elim (λ o. absurd (not-own o)) (λ g. ⊎-elim (λ k. k) (λ o. absurd (not-own o)) (f .tidy .untouched x m j hx y c (g .0))) k) (f .unread x m j hx y));
   }
 
   pub collect-kept : InRange s′ → Reached s′
@@ -307,6 +296,8 @@ module _ (s : State) (f : Reached s) (r : Request) (inHand : s .request ≡ some
     full = full-kept;
     taken = taken-kept;
     begun = λ n. let x = f .begun n in (x .0, x .1 ++ more, (ap (λ l. l ++ more) (x .2 .0), x .2 .1));
+    running = λ n. let x = f .running n in (x .0, x .1 ++ more, (ap (λ l. l ++ more) (x .2 .0), omega (arith, x .2 .1, queued-append (s .queue) more (x .0))));
+    unbegun = f .unbegun;
     reads = reads-kept;
     unheld = λ x e. let z : _≡_ {A = ℕ} 0 1 = cc in absurd (omega arith);
     released = λ x e. let z : _≡_ {A = ℕ} 0 1 = cc in absurd (omega arith);
@@ -314,10 +305,7 @@ module _ (s : State) (f : Reached s) (r : Request) (inHand : s .request ≡ some
     unawaited = λ x e. let z : _≡_ {A = ℕ} 0 1 = cc in absurd (omega arith);
     unread = unread-kept;
     fetched = λ x m j e. let z : _≡_ {A = ℕ} 0 1 = cc in absurd (omega arith);
-    scanned = still-scanned (s .queue) refl;
-    jobless = λ e. let z : _≡_ {A = ℕ} 0 1 = longer (s .queue) e in absurd (omega arith);
-    unbegun = f .unbegun;
-    spent = λ p ℓ i a n l hi. let x = f .begun n in f .spent p ℓ i (sym (front-more (s .queue) more p (x .0) (x .1) (x .2 .0)) ∙ a) n l hi;
+    scanned = still-scanned;
     apart = f .apart;
     commands = commands-kept;
     tidy = tidy-kept;

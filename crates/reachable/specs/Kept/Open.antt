@@ -1,8 +1,8 @@
 -- The state that an accepted open leaves has the invariant.
 use mathlib.Core.Path.{_≡_, refl, ap, sym, _∙_}
-use mathlib.Core.Bool.{true, false, true≢false}
+use mathlib.Core.Bool.{true, true≢false}
 use mathlib.Core.List.{List, []}
-use Prim.Native.Nat.{ℕ, suc, _^_, _≤_, zero}
+use Prim.Native.Nat.{ℕ, _^_, _≤_}
 use native.Mathlib.Omega.{arith}
 use lib.ListN.{length, length-replicate, List·getD-eq-default}
 use Rattle.lists.specs.All.{nil}
@@ -12,7 +12,7 @@ use Rattle.rules.specs.Laws.Range.{InRange}
 use Rattle.rules.specs.Levels.{filled}
 use Rattle.rules.specs.Open.{fresh}
 use Rattle.rules.specs.Shape.{slots, Shape, cell}
-use Rattle.reachable.specs.Bits.{filled-suc}
+use Rattle.rules.specs.Laws.Bits.{filled-zero}
 use Rattle.reachable.specs.Blocks.{not-nowhere, nodup-at, at-why, nodup-in, in-why}
 use Rattle.rules.specs.Form.Loading.{isIn, storedAt}
 use Rattle.reachable.specs.Invariant.{taken, holdsOf, Reached}
@@ -20,15 +20,11 @@ use Rattle.reachable.specs.Live
 use Rattle.reachable.specs.Live.{counted, counted-calm}
 use Rattle.reachable.specs.Terms.{none-apart}
 
--- no level of a fresh state is filled
-empty : (ℓ : ℕ) → filled 0 ℓ ≡ false
-empty zero = unfold filled in refl
-empty (suc ℓ) = filled-suc 0 ℓ ∙ empty ℓ
-
 module _ (h : Shape) (js : List ℕ) where
+  -- no level of a fresh state is filled
   no-level : (q ℓ : ℕ) → filled (counted (fresh h js) q) ℓ ≡ true → ⊥
   unfolding fresh
-  no-level q ℓ e = true≢false (sym e ∙ ap (λ c. filled c ℓ) zero-count ∙ empty ℓ)
+  no-level q ℓ e = true≢false (sym e ∙ ap (λ c. filled c ℓ) zero-count ∙ filled-zero ℓ)
     where
       zero-count : counted (fresh h js) q ≡ 0
       zero-count = counted-calm (fresh h js) q refl
@@ -49,6 +45,8 @@ module _ (h : Shape) (js : List ℕ) where
     full = λ q. omega (arith, nodup-sub (Live.storedIn (fresh h js) q (h .L)) [] (nodup-in (fresh h js) q (h .L)) (λ b m. true≢false (sym (in-why (fresh h js) q (h .L) b m .2))));
     taken = λ q ℓ hq hℓ. none-taken q ℓ;
     begun = λ n. absurd (n refl);
+    running = λ n. absurd (n refl);
+    unbegun = λ e. (refl, refl);
     reads = λ q ℓ hq hℓ e. absurd (no-level q ℓ e);
     unheld = λ r e. let z : _≡_ {A = ℕ} 0 1 = cc in absurd (omega arith);
     released = λ r e. let z : _≡_ {A = ℕ} 0 1 = cc in absurd (omega arith);
@@ -57,9 +55,6 @@ module _ (h : Shape) (js : List ℕ) where
     unread = λ b m j hb e. absurd (not-nowhere m j e);
     fetched = λ r m j e. let z : _≡_ {A = ℕ} 0 1 = cc in absurd (omega arith);
     scanned = λ q ℓ i a z l hi c. absurd (omega arith);
-    jobless = λ e. refl;
-    unbegun = λ e. (refl, refl);
-    spent = λ q ℓ i a n l hi. absurd (n refl);
     apart = none-apart;
     commands = nil;
     tidy = record {
@@ -69,6 +64,5 @@ module _ (h : Shape) (js : List ℕ) where
       marked = λ c n. absurd (n refl);
       held = λ c n. absurd (n refl);
       whole = λ b. length-replicate (h .B) 0;
-      untouched = λ b ℓ i hb e. absurd (not-nowhere ℓ i e);
     };
   }

@@ -25,8 +25,8 @@ use Rattle.rules.specs.State.{State, Request}
 use Rattle.reachable.specs.Consequences.{block-lt}
 use Rattle.reachable.specs.Invariant.{Reached}
 use Rattle.reachable.specs.Kept.Carry.{Loose, carry-kept}
-use Rattle.reachable.specs.Live.{counted, counted-other, not-front, pending, passedBy, undrawn, Gathers, source-gathers, Alone, only-alone, front-mem}
-use Rattle.reachable.specs.Pending.{undrawn-mem, times-none, bit-no, passed-why}
+use Rattle.reachable.specs.Live.{counted, counted-other, not-front, pending, passedBy, undrawn, Alone, only-alone, front-mem}
+use Rattle.reachable.specs.Pending.{undrawn-mem, queued-none, bit-no, passed-why}
 
 module _ (s : State) (f : Reached s) (r : Request) (inHand : s .request ≡ some r) (u : held r ≡ true) (free : blocked s r ≡ false) where
   abbrev q : ℕ
@@ -48,13 +48,13 @@ module _ (s : State) (f : Reached s) (r : Request) (inHand : s .request ≡ some
       go true true true ea eb ec w = absurd (true≢false w)
       go true true false ea eb ec w = inr (only-alone s q eb, λ ℓ hℓ. all-mem (any-none (worn s q) (below (s .shape .L)) ec) ℓ (below-mem (s .shape .L) ℓ hℓ))
 
-  -- a level that is not worn, and that no job gathers
-  unworn : (ℓ : ℕ) → worn s q ℓ ≡ false → filled (s .counter q) ℓ ≡ true → ¬ Gathers s q ℓ → s .sent ≡ 0 → readsOf (s .shape) (s .mark) q ℓ < 2 ^ ℓ
-  unworn ℓ w full n z = go (filled (s .counter q) ℓ) (isSource s q ℓ) (leb (2 ^ ℓ) (readsOf (s .shape) (s .mark) q ℓ)) full refl refl (unfold worn in w)
+  -- a level that is not worn, and no source
+  unworn : (ℓ : ℕ) → worn s q ℓ ≡ false → filled (s .counter q) ℓ ≡ true → isSource s q ℓ ≡ false → readsOf (s .shape) (s .mark) q ℓ < 2 ^ ℓ
+  unworn ℓ w full n = go (filled (s .counter q) ℓ) (isSource s q ℓ) (leb (2 ^ ℓ) (readsOf (s .shape) (s .mark) q ℓ)) full refl refl (unfold worn in w)
     where
       go : (a b c : Bool) → a ≡ true → isSource s q ℓ ≡ b → leb (2 ^ ℓ) (readsOf (s .shape) (s .mark) q ℓ) ≡ c → (a && (not b && c)) ≡ false → readsOf (s .shape) (s .mark) q ℓ < 2 ^ ℓ
       go false b c e eb ec w = absurd (true≢false (sym e))
-      go true true c e eb ec w = absurd (n (source-gathers s q ℓ (λ k. z) eb))
+      go true true c e eb ec w = absurd (true≢false (sym eb ∙ n))
       go true false true e eb ec w = absurd (true≢false w)
       go true false false e eb ec w = leb-false (2 ^ ℓ) (readsOf (s .shape) (s .mark) q ℓ) ec
 
@@ -71,7 +71,7 @@ module _ (s : State) (f : Reached s) (r : Request) (inHand : s .request ≡ some
         arith,
         k,
         mod-lt (counted s q) (pow-pos ℓ),
-        times-none q (undrawn (s .queue) (s .sent)) (λ m. n (undrawn-mem q (s .queue) (s .sent) m)),
+        queued-none q (undrawn (s .queue) (s .begun) (s .sent)) (λ m. n (undrawn-mem q (s .queue) (s .begun) (s .sent) m)),
         bit-no (passedBy (s .partition) (s .request) q ℓ) (λ j. let w = passed-why (s .partition) (s .request) r q ℓ inHand j in omega (arith, low, w .1)),
       )
 
@@ -79,7 +79,7 @@ module _ (s : State) (f : Reached s) (r : Request) (inHand : s .request ≡ some
   loose = (
     ⊎-elim inl (λ k. inr (k .0)) cases,
     (
-      (λ ℓ l hℓ full n. ⊎-elim (λ k. calm k ℓ hℓ full) (λ k. unworn ℓ (k .1 ℓ hℓ) full n (k .0 .2)) cases),
+      (λ ℓ l hℓ full n. ⊎-elim (λ k. calm k ℓ hℓ full) (λ k. unworn ℓ (k .1 ℓ hℓ) full n) cases),
       rw (drop-of-length-le (s .outstanding) {i = length (s .outstanding)} (omega arith)) nil,
     ),
   )

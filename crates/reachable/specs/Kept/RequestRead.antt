@@ -1,7 +1,7 @@
 -- A request's read keeps the invariant.
 use mathlib.Core.Path.{_≡_, refl, ap, sym, _∙_, subst}
 use mathlib.Core.Logic.{_⊎_, inl, inr, ⊎-elim}
-use mathlib.Core.Bool.{Bool, true, false, true≢false}
+use mathlib.Core.Bool.{Bool, true, false}
 use mathlib.Core.List.{List, [], _∷_, _++_}
 use mathlib.Core.Option.{none, some}
 use Prim.Native.Nat.{ℕ, suc, _+_, _%_, _^_, _≤_, _<_}
@@ -12,25 +12,27 @@ use Rattle.lists.specs.Tests.{if_then_else_}
 use Rattle.lists.specs.All.{All, nil, cons, all-append, all-map}
 use Rattle.lists.specs.Distinct.{Mem}
 use Rattle.lists.specs.Tables.{put, put-same, put-other}
+use Rattle.rules.specs.Jobs.{queued, joined, topOf, slotCount}
 use Rattle.rules.specs.Laws.Layout.{cell-inj}
 use Rattle.rules.specs.Laws.Range.{InRange}
-use Rattle.rules.specs.Levels.{filled}
+use Rattle.rules.specs.Levels.{filled, writtenLevels}
 use Rattle.rules.specs.Laws.Reader.{slotIn, ifUnread}
 use Rattle.rules.specs.Request
 use Rattle.rules.specs.Shape.{slots, Shape, cell}
 use Rattle.rules.specs.State.{State, Command, read, Request, cmd, stored}
 use Rattle.rules.specs.Turn
 use Rattle.rules.specs.Turn.{readForRequest, doStep}
+use Rattle.reachable.specs.Begins.{Begins, request-begins, gathers-still, source-still, alone-still, undrawn-still, counted-still, busy-still, begun-still, unbegun-still, running-still}
 use Rattle.reachable.specs.Blocks.{place-lt, stored-inj}
-use Rattle.reachable.specs.Consequences.{front-calm, released-count, reads-source, costless-read, read-mark, block-lt, slot-own, dummy-free, own-slot, still-read, read-apart, request-unread, read-items}
+use Rattle.reachable.specs.Consequences.{front-calm, released-count, joins-front, costless-read, read-mark, block-lt, slot-own, dummy-free, own-slot, still-read, read-apart, request-unread, read-items}
 use Rattle.reachable.specs.Decided.{OwnSlot, DummySlot, ItemSlot, RequestReads, slot-here, if-unread}
-use Rattle.reachable.specs.Invariant.{Reached, Reads, Unheld, Released, Unworn, Aside, Unawaited, Unread, Own, Reading, Commands, Fetched, Jobless, Unbegun, Tidy, Untouched}
+use Rattle.reachable.specs.Invariant.{Reached, Reads, Unheld, Released, Unworn, Aside, Unawaited, Unread, Own, Reading, WriteOf, Commands, Fetched, Tidy}
 use Rattle.rules.specs.Form.Loading.{storedAt}
 use Rattle.reachable.specs.Live
 use Rattle.rules.specs.Blocks
 use Rattle.rules.specs.Blocks.{readsOf}
 use Rattle.rules.specs.Request.{isFront}
-use Rattle.reachable.specs.Live.{counted, drawn, pending, passedBy, Gathers, Alone, front-mem, gathers-source}
+use Rattle.reachable.specs.Live.{counted, drawn, pending, passedBy, Source, Gathers, Alone, front-rest, source-why, source-gathers}
 use Rattle.reachable.specs.Outstanding.{apart-snoc}
 use Rattle.reachable.specs.Pending.{pending-more, bit-no, bit-yes, passed-why, passed-level, mark-same, mark-more}
 use Rattle.reachable.specs.Terms.{Apart}
@@ -47,6 +49,34 @@ module _ (s : State) (f : Reached s) (q ℓ i : ℕ) (d : RequestReads s q ℓ i
 
   abbrev s′ : State
   s′ = doStep (readForRequest q ℓ i) js s
+
+  -- a read of a source's slot begins the run
+  abbrev j′ : ℕ
+  j′ = if Request.isSource s q ℓ then joined s q else s .begun
+
+  begins : Begins s j′
+  begins = request-begins s f q ℓ i d
+
+  still-gathers : (p m : ℕ) → Gathers s p m → Gathers s′ p m
+  unfolding doStep Turn.markRead Turn.send
+  still-gathers p m g = gathers-still s j′ begins p m g
+
+  source-same : (p m : ℕ) → Request.isSource s′ p m ≡ Request.isSource s p m
+  unfolding doStep Turn.markRead Turn.send Request.isSource topOf joined
+  source-same p m = source-still s j′ begins p m
+
+  now-gathers : Request.isSource s q ℓ ≡ true → Gathers s′ q ℓ
+  now-gathers u = source-gathers s′ q ℓ (unfold doStep Turn.markRead Turn.send in (front-calm s f q ℓ i d)) some-jobs (source-same q ℓ ∙ u)
+    where
+      some-jobs : s′ .begun ≡ 0 → ⊥
+      some-jobs e =
+          let w = front-rest (s .queue) q (source-why s q ℓ u .0) in
+          let z : j′ ≡ 0 = unfold doStep Turn.markRead Turn.send in e in
+          omega (arith, joins-front s f q (w .0) (w .1) .0, sym (ap (λ t. if t then joined s q else s .begun) u) ∙ z)
+
+  counted-kept : counted s′ ≡ counted s
+  unfolding doStep Turn.markRead Turn.send counted drawn
+  counted-kept = counted-still s j′ begins
 
   calm : isFront (s .queue) q ≡ true → s .sent ≡ 0
   calm = front-calm s f q ℓ i d
@@ -66,8 +96,8 @@ module _ (s : State) (f : Reached s) (q ℓ i : ℕ) (d : RequestReads s q ℓ i
   marks c = refl
 
   reads-kept : Reads s′
-  unfolding doStep Turn.markRead Turn.send counted drawn pending
-  reads-kept p m hp hm e = ⊎-elim inl (λ k. inr (go (ℕ-discrete p q) (ℕ-discrete m ℓ) k)) (f .reads p m hp hm e)
+  unfolding doStep Turn.markRead Turn.send pending
+  reads-kept p m hp hm e = ⊎-elim (λ g. inl (still-gathers p m g)) (λ k. inr (go (ℕ-discrete p q) (ℕ-discrete m ℓ) k)) (f .reads p m hp hm (rw counted-kept at e))
     where
       still : passedBy (s .partition) (s .request) p m ≡ true → passedBy (s .partition) (s′ .request) p m ≡ true
       still k =
@@ -75,16 +105,21 @@ module _ (s : State) (f : Reached s) (q ℓ i : ℕ) (d : RequestReads s q ℓ i
           passed-level (s .partition) (s .request) r ℓ (suc (length (s .outstanding))) p m (d .inHand) (w .0) (omega (arith, d .left))
 
       more : pending s p m ≤ pending s′ p m
-      more = pending-more s s′ p m (omega arith) still
+      more = pending-more s s′ p m (omega (arith, ap (λ qs. queued qs p) (undrawn-still s j′ begins))) still
 
-      old : ((p ≡ q) × (m ≡ ℓ) → ⊥) → readsOf (s .shape) (s .mark) p m ≤ counted s p % 2 ^ m + pending s p m → readsOf (s .shape) (s′ .mark) p m ≤ counted s p % 2 ^ m + pending s′ p m
-      old n k = omega (arith, mark-same (s .shape) q ℓ i hℓ hi (s .mark) p m hm n, more)
+      same : counted s′ p % 2 ^ m ≡ counted s p % 2 ^ m
+      same = ap (λ c. c p % 2 ^ m) counted-kept
 
-      go : Dec (p ≡ q) → Dec (m ≡ ℓ) → readsOf (s .shape) (s .mark) p m ≤ counted s p % 2 ^ m + pending s p m → readsOf (s .shape) (s′ .mark) p m ≤ counted s p % 2 ^ m + pending s′ p m
+      old : ((p ≡ q) × (m ≡ ℓ) → ⊥) → readsOf (s .shape) (s .mark) p m ≤ counted s p % 2 ^ m + pending s p m → readsOf (s .shape) (s′ .mark) p m ≤ counted s′ p % 2 ^ m + pending s′ p m
+      old n k = omega (arith, mark-same (s .shape) q ℓ i hℓ hi (s .mark) p m hm n, more, same)
+
+      go : Dec (p ≡ q) → Dec (m ≡ ℓ) → readsOf (s .shape) (s .mark) p m ≤ counted s p % 2 ^ m + pending s p m → readsOf (s .shape) (s′ .mark) p m ≤ counted s′ p % 2 ^ m + pending s′ p m
       go (no a) b k = old (λ w. a (w .0)) k
       go (yes a) (no b) k = old (λ w. b (w .1)) k
       go (yes a) (yes b) k = omega (
         arith,
+        same,
+        ap (λ qs. queued qs p) (undrawn-still s j′ begins),
         mark-more (s .shape) q ℓ i hℓ hi (s .mark) p m hm,
         bit-no (passedBy (s .partition) (s .request) p m) (λ j. let w = passed-why (s .partition) (s .request) r p m (d .inHand) j in omega (arith, d .left, w .1)),
         bit-yes (passedBy (s .partition) (s′ .request) p m) (passed-level (s .partition) (s .request) r ℓ (suc (length (s .outstanding))) p m (d .inHand) (d .part ∙ sym a) (omega arith)),
@@ -95,15 +130,15 @@ module _ (s : State) (f : Reached s) (q ℓ i : ℕ) (d : RequestReads s q ℓ i
 
   released-kept : Released s′
   unfolding doStep Turn.markRead Turn.send
-  released-kept x e k = subst (λ (y : Request). (¬ Mem (s .partition (y .block)) (s .queue)) ⊎ Alone s (s .partition (y .block))) (the x e) (f .released r (d .inHand) (d .unheld))
+  released-kept x e k = subst (λ (y : Request). (¬ Mem (s .partition (y .block)) (s .queue)) ⊎ Alone s′ (s .partition (y .block))) (the x e) (⊎-elim inl (λ a. inr (alone-still s j′ begins (s .partition (r .block)) a)) (f .released r (d .inHand) (d .unheld)))
 
   -- of the levels above the one read nothing is read
   unworn-kept : Unworn s′
   unfolding doStep Turn.markRead Turn.send
-  unworn-kept x e k = subst (λ (y : Request). (m : ℕ) → y .level ≤ m → m < h .L → filled (s .counter (s .partition (y .block))) m ≡ true → ¬ Gathers s (s .partition (y .block)) m → readsOf h (s′ .mark) (s .partition (y .block)) m < 2 ^ m) (the x e) above
+  unworn-kept x e k = subst (λ (y : Request). (m : ℕ) → y .level ≤ m → m < h .L → filled (s .counter (s .partition (y .block))) m ≡ true → Request.isSource s′ (s .partition (y .block)) m ≡ false → readsOf h (s′ .mark) (s .partition (y .block)) m < 2 ^ m) (the x e) above
     where
-      above : (m : ℕ) → suc ℓ ≤ m → m < h .L → filled (s .counter (s .partition (r .block))) m ≡ true → ¬ Gathers s (s .partition (r .block)) m → readsOf h (s′ .mark) (s .partition (r .block)) m < 2 ^ m
-      above m l hm full n = omega (arith, mark-same h q ℓ i hℓ hi (s .mark) (s .partition (r .block)) m hm (λ w. omega (arith, w .1)), f .unworn r (d .inHand) (d .unheld) m (omega (arith, d .left)) hm full n)
+      above : (m : ℕ) → suc ℓ ≤ m → m < h .L → filled (s .counter (s .partition (r .block))) m ≡ true → Request.isSource s′ (s .partition (r .block)) m ≡ false → readsOf h (s′ .mark) (s .partition (r .block)) m < 2 ^ m
+      above m l hm full n = omega (arith, mark-same h q ℓ i hℓ hi (s .mark) (s .partition (r .block)) m hm (λ w. omega (arith, w .1)), f .unworn r (d .inHand) (d .unheld) m (omega (arith, d .left)) hm full (sym (source-same (s .partition (r .block)) m) ∙ n))
 
   -- all that is outstanding now is awaited
   unawaited-kept : Unawaited s′
@@ -133,13 +168,13 @@ module _ (s : State) (f : Reached s) (q ℓ i : ℕ) (d : RequestReads s q ℓ i
       y : (m < h .L) × (j < slots m)
       y = place-lt (h .L) m j (s .place b) (f .range .places b hx) e
 
-      go : Dec (cell h p m j ≡ cell h q ℓ i) → (s′ .mark (cell h p m j) ≡ 1) ⊎ (Own s′ b m ⊎ Gathers s p m)
+      go : Dec (cell h p m j ≡ cell h q ℓ i) → (s′ .mark (cell h p m j) ≡ 1) ⊎ (Own s′ b m ⊎ Gathers s′ p m)
       go (no n) = old (f .unread b m j hx e)
         where
-          old : (s .mark (cell h p m j) ≡ 1) ⊎ (Own s b m ⊎ Gathers s p m) → (s′ .mark (cell h p m j) ≡ 1) ⊎ (Own s′ b m ⊎ Gathers s p m)
+          old : (s .mark (cell h p m j) ≡ 1) ⊎ (Own s b m ⊎ Gathers s p m) → (s′ .mark (cell h p m j) ≡ 1) ⊎ (Own s′ b m ⊎ Gathers s′ p m)
           old (inl k) = inl (marks (cell h p m j) ∙ put-other (cell h q ℓ i) 0 (s .mark) (cell h p m j) n ∙ k)
           old (inr (inl o)) = inr (inl (own-still b m o))
-          old (inr (inr k)) = inr (inr k)
+          old (inr (inr k)) = inr (inr (still-gathers p m k))
       go (yes n) =
           let z = cell-inj h p q m ℓ j i (y .0) hℓ (y .1) hi n in
           let a = f .agree .placed b m j hx e .1 in
@@ -148,7 +183,7 @@ module _ (s : State) (f : Reached s) (q ℓ i : ℕ) (d : RequestReads s q ℓ i
           let v : suc b ≡ suc (r .block) = sym a ∙ ap (s .holds) (n ∙ sym own-cell) ∙ a′ in
           inr (inl (r′, (passed, omega (arith, v), omega (arith, z .1)))))
           (⊎-elim (λ k. absurd (omega (arith, sym a ∙ ap (s .holds) n ∙ dummy-free s q ℓ i (k .2) .1)))
-          (λ k. inr (inr (rw (z .0, z .1) (reads-source s f q ℓ i d (k .0))))))
+          (λ k. inr (inr (rw (z .0, z .1) (now-gathers (k .0))))))
           (d .slot)
 
   -- the read passes its level; of the levels before it that it has not passed, those that are filled have been read throughout
@@ -204,7 +239,7 @@ module _ (s : State) (f : Reached s) (q ℓ i : ℕ) (d : RequestReads s q ℓ i
     isRead = still-read (cell h q ℓ i) (cell h (c .partition) (c .level) (c .slot)) (s .mark) (a .isRead);
     full = a .full;
     whose = ⊎-elim (λ k. let w = passed-why (s .partition) (s .request) r (c .partition) (c .level) (d .inHand) k in
-        inl (passed-level (s .partition) (s .request) r ℓ (suc (length (s .outstanding))) (c .partition) (c .level) (d .inHand) (w .0) (omega (arith, w .1, d .left)))) inr (a .whose);
+        inl (passed-level (s .partition) (s .request) r ℓ (suc (length (s .outstanding))) (c .partition) (c .level) (d .inHand) (w .0) (omega (arith, w .1, d .left)))) (λ g. inr (still-gathers (c .partition) (c .level) g)) (a .whose);
   }
 
   reading-new : Reading s′ (cmd read q ℓ i)
@@ -218,70 +253,38 @@ module _ (s : State) (f : Reached s) (q ℓ i : ℕ) (d : RequestReads s q ℓ i
 
   commands-kept : Commands s′
   unfolding doStep Turn.markRead Turn.send
-  commands-kept = all-append (all-map (λ c k. ⊎-elim (λ a. inl (reading-still c a)) inr k) (f .commands)) (cons (inl reading-new) nil)
+  commands-kept = all-append (all-map (λ c k. ⊎-elim (λ a. inl (reading-still c a)) (λ a. inr (subst (λ n. WriteOf h (s .counter) (s .queue) n (s .sent) c) (sym (busy-still s j′ begins (a .busy))) a)) k) (f .commands)) (cons (inl reading-new) nil)
 
   fetched-kept : Fetched s′
   unfolding doStep Turn.markRead Turn.send
   fetched-kept x m j e p l = let w : r′ ≡ x = cc (passed, e) in
       subst (λ (y : Request). s .place (y .block) ≡ stored m j → m < y .level → s′ .mark (cell h (s .partition (y .block)) m j) ≡ 0) w (request-passed m j) p l
 
-  jobless-kept : Jobless s′
-  unfolding doStep Turn.markRead Turn.send
-  jobless-kept e = go (Request.isSource s q ℓ) refl
-    where
-      go : (t : Bool) → Request.isSource s q ℓ ≡ t → (if t then 1 else s .begun) ≡ 0
-      go true u = let m : Mem q [] = rw e at (front-mem (s .queue) q (reads-source s f q ℓ i d u .0)) in absurd m
-      go false u = f .jobless e
-
-  unbegun-kept : Unbegun s′
-  unfolding doStep Turn.markRead Turn.send
-  unbegun-kept e = go (Request.isSource s q ℓ) e
-    where
-      go : (t : Bool) → _≡_ {A = ℕ} (if t then 1 else s .begun) 0 → (s .cursor ≡ 0) × (s .sent ≡ 0)
-      go true e = absurd (omega arith)
-      go false e = f .unbegun e
-
-  untouched-kept : Untouched s′
-  unfolding doStep Turn.markRead Turn.send
-  untouched-kept b m j hx e c a = go (Request.isSource s q ℓ) refl c
-    where
-      -- the slot read is in no level that the job gathers
-      go : (t : Bool) → Request.isSource s q ℓ ≡ t → _≡_ {A = ℕ} (if t then 1 else s .begun) 0 → (s′ .mark (cell h (s .partition b) m j) ≡ 1) ⊎ Own s′ b m
-      go true u c = absurd (omega arith)
-      go false u c = ⊎-elim inl (λ k. ⊎-elim inr gathered k) (unread-kept b m j hx e)
-        where
-          gathered : Gathers s (s .partition b) m → (s′ .mark (cell h (s .partition b) m j) ≡ 1) ⊎ Own s′ b m
-          gathered g =
-              let y = place-lt (h .L) m j (s .place b) (f .range .places b hx) e in
-              let other : ¬ (cell h (s .partition b) m j ≡ cell h q ℓ i) = λ w.
-              let x = cell-inj h (s .partition b) q m ℓ j i (y .0) hℓ (y .1) hi w in
-              true≢false (sym (gathers-source s q ℓ (rw (x .0, x .1) at g)) ∙ u) in
-              ⊎-elim (λ z. inl (put-other (cell h q ℓ i) 0 (s .mark) (cell h (s .partition b) m j) other ∙ z)) (λ o. inr (own-still b m o)) (f .tidy .untouched b m j hx e c a)
-
   tidy-kept : Tidy s′
-  unfolding doStep Turn.markRead Turn.send counted drawn
+  unfolding doStep Turn.markRead Turn.send
   tidy-kept = record {
     partitions = f .tidy .partitions;
     places = f .tidy .places;
     counters = f .tidy .counters;
-    marked = λ c n. f .tidy .marked c (λ z. n (still-read (cell h q ℓ i) c (s .mark) z));
+    marked = λ c n. rw counted-kept (f .tidy .marked c (λ z. n (still-read (cell h q ℓ i) c (s .mark) z)));
     held = f .tidy .held;
     whole = f .tidy .whole;
-    untouched = untouched-kept;
   }
 
   pub request-read-kept : InRange s′ → Reached s′
-  unfolding doStep Turn.markRead Turn.send counted drawn storedAt Live.storedIn
+  unfolding doStep Turn.markRead Turn.send storedAt Live.storedIn
   request-read-kept range = record {
     range = range;
     waiting = f .waiting;
-    orders = f .orders;
-    items = read-items s f (cell h q ℓ i);
-    agree = f .agree;
+    orders = rw counted-kept (f .orders);
+    items = rw counted-kept (read-items s f (cell h q ℓ i));
+    agree = rw counted-kept (f .agree);
     room = f .room;
     full = f .full;
     taken = f .taken;
-    begun = f .begun;
+    begun = λ n. let x = f .begun n in (x .0, x .1, (x .2 .0, subst (λ j. s .sent ≤ slotCount (writtenLevels h (s .counter (x .0)) j)) (sym (busy-still s j′ begins n)) (x .2 .1)));
+    running = running-still s j′ f begins;
+    unbegun = unbegun-still s j′ f begins;
     reads = reads-kept;
     unheld = unheld-kept;
     released = released-kept;
@@ -289,10 +292,9 @@ module _ (s : State) (f : Reached s) (q ℓ i : ℕ) (d : RequestReads s q ℓ i
     unawaited = unawaited-kept;
     unread = unread-kept;
     fetched = fetched-kept;
-    scanned = λ p m j a z l hj c. still-read (cell h q ℓ i) (cell h p m j) (s .mark) (f .scanned p m j a z l hj c);
-    jobless = jobless-kept;
-    unbegun = unbegun-kept;
-    spent = λ p m j a n l hj. still-read (cell h q ℓ i) (cell h p m j) (s .mark) (f .spent p m j a n l hj);
+    scanned = λ p m j a z l hj c.
+        let n : s .begun ≡ 0 → ⊥ = λ k. omega (arith, f .unbegun k .0) in
+        still-read (cell h q ℓ i) (cell h p m j) (s .mark) (f .scanned p m j a z (subst (λ n. Source h (s .counter p) n m) (begun-still s j′ begins n) l) hj c);
     apart = apart-kept;
     commands = commands-kept;
     tidy = tidy-kept;

@@ -1,20 +1,20 @@
--- Document 01, "Edges": those marked *, as one table.
+-- Document 01, "Edges": those marked *, as one table; and runs of several jobs, document 02, P7.
 use mathlib.Core.Path.{_≡_, refl}
-use mathlib.Core.Bool.{true, false}
 use mathlib.Core.List.{List, [], _∷_, _++_, map}
-use Prim.Native.Nat.{ℕ, zero, suc}
+use Prim.Native.Nat.{ℕ}
 use lib.ListN.{length, replicate}
 use lib.Dec.{eqb, ltb}
-use Rattle.lists.specs.Tests.{if_then_else_}
 use Rattle.lists.specs.Search.{keep, below}
+use Rattle.lists.specs.Tests.{if_then_else_}
 use Rattle.rules.specs.Shape.{Shape, slots}
-use Rattle.rules.specs.State.{State, Command, read, write, closed}
-use Rattle.rules.specs.Setters.{_▷_, setQueue, setWaiting}
+use Rattle.rules.specs.State.{State, Command, cmd, read, write, closed}
+use Rattle.rules.specs.Setters.{_▷_, setCounter, setMark, setQueue, setWaiting}
 use Rattle.rules.specs.Draws.{newOrder, draws, orderBounds}
-use Rattle.rules.specs.Levels.{sources, target, grown}
+use Rattle.rules.specs.Levels.{joins, grown, topLevel, sourceLevels, down, writtenLevels}
+use Rattle.rules.specs.Jobs.{leaveQueue, slotCount}
 use Rattle.rules.specs.Open.{fresh}
-use Rattle.rules.specs.Questions.{opening, request, turn, completion, collect, number}
-use Rattle.rules.specs.Run.{Outcome, step, numbersOf}
+use Rattle.rules.specs.Questions.{opening, request, turn, completion, Call, number}
+use Rattle.rules.specs.Run.{Outcome, run, after, numbersOf}
 use Rattle.rules.specs.Unfold.{model, shape, call}
 
 -- ---- Single calls
@@ -31,51 +31,40 @@ two = fresh (shape 2 1 2 1 1 1) (0 ∷ 0 ∷ [])
 reads : State → ℕ → ℕ
 reads s b = number s (call (request read b []) 1000000 (0 ∷ 0 ∷ []) 0)
 
--- ---- Whole jobs, run by calls from an open on: one block, one partition, so each request queues two jobs for partition 0
+-- ---- Whole jobs, run by calls: one block, which is nowhere, one partition of L levels with this counter, whose levels are unread, and n jobs
 
--- a turn, and the completion of its command with a zero; an idle turn leaves the state
-turnOver : State → Command × State
-turnOver s =
-    let r : State × Outcome = step s (call turn 1000000 (replicate 20 1) 1) in
-    let c : Command = r .1 .command in
-    (c, step (r .0) (call (completion c (if eqb (c .kind) read then (0 ∷ []) else [])) 1000000 [] 0) .0)
+resting : ℕ → ℕ → ℕ → State
+resting l c n = fresh (shape 1 1 l 1 1 1) (0 ∷ []) ▷ setCounter (λ q. c) ▷ setMark (λ x. 1) ▷ setQueue (replicate n 0)
 
-first : Command × State → List Command × State → List Command × State
-first one rest = (one .0 ∷ rest .0, rest .1)
+-- a turn for each slot of a level, ascending, and the completion of the command that it should send, of this kind
+sweep : ℕ → ℕ → List ℕ → List Call
+sweep k ℓ [] = []
+sweep k ℓ (i ∷ is) = call turn 1000000 (replicate 9 1) 1 ∷ call (completion (cmd k 0 ℓ i) (if eqb k read then (0 ∷ []) else [])) 1000000 [] 0 ∷ sweep k ℓ is
 
--- turns as long as at least n jobs are queued, at most `fuel` of them: the commands sent, and the state after
-turnsWhile : ℕ → ℕ → State → List Command × State
-turnsWhile zero n s = ([], s)
-turnsWhile (suc fuel) n s = elim (ltb (length (s .queue)) n) [ true ↦ ([], s) | false ↦ first (turnOver s) (turnsWhile fuel n (turnOver s .1)) ]
+reading : ℕ → List Call
+reading ℓ = sweep read ℓ (below (slots ℓ))
 
--- a request with its reads, collected: two more jobs
-looked : State → State
-looked s =
-    let t : State = step s (call (request read 0 []) 1000000 (0 ∷ 0 ∷ []) 0) .0 in
-    step (turnsWhile 9 0 t .1) (call collect 1000000 [] 1) .0
+writing : ℕ → List Call
+writing ℓ = sweep write ℓ (below (slots ℓ))
 
--- the state after an open of L levels and n requests, each with its first job run; and with both
-opened : ℕ → State
-opened l = step closed (call (opening (shape 1 1 l 1 1 1)) 1000000 (0 ∷ []) 0) .0
+-- the levels of some commands
+levelsIn : List ℕ → List Command → List ℕ
+levelsIn ls cs = keep (λ ℓ. ltb 0 (length (keep (λ (c : Command). eqb (c .level) ℓ) cs))) ls
 
-between : ℕ → ℕ → State
-between l zero = opened l
-between l (suc n) = turnsWhile 40 1 (turnsWhile 40 2 (looked (between l n)) .1) .1
+ofKind : ℕ → List Outcome → List Command
+ofKind k os = keep (λ (c : Command). eqb (c .kind) k) (map (λ (o : Outcome). o .command) os)
 
-halfway : ℕ → ℕ → State
-halfway l n = turnsWhile 40 2 (looked (between l n)) .1
+-- of these calls: the levels of the reads that were sent, without repeats, the levels of the writes, highest first, and their number
+reports : ℕ → List Outcome → List ℕ
+reports l os = levelsIn (below l) (ofKind read os) ++ (levelsIn (down l) (ofKind write os) ++ (length (ofKind write os) ∷ []))
 
--- the second job after request n: the counter before it, the levels of its reads without repeats, the level and the number of its writes, the counter after
-levelsOf : ℕ → List Command → List ℕ
-levelsOf l cs = keep (λ ℓ. ltb 0 (length (keep (λ (c : Command). eqb (c .level) ℓ) cs))) (below l)
+-- all this, the counter after them, and how many jobs are left
+ran : ℕ → State → List Call → List ℕ
+ran l s cs = reports l (run s cs) ++ (after s cs .counter 0 ∷ length (after s cs .queue) ∷ [])
 
-job : ℕ → ℕ → List ℕ
-job l n =
-    let s : State = halfway l n in
-    let r : List Command × State = turnsWhile 40 1 s in
-    let rs : List Command = keep (λ (c : Command). eqb (c .kind) read) (r .0) in
-    let ws : List Command = keep (λ (c : Command). eqb (c .kind) write) (r .0) in
-    s .counter 0 ∷ (levelsOf l rs ++ (levelsOf l ws ++ (length ws ∷ r .1 .counter 0 ∷ [])))
+-- of one job, with this counter
+job : ℕ → ℕ → List Call → List ℕ
+job l c cs = ran l (resting l c 1) cs
 
 -- ---- The table
 
@@ -95,16 +84,37 @@ edges =
     ∷ edge (opens 1 3 1 ∷ []) (1 ∷ [])  -- "P = 3 gives 1."
     ∷ edge (opens 1 1 8 ∷ opens 1 1 9 ∷ []) (0 ∷ 1 ∷ [])  -- "L = 8 may pass, 9 gives 1."
     ∷ edge (opens 8 2 3 ∷ opens 9 2 3 ∷ []) (0 ∷ 1 ∷ [])  -- "P = 2, L = 3: N = 8 passes, 9 gives 1."
-    ∷ edge (target three 3 ∷ slots (target three 3) ∷ grown three 3 ∷ []) (2 ∷ 8 ∷ 4 ∷ [])  -- "L = 3, counter 3: target 2, 8 writes, counter 4."
-    ∷ edge (job 3 1) (3 ∷ 0 ∷ 1 ∷ 2 ∷ 8 ∷ 4 ∷ [])  -- the same as a whole job: counter 3, reads of levels 0 and 1, 8 writes to level 2, counter 4
-    ∷ edge (below (sources three 7) ++ (target three 7 ∷ grown three 7 ∷ [])) (0 ∷ 1 ∷ 2 ∷ 2 ∷ 4 ∷ [])  -- "L = 3, counter 7: sources 0 to 2, target 2, counter 4."
-    ∷ edge (job 3 3) (7 ∷ 0 ∷ 1 ∷ 2 ∷ 2 ∷ 8 ∷ 4 ∷ [])  -- the same as a whole job
-    ∷ edge (grown (shape 1 1 1 1 1 1) 1 ∷ job 1 0) (1 ∷ 1 ∷ 0 ∷ 0 ∷ 2 ∷ 1 ∷ [])  -- "L = 1, counter 1: counter 1 again", with the whole job
+    ∷ edge (topLevel three 3 1 ∷ slotCount (writtenLevels three 3 1) ∷ grown three 3 1 ∷ []) (2 ∷ 8 ∷ 4 ∷ [])  -- "L = 3, counter 3: target 2, 8 writes, counter 4."
+    ∷ edge (job 3 3 (reading 0 ++ (reading 1 ++ writing 2))) (0 ∷ 1 ∷ 2 ∷ 8 ∷ 4 ∷ 0 ∷ [])  -- the same as a whole job: reads of levels 0 and 1, 8 writes to level 2, counter 4, no job left
+    ∷ edge (sourceLevels (topLevel three 7 1) 7 ++ (topLevel three 7 1 ∷ grown three 7 1 ∷ [])) (0 ∷ 1 ∷ 2 ∷ 2 ∷ 4 ∷ [])  -- "L = 3, counter 7: sources 0 to 2, target 2, counter 4."
+    ∷ edge (job 3 7 (reading 0 ++ (reading 1 ++ (reading 2 ++ writing 2)))) (0 ∷ 1 ∷ 2 ∷ 2 ∷ 8 ∷ 4 ∷ 0 ∷ [])  -- the same as a whole job
+    ∷ edge (grown (shape 1 1 1 1 1 1) 1 1 ∷ job 1 1 (reading 0 ++ writing 0)) (1 ∷ 0 ∷ 0 ∷ 2 ∷ 1 ∷ 0 ∷ [])  -- "L = 1, counter 1: counter 1 again", with the whole job
     ∷ edge (newOrder 4 (numbersOf (draws (orderBounds 4) (5 ∷ 1 ∷ 2 ∷ [])))) (2 ∷ 0 ∷ 3 ∷ 1 ∷ [])  -- "Words 5, 1, 2 over 4 slots put items 0 to 3 at slots 2, 0, 3, 1."
     ∷ edge (reads (two ▷ setQueue (replicate 62 0)) 0 ∷ reads (two ▷ setQueue (replicate 63 0)) 0 ∷ []) (0 ∷ 7 ∷ [])  -- "62 jobs: accepted; 63: 7."
     ∷ edge (reads (two ▷ setWaiting (0 ∷ [])) 1 ∷ reads (two ▷ setWaiting (0 ∷ [])) 0 ∷ []) (8 ∷ 0 ∷ [])  -- "E waiting: 8 for a block elsewhere, accepted for a waiting one."
     ∷ []
 
 pub edges-hold : map (λ (e : Edge). e .got) edges ≡ map (λ (e : Edge). e .want) edges
-unfolding model opens two reads turnOver first turnsWhile looked opened halfway between levelsOf job edge three edges
+unfolding model opens two reads resting sweep reading writing levelsIn ofKind reports ran job edge three edges
 edges-hold = refl
+
+-- ---- Document 02, P7: runs of several jobs
+
+pub joining : List Edge
+joining =
+    -- counter 2 and 3 jobs: t is 2, level 1 is read, levels 2 and 0 are written with 8 + 2 writes, and no job is left
+    edge (joins three 2 3 ∷ topLevel three 2 3 ∷ (sourceLevels (topLevel three 2 3) 2 ++ writtenLevels three 2 3)) (3 ∷ 2 ∷ 1 ∷ 2 ∷ 0 ∷ [])
+    ∷ edge (ran 3 (resting 3 2 3) (reading 1 ++ (writing 2 ++ writing 0))) (1 ∷ 2 ∷ 0 ∷ 10 ∷ 5 ∷ 0 ∷ [])
+    -- counter 1 and 2 jobs: t is 1, level 0 is read, levels 1 and 0 are written
+    ∷ edge (ran 3 (resting 3 1 2) (reading 0 ++ (writing 1 ++ writing 0))) (0 ∷ 1 ∷ 0 ∷ 6 ∷ 3 ∷ 0 ∷ [])
+    -- "at most 2^L − 1 − counter": counter 5 and 4 jobs: 2 of them run, to counter 7; t is 1, level 0 is read and level 2 is not; 2 jobs are left
+    ∷ edge (ran 3 (resting 3 5 4) (reading 0 ++ (writing 1 ++ writing 0))) (0 ∷ 1 ∷ 0 ∷ 6 ∷ 7 ∷ 2 ∷ [])
+    -- "or just itself when all levels are filled": counter 7 and 3 jobs: one runs, and the counter falls to 4
+    ∷ edge (ran 3 (resting 3 7 3) (reading 0 ++ (reading 1 ++ (reading 2 ++ writing 2)))) (0 ∷ 1 ∷ 2 ∷ 2 ∷ 8 ∷ 4 ∷ 2 ∷ [])
+    -- "all j leave the queue", oldest first
+    ∷ edge (leaveQueue 0 2 (0 ∷ 3 ∷ 0 ∷ 1 ∷ 0 ∷ [])) (3 ∷ 1 ∷ 0 ∷ [])
+    ∷ []
+
+pub joining-holds : map (λ (e : Edge). e .got) joining ≡ map (λ (e : Edge). e .want) joining
+unfolding model resting sweep reading writing levelsIn ofKind reports ran edge three joining
+joining-holds = refl

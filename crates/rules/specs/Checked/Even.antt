@@ -24,17 +24,13 @@ pub passed-none : draws (2 ∷ 4 ∷ []) (65535 ∷ 65535 ∷ []) ≡ some (draw
 unfolding model
 passed-none = refl
 
--- One block, one partition, two levels: a request is collected, its first job is run, and its second has read level 0. The next turn draws an
--- order of four slots, below 4, 3 and 2
+-- One block, one partition, two levels: a request is collected, and its two jobs run together. The next turn draws an order of four slots, below
+-- 4, 3 and 2
 unfoldable pub early : List Call
 early =
     call (opening (shape 1 1 2 1 1 1)) 1000 (0 ∷ []) 0
     ∷ call (request read 0 []) 1000 (65535 ∷ 65535 ∷ []) 0
     ∷ call collect 1000 [] 1
-    ∷ call turn 1000 (65535 ∷ []) 1 ∷ call (completion (cmd write 0 0 0) []) 1000 [] 0
-    ∷ call turn 1000 [] 1 ∷ call (completion (cmd write 0 0 1) []) 1000 [] 0
-    ∷ call turn 1000 [] 1 ∷ call (completion (cmd read 0 0 0) (0 ∷ [])) 1000 [] 0
-    ∷ call turn 1000 [] 1 ∷ call (completion (cmd read 0 0 1) (0 ∷ [])) 1000 [] 0
     ∷ call turn 1000 (8 ∷ 65535 ∷ 65535 ∷ 65535 ∷ []) 1  -- as many words as draws, and more: the draw below 3 is not settled
     ∷ call turn 1000 (8 ∷ 65535 ∷ 65535 ∷ 1 ∷ []) 1  -- the draw below 2 is not settled
     ∷ call turn 1000 (8 ∷ 65535 ∷ 65535 ∷ 1 ∷ 65535 ∷ []) 1  -- two words are passed over, and the last one lent settles the last draw
@@ -45,10 +41,6 @@ pub ended-early : run closed early ≡
     out 0 1 (cmd 0 0 0 0) []
     ∷ out 0 2 (cmd 0 0 0 0) []
     ∷ out 0 0 (cmd 0 0 0 0) (0 ∷ [])
-    ∷ out 0 1 (cmd write 0 0 0) (0 ∷ []) ∷ out 0 0 (cmd 0 0 0 0) []
-    ∷ out 0 0 (cmd write 0 0 1) (0 ∷ []) ∷ out 0 0 (cmd 0 0 0 0) []
-    ∷ out 0 0 (cmd read 0 0 0) [] ∷ out 0 0 (cmd 0 0 0 0) []
-    ∷ out 0 0 (cmd read 0 0 1) [] ∷ out 0 0 (cmd 0 0 0 0) []
     ∷ out 3 0 (cmd 0 0 0 0) []
     ∷ out 3 0 (cmd 0 0 0 0) []
     ∷ out 0 5 (cmd write 0 1 0) (0 ∷ [])

@@ -12,7 +12,8 @@ use Rattle.rules.specs.Run.{step}
 use Rattle.rules.specs.State.{State, Request, closed}
 use Rattle.rules.specs.Unfold.{model}
 use Rattle.rules.specs.Checked.SessionsE.{session10-calls}
-use Rattle.rules.specs.Checked.SessionsF.{session11-calls, session12-calls}
+use Rattle.rules.specs.Checked.SessionsF.{session11-calls}
+use Rattle.rules.specs.Checked.SessionsG.{session13-calls}
 
 -- a released request is in hand
 unfoldable released : Option Request → Bool
@@ -28,17 +29,17 @@ unfoldable lists : State → List Call → List (List (ℕ × ℕ))
 lists s [] = []
 lists s (c ∷ cs) = elim (released (step s c .0 .request) && not (released (s .request))) [ true ↦ listOf (step s c .0) (step s c .0 .request) ∷ lists (step s c .0) cs | false ↦ lists (step s c .0) cs ]
 
--- own slot in a source; dummy of a source; block read by the job, another item read; source with none unread; dummy of another level
-reads10 : lists closed session10-calls ≡ ([] ∷ ((0, 0) ∷ []) ∷ ((1, 3) ∷ []) ∷ ((0, 0) ∷ (2, 7) ∷ []) ∷ [])
+-- own slot in a source; another block of a source; dummy of a source; source with none unread; own slot in another level; dummy of another level
+reads10 : lists closed session10-calls ≡ ([] ∷ ((1, 1) ∷ []) ∷ [] ∷ ((1, 0) ∷ (2, 5) ∷ []) ∷ ((0, 0) ∷ (1, 1) ∷ (2, 1) ∷ []) ∷ [])
 unfolding model session10-calls released listOf lists
 reads10 = refl
 
--- another block of a source; dummy of another level
-reads11 : lists closed session11-calls ≡ ([] ∷ ((1, 2) ∷ []) ∷ ((1, 0) ∷ []) ∷ ((0, 1) ∷ []) ∷ [])
+-- dummy of a source; block read by the job, another item read; dummy of another level
+reads11 : lists closed session11-calls ≡ ([] ∷ [] ∷ ((1, 2) ∷ []) ∷ ((1, 0) ∷ []) ∷ ((0, 1) ∷ (1, 1) ∷ []) ∷ [])
 unfolding model session11-calls released listOf lists
 reads11 = refl
 
--- own slot in a source; dummy of a source; block read by the job, no item unread; source with none unread; own slot in another level
-reads12 : lists closed session12-calls ≡ ([] ∷ [] ∷ ((1, 0) ∷ []) ∷ ((0, 0) ∷ (1, 1) ∷ []) ∷ [])
-unfolding model session12-calls released listOf lists
-reads12 = refl
+-- block read by the job, no item unread; source with none unread; dummy of another level
+reads13 : lists closed session13-calls ≡ ([] ∷ [] ∷ ((0, 0) ∷ (1, 3) ∷ []) ∷ ((0, 1) ∷ []) ∷ ((1, 3) ∷ []) ∷ [] ∷ [])
+unfolding model session13-calls released listOf lists
+reads13 = refl

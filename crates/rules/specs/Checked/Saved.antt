@@ -32,9 +32,13 @@ job =
 unfoldable pub waits : State
 waits = after closed start
 
+-- ..or one, which then runs alone
+unfoldable pub alone : State
+alone = waits ▷ setQueue (0 ∷ [])
+
 -- block 0 is stored, one job is queued
 unfoldable pub stored : State
-stored = after waits job
+stored = after alone job ▷ setQueue (0 ∷ [])
 
 unfoldable pub saves : State → Outcome
 saves s = step s (call save 1000000 [] 100000) .1
@@ -55,7 +59,7 @@ waiting-payload = refl
 
 -- counter 1, a queue of one job; block 0 is in level 0, slot 1; level 0's order is 1, 0, and none of its slots was read
 pub stored-payload : payload stored ≡ 1 ∷ 2 ∷ 0 ∷ 1 ∷ 0 ∷ 2 ∷ 0 ∷ 1 ∷ 0 ∷ 2 ∷ 0 ∷ 1 ∷ 0 ∷ 1 ∷ 0 ∷ 1 ∷ 0 ∷ 0 ∷ 0 ∷ 0 ∷ 0 ∷ 0 ∷ 1 ∷ 0 ∷ 0 ∷ 255 ∷ 1 ∷ 0 ∷ 0 ∷ 0 ∷ []
-unfolding model stored waits start job
+unfolding model stored alone waits start job
 stored-payload = refl
 
 -- one block of 512 bytes; its words sum up to 0x0aff0601
@@ -81,16 +85,16 @@ longest-met = (refl, refl, refl)
 
 -- the form's length is reported, 512 here, and the buffer is asked for by the longest form of the shape: 512 too
 pub saved-answers : map formLength (saves waits ∷ saves stored ∷ saves closed ∷ []) ≡ 512 ∷ 512 ∷ 0 ∷ []
-unfolding model saves waits stored start job
+unfolding model saves alone waits stored start job
 saved-answers = refl
 
 unfoldable pub savesInto : State → ℕ → ℕ
 savesInto s n = number s (call save 1000000 [] n)
 
 -- a buffer too short; a request in hand, a job begun with its command outstanding, a job begun
-pub saving-numbers : savesInto waits 511 ∷ savesInto waits 512 ∷ savesInto (after waits (take 1 job)) 512 ∷ savesInto (after waits (take 2 job)) 512 ∷ savesInto (after waits (take 4 job)) 512
+pub saving-numbers : savesInto waits 511 ∷ savesInto waits 512 ∷ savesInto (after alone (take 1 job)) 512 ∷ savesInto (after alone (take 2 job)) 512 ∷ savesInto (after alone (take 4 job)) 512
     ∷ savesInto (after closed (take 2 start)) 512 ∷ savesInto closed 512 ∷ [] ≡ 2 ∷ 0 ∷ 16 ∷ 16 ∷ 0 ∷ 16 ∷ 2 ∷ []
-unfolding model savesInto waits start job
+unfolding model savesInto alone waits start job
 saving-numbers = refl
 
 -- ---- A session goes on from the loaded state as from the saved one: the second job reads level 0, and a request for block 0 follows
@@ -113,7 +117,7 @@ then =
     ∷ out 0 2 (cmd 0 0 0 0) [] ∷ [])
 
 pub goes-on : (run stored goesOn ≡ then) × (run (loadedForm (savedForm stored)) goesOn ≡ then)
-unfolding model waits stored start job goesOn then
+unfolding model alone waits stored start job goesOn then
 goes-on = (refl, refl)
 
 -- ---- Forms that no save made
@@ -121,7 +125,7 @@ goes-on = (refl, refl)
 -- a wrong sum, a wrong byte, no block, a length that is no multiple of 512; 2 for memory too short, and last
 pub loading-numbers : loads (savedForm stored) ∷ loads (set (savedForm stored) 508 0) ∷ loads (set (savedForm stored) 13 0) ∷ loads [] ∷ loads (drop 1 (savedForm stored))
     ∷ number closed (call (load (savedForm stored)) 10 [] 0) ∷ [] ≡ 0 ∷ 17 ∷ 17 ∷ 17 ∷ 17 ∷ 2 ∷ []
-unfolding model loads waits stored start job
+unfolding model loads alone waits stored start job
 loading-numbers = refl
 
 -- the payload of `stored` with the byte at a place changed, and right sums
@@ -132,7 +136,7 @@ changed i x = loads (inBlocks (set (payload stored) i x))
 -- filled; in slot 2; a place 253; an order that is none; a block in a slot that was read; the other slot read; a mark of 2
 pub stored-changed : map (λ (x : ℕ × ℕ). changed (x .0) (x .1)) ((0, 2) ∷ (5, 9) ∷ (13, 4) ∷ (17, 1) ∷ (21, 1) ∷ (22, 2) ∷ (21, 253) ∷ (26, 0) ∷ (29, 1) ∷ (28, 1) ∷ (28, 2) ∷ [])
     ≡ 18 ∷ 18 ∷ 18 ∷ 18 ∷ 18 ∷ 18 ∷ 18 ∷ 18 ∷ 18 ∷ 0 ∷ 18 ∷ []
-unfolding model changed loads waits stored start job
+unfolding model changed loads alone waits stored start job
 stored-changed = refl
 
 -- Two blocks wait: 1 with the contents 08, and longer 0 with 07. The records in either order load, and bring the same

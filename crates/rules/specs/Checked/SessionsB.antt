@@ -8,86 +8,86 @@ use Rattle.rules.specs.Unfold.{model, shape, call, out, outFound}
 
 unfoldable pub session3-calls : List Call
 session3-calls =
-    (call (opening (shape 4 2 2 1 4 2)) 509 (6650 ∷ 58931 ∷ 12528 ∷ 35152 ∷ []) 0
-    ∷ call (request 2 1 (20 ∷ [])) 509 (36798 ∷ 29094 ∷ 45194 ∷ []) 0
+    (call (opening (shape 4 2 2 1 4 2)) 509 (65535 ∷ 65479 ∷ 46511 ∷ 49280 ∷ []) 0
+    ∷ call (request 1 2 []) 517 (1557 ∷ 62755 ∷ []) 0
     ∷ call (collect) 509 [] 1
-    ∷ call (turn) 509 (64127 ∷ 27667 ∷ []) 1
-    ∷ call (turn) 509 (65456 ∷ []) 1
-    ∷ call (request 1 1 []) 509 (38948 ∷ 3466 ∷ []) 0
+    ∷ call (turn) 511 (20396 ∷ 40630 ∷ 25504 ∷ []) 1
+    ∷ call (request 2 1 (246 ∷ [])) 509 (39159 ∷ 62396 ∷ 65228 ∷ []) 0
+    ∷ call (turn) 509 [] 1
+    ∷ call (completion (cmd 2 1 1 1) []) 509 [] 0
+    ∷ call (turn) 509 [] 1
+    ∷ call (completion (cmd 2 1 1 0) []) 509 [] 0
+    ∷ call (request 0 0 (47 ∷ [])) 511 (44704 ∷ 196 ∷ []) 0
+    ∷ call (turn) 509 [] 1
+    ∷ call (completion (cmd 2 1 1 2) []) 509 [] 0
+    ∷ call (turn) 509 (41367 ∷ 42859 ∷ 38752 ∷ 25317 ∷ 15845 ∷ 65287 ∷ 32905 ∷ []) 1
+    ∷ call (completion (cmd 2 1 1 3) []) 509 [] 0
+    ∷ call (turn) 509 [] 1
+    ∷ call (completion (cmd 1 1 1 3) (0 ∷ [])) 509 [] 0
+    ∷ call (collect) 509 [] 1
+    ∷ call (request 2 3 (80 ∷ [])) 509 (42479 ∷ 13161 ∷ []) 0
+    ∷ call (turn) 515 (59058 ∷ 26065 ∷ []) 1
+    ∷ call (turn) 516 [] 1
     ∷ call (completion (cmd 2 1 0 1) []) 509 [] 0
     ∷ call (completion (cmd 2 1 0 0) []) 509 [] 0
     ∷ call (collect) 509 [] 1
-    ∷ call (turn) 508 (4526 ∷ 42291 ∷ 65534 ∷ 50798 ∷ 3495 ∷ 33908 ∷ 65399 ∷ 25657 ∷ []) 1
-    ∷ call (turn) 509 (26380 ∷ 19202 ∷ []) 1
-    ∷ call (completion (cmd 2 0 0 0) []) 509 [] 0
-    ∷ call (turn) 509 (63702 ∷ []) 1
-    ∷ call (request 2 3 (195 ∷ [])) 509 (37036 ∷ 65092 ∷ 56756 ∷ []) 0
-    ∷ call (completion (cmd 2 0 0 1) []) 509 [] 0
-    ∷ call (turn) 509 [] 1
-    ∷ call (completion (cmd 1 0 0 0) (0 ∷ [])) 515 [] 0
-    ∷ call (turn) 509 [] 1
-    ∷ call (completion (cmd 1 0 0 1) (20 ∷ [])) 513 [] 0
-    ∷ call (turn) 516 (5700 ∷ 38760 ∷ 65535 ∷ []) 1
-    ∷ call (turn) 514 [] 1
-    ∷ call (completion (cmd 2 0 1 0) []) 509 [] 0
-    ∷ call (completion (cmd 2 0 1 1) []) 509 [] 0
+    ∷ call (request 2 2 (119 ∷ [])) 509 (47049 ∷ 22630 ∷ 6938 ∷ []) 0
+    ∷ call (turn) 509 (53746 ∷ 42331 ∷ []) 1
+    ∷ call (turn) 509 (20914 ∷ 36536 ∷ 3995 ∷ []) 1
+    ∷ call (completion (cmd 2 0 1 0) []) 512 [] 0
+    ∷ call (turn) 509 (7422 ∷ []) 1
     ∷ call (turn) 509 [] 1
     ∷ call (completion (cmd 2 0 1 2) []) 509 [] 0
-    ∷ call (turn) 509 [] 1
-    ∷ call (completion (cmd 2 0 1 3) []) 509 [] 0
-    ∷ call (turn) 509 [] 1
-    ∷ call (turn) 508 (55516 ∷ 11906 ∷ 5066 ∷ 13413 ∷ 51826 ∷ 49670 ∷ 34302 ∷ 5909 ∷ []) 1
-    ∷ call (completion (cmd 1 0 1 1) (0 ∷ [])) 509 [] 0
-    ∷ call (collect) 509 [] 1
-    ∷ call (request 1 2 []) 516 (24760 ∷ 65535 ∷ []) 0
-    ∷ call (turn) 509 (59479 ∷ []) 1
-    ∷ call (turn) 512 [] 1
-    ∷ call (completion (cmd 2 0 0 0) (195 ∷ 231 ∷ 255 ∷ 83 ∷ [])) 516 [] 0
-    ∷ call (request 1 1 []) 509 (21511 ∷ 56356 ∷ []) 0
-    ∷ call (request 1 0 []) 509 [] 0
-    ∷ call (completion (cmd 2 0 0 1) []) 513 [] 0
-    ∷ call (completion (cmd 2 0 0 0) []) 509 [] 0
-    ∷ call (turn) 509 [] 1
-    ∷ call (completion (cmd 1 0 0 0) (195 ∷ [])) 509 [] 0
-    ∷ call (turn) 509 [] 1
-    ∷ call (completion (cmd 1 0 0 1) (0 ∷ [])) 512 [] 0
-    ∷ call (turn) 509 [] 1
-    ∷ call (completion (cmd 1 2 1 1) (158 ∷ [])) 514 [] 0
+    ∷ call (turn) 509 (5693 ∷ []) 1
+    ∷ call (completion (cmd 2 0 1 1) []) 515 [] 0
+    ∷ call (completion (cmd 2 0 1 3) []) 516 [] 0
+    ∷ call (turn) 509 (31888 ∷ []) 1
+    ∷ call (completion (cmd 1 1 0 1) (246 ∷ [])) 509 [] 0
     ∷ call (turn) 515 [] 1
-    ∷ call (completion (cmd 1 0 1 2) (20 ∷ [])) 516 [] 0
-    ∷ call (completion (cmd 1 0 1 0) (225 ∷ [])) 509 [] 0
+    ∷ call (completion (cmd 1 1 1 2) (0 ∷ [])) 509 [] 0
     ∷ call (turn) 509 [] 1
-    ∷ call (completion (cmd 1 0 1 3) (0 ∷ [])) 509 [] 0
-    ∷ call (request 1 1 (39 ∷ [])) 509 (30444 ∷ 7990 ∷ []) 0
-    ∷ call (turn) 509 (43659 ∷ 41427 ∷ 41229 ∷ []) 1
-    ∷ call (turn) 509 [] 1
-    ∷ call (completion (cmd 2 0 1 0) []) 509 [] 0
-    ∷ call (turn) 509 (65535 ∷ []) 1
-    ∷ call (completion (cmd 2 0 1 2) []) 509 [] 0
-    ∷ call (turn) 509 [] 1
-    ∷ call (completion (cmd 2 0 1 1) []) 509 [] 0
-    ∷ call (completion (cmd 2 0 1 3) []) 509 [] 0
-    ∷ call (turn) 510 (65429 ∷ []) 1
-    ∷ call (completion (cmd 1 0 1 0) (0 ∷ [])) 509 [] 0
+    ∷ call (completion (cmd 1 1 0 0) (0 ∷ [])) 509 [] 0
     ∷ call (collect) 509 [] 1
-    ∷ call (request 2 2 (171 ∷ [])) 509 (39306 ∷ 36979 ∷ 65139 ∷ []) 0
+    ∷ call (request 1 2 []) 509 (65529 ∷ 8327 ∷ 65514 ∷ []) 0
+    ∷ call (turn) 509 (31931 ∷ []) 1
+    ∷ call (completion (cmd 1 1 1 0) (0 ∷ [])) 513 [] 0
     ∷ call (turn) 509 [] 1
-    ∷ call (turn) 509 (65535 ∷ []) 1
-    ∷ call (completion (cmd 2 0 0 0) []) 517 [] 0
+    ∷ call (completion (cmd 1 1 1 1) (0 ∷ [])) 509 [] 0
+    ∷ call (turn) 509 (12680 ∷ 65535 ∷ 65534 ∷ 20755 ∷ []) 1
+    ∷ call (turn) 515 (26038 ∷ 18518 ∷ 44841 ∷ []) 2
+    ∷ call (turn) 509 [] 1
+    ∷ call (completion (cmd 2 1 1 1) []) 511 [] 0
+    ∷ call (turn) 509 [] 1
+    ∷ call (completion (cmd 2 1 1 2) []) 509 [] 0
+    ∷ call (turn) 509 [] 1
+    ∷ call (completion (cmd 2 1 1 3) []) 509 [] 0
+    ∷ call (completion (cmd 2 1 1 0) []) 509 [] 0
+    ∷ call (turn) 509 (65534 ∷ []) 1
+    ∷ call (completion (cmd 1 1 1 2) (0 ∷ [])) 517 [] 0
+    ∷ call (request 1 2 (248 ∷ [])) 509 (10366 ∷ 58723 ∷ []) 0
+    ∷ call (collect) 509 [] 1
+    ∷ call (request 2 0 (126 ∷ [])) 509 (36293 ∷ 64333 ∷ []) 0
+    ∷ call (turn) 509 [] 1
+    ∷ call (turn) 509 (49831 ∷ []) 1
+    ∷ call (completion (cmd 2 1 0 0) []) 509 [] 0
+    ∷ call (turn) 509 (65519 ∷ []) 1
+    ∷ call (completion (cmd 2 1 0 1) []) 509 [] 0
+    ∷ call (turn) 509 (4995 ∷ []) 1
+    ∷ call (completion (cmd 2 0 0 0) []) 512 [] 0
     ∷ call (turn) 509 [] 1
     ∷ call (completion (cmd 2 0 0 1) []) 509 [] 0
     ∷ call (turn) 509 [] 1
-    ∷ call (completion (cmd 1 0 0 0) (0 ∷ [])) 509 [] 0
-    ∷ call (turn) 509 (63087 ∷ []) 1
-    ∷ call (completion (cmd 1 0 1 2) (20 ∷ [])) 509 [] 0
-    ∷ call (collect) 509 [] 1
-    ∷ call (request 2 0 (167 ∷ [])) 509 (40924 ∷ 65535 ∷ []) 0
-    ∷ call (request 2 0 (100 ∷ [])) 515 (55700 ∷ 65518 ∷ []) 0
-    ∷ call (turn) 509 (30881 ∷ 65528 ∷ 30975 ∷ 45797 ∷ 51967 ∷ 65531 ∷ 65520 ∷ []) 1
-    ∷ call (completion (cmd 1 0 0 1) (0 ∷ [])) 509 [] 0
-    ∷ call (completion (cmd 1 0 0 2) (122 ∷ [])) 509 [] 0
     ∷ call (turn) 509 [] 1
-    ∷ call (turn) 509 (65503 ∷ []) 1
+    ∷ call (completion (cmd 1 1 0 0) []) 509 [] 0
+    ∷ call (completion (cmd 1 1 0 0) (0 ∷ [])) 509 [] 0
+    ∷ call (completion (cmd 1 1 0 1) (0 ∷ [])) 514 [] 0
+    ∷ call (turn) 509 [] 1
+    ∷ call (turn) 513 (62579 ∷ []) 1
+    ∷ call (completion (cmd 1 1 1 1) (80 ∷ [])) 509 [] 0
+    ∷ call (turn) 509 (59593 ∷ 19171 ∷ 10188 ∷ 65479 ∷ 62065 ∷ 58848 ∷ 61417 ∷ []) 1
+    ∷ call (completion (cmd 1 1 1 0) (0 ∷ [])) 509 [] 0
+    ∷ call (request 2 2 []) 509 (10297 ∷ 27417 ∷ []) 0
+    ∷ call (completion (cmd 1 1 1 3) (246 ∷ [])) 509 [] 0
     ∷ [])
 
 session3-outcomes : List Outcome
@@ -95,83 +95,83 @@ session3-outcomes =
     (out 0 4 (cmd 0 0 0 0) []
     ∷ out 0 2 (cmd 0 0 0 0) []
     ∷ out 0 0 (cmd 0 0 0 0) (0 ∷ [])
-    ∷ out 0 1 (cmd 2 1 0 0) (0 ∷ [])
-    ∷ out 0 0 (cmd 2 1 0 1) (0 ∷ [])
+    ∷ out 0 3 (cmd 2 1 1 0) (0 ∷ [])
     ∷ out 0 2 (cmd 0 0 0 0) []
+    ∷ out 0 0 (cmd 2 1 1 1) (0 ∷ [])
     ∷ out 0 0 (cmd 0 0 0 0) []
+    ∷ out 0 0 (cmd 2 1 1 2) (0 ∷ [])
     ∷ out 0 0 (cmd 0 0 0 0) []
-    ∷ outFound 0 0 (cmd 0 0 0 0) (20 ∷ []) foundCache
     ∷ out 2 0 (cmd 0 0 0 0) []
-    ∷ out 0 1 (cmd 2 0 0 0) (0 ∷ [])
+    ∷ out 0 0 (cmd 2 1 1 3) (0 ∷ [])
     ∷ out 0 0 (cmd 0 0 0 0) []
-    ∷ out 0 0 (cmd 2 0 0 1) (20 ∷ [])
-    ∷ out 0 2 (cmd 0 0 0 0) []
+    ∷ out 10 0 (cmd 0 0 0 0) []
     ∷ out 0 0 (cmd 0 0 0 0) []
-    ∷ out 0 0 (cmd 1 0 0 0) []
-    ∷ out 0 0 (cmd 0 0 0 0) []
-    ∷ out 0 0 (cmd 1 0 0 1) []
-    ∷ out 0 0 (cmd 0 0 0 0) []
-    ∷ out 0 3 (cmd 2 0 1 0) (0 ∷ [])
-    ∷ out 0 0 (cmd 2 0 1 1) (0 ∷ [])
-    ∷ out 0 0 (cmd 0 0 0 0) []
-    ∷ out 0 0 (cmd 0 0 0 0) []
-    ∷ out 0 0 (cmd 2 0 1 2) (20 ∷ [])
-    ∷ out 0 0 (cmd 0 0 0 0) []
-    ∷ out 0 0 (cmd 2 0 1 3) (0 ∷ [])
-    ∷ out 0 0 (cmd 0 0 0 0) []
-    ∷ out 0 0 (cmd 1 0 1 1) []
-    ∷ out 2 0 (cmd 0 0 0 0) []
+    ∷ out 0 0 (cmd 1 1 1 3) []
     ∷ out 0 0 (cmd 0 0 0 0) []
     ∷ out 0 0 (cmd 0 0 0 0) (0 ∷ [])
     ∷ out 0 2 (cmd 0 0 0 0) []
-    ∷ out 0 1 (cmd 2 0 0 0) (195 ∷ [])
-    ∷ out 0 0 (cmd 2 0 0 1) (0 ∷ [])
-    ∷ out 12 0 (cmd 0 0 0 0) []
-    ∷ out 4 0 (cmd 0 0 0 0) []
-    ∷ out 4 0 (cmd 0 0 0 0) []
+    ∷ out 0 1 (cmd 2 1 0 0) (0 ∷ [])
+    ∷ out 0 0 (cmd 2 1 0 1) (246 ∷ [])
     ∷ out 0 0 (cmd 0 0 0 0) []
-    ∷ out 0 0 (cmd 0 0 0 0) []
-    ∷ out 0 0 (cmd 1 0 0 0) []
-    ∷ out 0 0 (cmd 0 0 0 0) []
-    ∷ out 0 0 (cmd 1 0 0 1) []
-    ∷ out 0 0 (cmd 0 0 0 0) []
-    ∷ out 0 0 (cmd 1 0 1 0) []
-    ∷ out 11 0 (cmd 0 0 0 0) []
-    ∷ out 0 0 (cmd 1 0 1 2) []
-    ∷ out 0 0 (cmd 0 0 0 0) []
-    ∷ out 0 0 (cmd 0 0 0 0) []
-    ∷ out 0 0 (cmd 1 0 1 3) []
-    ∷ out 0 0 (cmd 0 0 0 0) []
-    ∷ out 4 0 (cmd 0 0 0 0) []
-    ∷ out 0 3 (cmd 2 0 1 0) (0 ∷ [])
-    ∷ out 0 0 (cmd 2 0 1 1) (195 ∷ [])
-    ∷ out 0 0 (cmd 0 0 0 0) []
-    ∷ out 0 0 (cmd 2 0 1 2) (20 ∷ [])
-    ∷ out 0 0 (cmd 0 0 0 0) []
-    ∷ out 0 0 (cmd 2 0 1 3) (0 ∷ [])
-    ∷ out 0 0 (cmd 0 0 0 0) []
-    ∷ out 0 0 (cmd 0 0 0 0) []
-    ∷ out 0 0 (cmd 1 0 1 0) []
     ∷ out 0 0 (cmd 0 0 0 0) []
     ∷ out 0 0 (cmd 0 0 0 0) (0 ∷ [])
     ∷ out 0 2 (cmd 0 0 0 0) []
     ∷ out 3 0 (cmd 0 0 0 0) []
+    ∷ out 0 3 (cmd 2 0 1 0) (0 ∷ [])
+    ∷ out 0 0 (cmd 0 0 0 0) []
+    ∷ out 0 0 (cmd 2 0 1 1) (0 ∷ [])
+    ∷ out 0 0 (cmd 2 0 1 2) (0 ∷ [])
+    ∷ out 0 0 (cmd 0 0 0 0) []
+    ∷ out 0 0 (cmd 2 0 1 3) (0 ∷ [])
+    ∷ out 0 0 (cmd 0 0 0 0) []
+    ∷ out 0 0 (cmd 0 0 0 0) []
+    ∷ out 0 0 (cmd 1 1 0 1) []
+    ∷ out 0 0 (cmd 0 0 0 0) []
+    ∷ out 0 0 (cmd 1 1 1 2) []
+    ∷ out 0 0 (cmd 0 0 0 0) []
+    ∷ out 0 0 (cmd 1 1 0 0) []
+    ∷ out 0 0 (cmd 0 0 0 0) []
+    ∷ outFound 0 0 (cmd 0 0 0 0) (0 ∷ []) (foundLevel 1)
+    ∷ out 0 2 (cmd 0 0 0 0) []
+    ∷ out 0 0 (cmd 1 1 1 0) []
+    ∷ out 0 0 (cmd 0 0 0 0) []
+    ∷ out 0 0 (cmd 1 1 1 1) []
+    ∷ out 0 0 (cmd 0 0 0 0) []
+    ∷ out 0 4 (cmd 2 1 1 0) (0 ∷ [])
+    ∷ out 15 0 (cmd 0 0 0 0) []
+    ∷ out 0 0 (cmd 2 1 1 1) (80 ∷ [])
+    ∷ out 0 0 (cmd 0 0 0 0) []
+    ∷ out 0 0 (cmd 2 1 1 2) (0 ∷ [])
+    ∷ out 0 0 (cmd 0 0 0 0) []
+    ∷ out 0 0 (cmd 2 1 1 3) (246 ∷ [])
+    ∷ out 0 0 (cmd 0 0 0 0) []
+    ∷ out 0 0 (cmd 0 0 0 0) []
+    ∷ out 0 0 (cmd 1 1 1 2) []
+    ∷ out 0 0 (cmd 0 0 0 0) []
+    ∷ out 4 0 (cmd 0 0 0 0) []
+    ∷ outFound 0 0 (cmd 0 0 0 0) (119 ∷ []) foundCache
+    ∷ out 0 2 (cmd 0 0 0 0) []
+    ∷ out 3 0 (cmd 0 0 0 0) []
+    ∷ out 0 1 (cmd 2 1 0 0) (0 ∷ [])
+    ∷ out 0 0 (cmd 0 0 0 0) []
+    ∷ out 0 0 (cmd 2 1 0 1) (0 ∷ [])
+    ∷ out 0 0 (cmd 0 0 0 0) []
     ∷ out 0 1 (cmd 2 0 0 0) (0 ∷ [])
     ∷ out 0 0 (cmd 0 0 0 0) []
     ∷ out 0 0 (cmd 2 0 0 1) (0 ∷ [])
     ∷ out 0 0 (cmd 0 0 0 0) []
-    ∷ out 0 0 (cmd 1 0 0 0) []
+    ∷ out 0 0 (cmd 1 1 0 0) []
+    ∷ out 0 0 (cmd 1 1 0 1) []
+    ∷ out 12 0 (cmd 0 0 0 0) []
     ∷ out 0 0 (cmd 0 0 0 0) []
-    ∷ out 0 0 (cmd 1 0 1 2) []
     ∷ out 0 0 (cmd 0 0 0 0) []
-    ∷ outFound 0 0 (cmd 0 0 0 0) (0 ∷ []) foundCache
-    ∷ out 0 2 (cmd 0 0 0 0) []
+    ∷ out 0 0 (cmd 1 1 1 0) []
+    ∷ out 0 0 (cmd 1 1 1 1) []
+    ∷ out 0 0 (cmd 0 0 0 0) []
+    ∷ out 0 0 (cmd 1 1 1 3) []
+    ∷ out 0 0 (cmd 0 0 0 0) []
     ∷ out 4 0 (cmd 0 0 0 0) []
-    ∷ out 0 0 (cmd 1 0 0 1) []
     ∷ out 0 0 (cmd 0 0 0 0) []
-    ∷ out 11 0 (cmd 0 0 0 0) []
-    ∷ out 0 0 (cmd 1 0 1 1) []
-    ∷ out 0 0 (cmd 1 0 1 3) []
     ∷ [])
 
 session3 : run closed session3-calls ≡ session3-outcomes
@@ -180,170 +180,170 @@ session3 = refl
 
 unfoldable pub session4-calls : List Call
 session4-calls =
-    (call (opening (shape 3 2 2 2 2 3)) 506 (65534 ∷ 15947 ∷ 27615 ∷ []) 0
-    ∷ call (request 3 2 (54 ∷ 90 ∷ [])) 507 (44546 ∷ 65535 ∷ []) 0
-    ∷ call (request 2 0 (164 ∷ 229 ∷ [])) 506 (33862 ∷ 58436 ∷ []) 0
+    (call (opening (shape 3 2 2 2 2 3)) 506 (31692 ∷ 65473 ∷ 48939 ∷ 33304 ∷ []) 0
+    ∷ call (request 2 0 (131 ∷ 80 ∷ [])) 513 (30940 ∷ 8000 ∷ []) 0
+    ∷ call (collect) 506 [] 2
+    ∷ call (request 1 1 []) 509 (65034 ∷ 50207 ∷ 40850 ∷ []) 0
+    ∷ call (turn) 509 (20047 ∷ 56074 ∷ 1070 ∷ []) 2
+    ∷ call (turn) 512 [] 2
+    ∷ call (turn) 506 (11107 ∷ []) 2
+    ∷ call (completion (cmd 2 0 1 1) []) 506 [] 0
+    ∷ call (turn) 506 [] 2
     ∷ call (collect) 508 [] 2
-    ∷ call (turn) 514 (57899 ∷ 50630 ∷ []) 2
-    ∷ call (completion (cmd 2 0 0 0) []) 510 [] 0
-    ∷ call (turn) 514 [] 2
-    ∷ call (completion (cmd 2 0 0 1) []) 506 [] 0
-    ∷ call (turn) 506 [] 2
-    ∷ call (completion (cmd 1 0 0 0) (164 ∷ 229 ∷ [])) 506 [] 0
-    ∷ call (request 2 2 (64 ∷ 185 ∷ [])) 508 (33344 ∷ 49759 ∷ 27665 ∷ []) 0
-    ∷ call (turn) 506 (60076 ∷ []) 2
-    ∷ call (completion (cmd 1 0 0 1) (0 ∷ 0 ∷ [])) 509 [] 0
-    ∷ call (turn) 506 (42201 ∷ 65535 ∷ 65535 ∷ 3768 ∷ 48670 ∷ []) 2
-    ∷ call (turn) 506 [] 2
-    ∷ call (turn) 506 [] 2
-    ∷ call (collect) 506 [] 2
-    ∷ call (completion (cmd 1 1 0 1) (255 ∷ 235 ∷ [])) 506 [] 0
-    ∷ call (completion (cmd 2 0 1 1) []) 511 [] 0
+    ∷ call (completion (cmd 2 0 1 3) []) 506 [] 0
+    ∷ call (completion (cmd 2 0 1 0) []) 514 [] 0
+    ∷ call (request 1 1 []) 506 (8986 ∷ 62026 ∷ []) 0
     ∷ call (completion (cmd 2 0 1 2) []) 506 [] 0
-    ∷ call (request 2 0 (30 ∷ 234 ∷ [])) 506 (50500 ∷ 4396 ∷ []) 0
-    ∷ call (turn) 506 [] 2
-    ∷ call (completion (cmd 2 0 1 3) []) 506 [] 0
-    ∷ call (completion (cmd 2 0 1 0) []) 506 [] 0
-    ∷ call (turn) 506 [] 2
-    ∷ call (completion (cmd 2 0 1 3) []) 506 [] 0
-    ∷ call (completion (cmd 1 0 1 3) (164 ∷ 229 ∷ [])) 514 [] 0
+    ∷ call (turn) 506 (65525 ∷ []) 2
+    ∷ call (turn) 505 (42102 ∷ 43084 ∷ 17888 ∷ 54065 ∷ 32596 ∷ 65216 ∷ 53921 ∷ 543 ∷ []) 2
+    ∷ call (turn) 506 (5854 ∷ 33740 ∷ []) 2
+    ∷ call (completion (cmd 1 0 1 0) (0 ∷ 0 ∷ [])) 506 [] 0
     ∷ call (collect) 506 [] 2
-    ∷ call (request 2 1 (60 ∷ 14 ∷ [])) 506 (8480 ∷ 40355 ∷ []) 0
-    ∷ call (request 2 2 (212 ∷ 31 ∷ [])) 506 (57566 ∷ 59589 ∷ []) 0
-    ∷ call (turn) 513 (65535 ∷ 17083 ∷ []) 2
-    ∷ call (turn) 506 [] 2
-    ∷ call (completion (cmd 2 1 0 1) []) 506 [] 0
-    ∷ call (completion (cmd 0 1 0 0) []) 506 [] 0
-    ∷ call (completion (cmd 2 1 0 0) []) 509 [] 0
-    ∷ call (turn) 506 [] 2
-    ∷ call (completion (cmd 1 1 0 0) (0 ∷ 0 ∷ [])) 506 [] 0
-    ∷ call (turn) 506 (65535 ∷ []) 2
-    ∷ call (completion (cmd 1 1 0 1) (0 ∷ 0 ∷ [])) 506 [] 0
-    ∷ call (turn) 506 (17841 ∷ 12016 ∷ 2906 ∷ []) 2
-    ∷ call (turn) 506 (44338 ∷ []) 2
+    ∷ call (turn) 508 (26171 ∷ 65535 ∷ 38595 ∷ 11175 ∷ []) 2
+    ∷ call (turn) 511 [] 2
+    ∷ call (request 2 2 (211 ∷ 28 ∷ [])) 506 (13828 ∷ 13682 ∷ []) 0
+    ∷ call (turn) 511 (65343 ∷ []) 2
+    ∷ call (completion (cmd 2 1 1 2) []) 506 [] 0
+    ∷ call (turn) 510 [] 2
+    ∷ call (request 2 0 (245 ∷ 56 ∷ [])) 513 (36859 ∷ []) 0
+    ∷ call (completion (cmd 2 1 1 3) []) 506 [] 0
     ∷ call (completion (cmd 2 1 1 1) []) 506 [] 0
     ∷ call (completion (cmd 2 1 1 0) []) 506 [] 0
-    ∷ call (turn) 508 [] 2
-    ∷ call (completion (cmd 2 1 1 2) []) 506 [] 0
     ∷ call (turn) 506 [] 2
-    ∷ call (completion (cmd 2 1 1 3) []) 506 [] 0
-    ∷ call (collect) 506 [] 1
-    ∷ call (turn) 509 [] 2
-    ∷ call (turn) 506 (12485 ∷ []) 2
-    ∷ call (completion (cmd 0 0 0 0) []) 512 [] 0
-    ∷ call (turn) 509 [] 2
-    ∷ call (completion (cmd 2 0 0 1) []) 506 [] 0
-    ∷ call (collect) 506 [] 2
+    ∷ call (turn) 506 (55645 ∷ []) 2
     ∷ call (completion (cmd 2 0 0 0) []) 506 [] 0
-    ∷ call (turn) 511 (1460 ∷ []) 2
-    ∷ call (completion (cmd 1 0 0 0) (64 ∷ 185 ∷ [])) 506 [] 0
+    ∷ call (turn) 506 [] 2
+    ∷ call (completion (cmd 0 1 1 2) []) 506 [] 0
+    ∷ call (collect) 506 [] 2
+    ∷ call (completion (cmd 1 1 1 2) (0 ∷ 0 ∷ [])) 506 [] 0
+    ∷ call (completion (cmd 2 0 0 1) []) 506 [] 0
+    ∷ call (turn) 506 [] 2
     ∷ call (collect) 506 [] 2
     ∷ call (turn) 506 [] 2
-    ∷ call (turn) 506 [] 2
+    ∷ call (request 1 0 []) 506 (63373 ∷ 1706 ∷ []) 0
     ∷ call (completion (cmd 1 0 0 1) (0 ∷ 0 ∷ [])) 506 [] 0
-    ∷ call (collect) 506 [] 2
-    ∷ call (turn) 506 [] 2
-    ∷ call (completion (cmd 1 0 1 0) (0 ∷ 0 ∷ [])) 506 [] 0
-    ∷ call (completion (cmd 1 0 1 2) (0 ∷ 0 ∷ [])) 506 [] 0
-    ∷ call (turn) 506 [] 2
-    ∷ call (collect) 506 [] 2
+    ∷ call (turn) 511 [] 2
+    ∷ call (completion (cmd 1 0 0 0) (0 ∷ 0 ∷ [])) 506 [] 0
     ∷ call (completion (cmd 1 0 1 1) (0 ∷ 0 ∷ [])) 506 [] 0
-    ∷ call (turn) 506 (53892 ∷ 65535 ∷ 444 ∷ 42055 ∷ []) 2
+    ∷ call (turn) 506 [] 2
+    ∷ call (turn) 506 (65535 ∷ []) 2
+    ∷ call (completion (cmd 1 0 1 3) (0 ∷ 0 ∷ [])) 506 [] 0
+    ∷ call (completion (cmd 1 0 1 2) (131 ∷ 80 ∷ [])) 506 [] 0
+    ∷ call (turn) 506 (3241 ∷ 32374 ∷ 25788 ∷ 10752 ∷ []) 2
+    ∷ call (turn) 506 (47015 ∷ []) 2
     ∷ call (completion (cmd 2 0 1 0) []) 506 [] 0
-    ∷ call (request 1 2 []) 506 (65517 ∷ 7897 ∷ []) 0
-    ∷ call (turn) 509 [] 2
     ∷ call (completion (cmd 2 0 1 1) []) 506 [] 0
-    ∷ call (request 3 0 (196 ∷ 164 ∷ [])) 506 (30272 ∷ 50782 ∷ []) 0
-    ∷ call (turn) 506 (6131 ∷ []) 2
-    ∷ call (completion (cmd 2 0 1 2) []) 506 [] 0
+    ∷ call (turn) 506 [] 2
     ∷ call (turn) 506 [] 2
     ∷ call (completion (cmd 2 0 1 3) []) 506 [] 0
-    ∷ call (turn) 506 (65535 ∷ []) 2
-    ∷ call (completion (cmd 1 0 1 1) (0 ∷ 0 ∷ [])) 511 [] 0
+    ∷ call (completion (cmd 2 0 1 2) []) 506 [] 0
+    ∷ call (turn) 506 [] 2
+    ∷ call (turn) 506 (29338 ∷ []) 2
+    ∷ call (turn) 506 (65513 ∷ []) 2
+    ∷ call (request 1 0 []) 506 (65434 ∷ []) 0
+    ∷ call (completion (cmd 2 1 0 1) []) 506 [] 0
+    ∷ call (request 2 0 (119 ∷ 130 ∷ [])) 506 (62517 ∷ 65506 ∷ 41275 ∷ []) 0
+    ∷ call (completion (cmd 2 1 0 0) []) 506 [] 0
+    ∷ call (turn) 506 [] 2
+    ∷ call (completion (cmd 1 0 1 2) (131 ∷ 80 ∷ [])) 506 [] 0
+    ∷ call (turn) 506 (29431 ∷ 59135 ∷ 37200 ∷ 55593 ∷ 50474 ∷ 65528 ∷ 65535 ∷ []) 2
+    ∷ call (collect) 506 [] 2
+    ∷ call (request 0 2 (132 ∷ 150 ∷ [])) 506 (43674 ∷ 65535 ∷ []) 0
+    ∷ call (request 1 2 []) 508 (29484 ∷ 5239 ∷ 65534 ∷ []) 0
+    ∷ call (turn) 506 (35292 ∷ 51491 ∷ []) 2
+    ∷ call (turn) 506 (61787 ∷ []) 2
+    ∷ call (completion (cmd 2 0 0 0) []) 506 [] 0
+    ∷ call (completion (cmd 2 0 0 1) []) 506 [] 0
+    ∷ call (turn) 506 [] 2
+    ∷ call (turn) 506 [] 2
+    ∷ call (turn) 506 [] 2
+    ∷ call (completion (cmd 1 0 0 1) (211 ∷ 28 ∷ [])) 506 [] 0
+    ∷ call (completion (cmd 1 0 1 0) (0 ∷ 0 ∷ [])) 506 [] 0
+    ∷ call (turn) 506 (56701 ∷ []) 2
     ∷ [])
 
 session4-outcomes : List Outcome
 session4-outcomes =
     (out 0 3 (cmd 0 0 0 0) []
-    ∷ out 2 0 (cmd 0 0 0 0) []
     ∷ out 0 2 (cmd 0 0 0 0) []
     ∷ out 0 0 (cmd 0 0 0 0) (0 ∷ 0 ∷ [])
-    ∷ out 0 1 (cmd 2 0 0 0) (164 ∷ 229 ∷ [])
-    ∷ out 0 0 (cmd 0 0 0 0) []
-    ∷ out 0 0 (cmd 2 0 0 1) (0 ∷ 0 ∷ [])
-    ∷ out 0 0 (cmd 0 0 0 0) []
-    ∷ out 0 0 (cmd 1 0 0 0) []
-    ∷ out 0 0 (cmd 0 0 0 0) []
     ∷ out 0 2 (cmd 0 0 0 0) []
-    ∷ out 0 0 (cmd 1 0 0 1) []
-    ∷ out 0 0 (cmd 0 0 0 0) []
-    ∷ out 0 5 (cmd 2 0 1 0) (0 ∷ 0 ∷ [])
+    ∷ out 0 3 (cmd 2 0 1 0) (0 ∷ 0 ∷ [])
     ∷ out 0 0 (cmd 2 0 1 1) (0 ∷ 0 ∷ [])
-    ∷ out 0 0 (cmd 2 0 1 2) (0 ∷ 0 ∷ [])
+    ∷ out 0 0 (cmd 2 0 1 2) (131 ∷ 80 ∷ [])
+    ∷ out 0 0 (cmd 0 0 0 0) []
+    ∷ out 0 0 (cmd 2 0 1 3) (0 ∷ 0 ∷ [])
     ∷ out 0 0 (cmd 0 0 0 0) (0 ∷ 0 ∷ [])
-    ∷ out 11 0 (cmd 0 0 0 0) []
     ∷ out 0 0 (cmd 0 0 0 0) []
     ∷ out 0 0 (cmd 0 0 0 0) []
     ∷ out 0 2 (cmd 0 0 0 0) []
-    ∷ out 0 0 (cmd 2 0 1 3) (164 ∷ 229 ∷ [])
     ∷ out 0 0 (cmd 0 0 0 0) []
-    ∷ out 0 0 (cmd 0 0 0 0) []
-    ∷ out 0 0 (cmd 1 0 1 3) []
-    ∷ out 11 0 (cmd 0 0 0 0) []
-    ∷ out 0 0 (cmd 0 0 0 0) []
-    ∷ outFound 0 0 (cmd 0 0 0 0) (164 ∷ 229 ∷ []) (foundLevel 1)
-    ∷ out 8 0 (cmd 0 0 0 0) []
-    ∷ out 0 2 (cmd 0 0 0 0) []
-    ∷ out 0 1 (cmd 2 1 0 0) (0 ∷ 0 ∷ [])
-    ∷ out 0 0 (cmd 2 1 0 1) (0 ∷ 0 ∷ [])
-    ∷ out 0 0 (cmd 0 0 0 0) []
+    ∷ out 0 0 (cmd 1 0 1 0) []
     ∷ out 2 0 (cmd 0 0 0 0) []
+    ∷ out 3 0 (cmd 0 0 0 0) []
     ∷ out 0 0 (cmd 0 0 0 0) []
-    ∷ out 0 0 (cmd 1 1 0 0) []
-    ∷ out 0 0 (cmd 0 0 0 0) []
-    ∷ out 0 0 (cmd 1 1 0 1) []
-    ∷ out 0 0 (cmd 0 0 0 0) []
-    ∷ out 0 3 (cmd 2 1 1 0) (0 ∷ 0 ∷ [])
+    ∷ outFound 0 0 (cmd 0 0 0 0) (0 ∷ 0 ∷ []) foundCache
+    ∷ out 0 4 (cmd 2 1 1 0) (0 ∷ 0 ∷ [])
     ∷ out 0 0 (cmd 2 1 1 1) (0 ∷ 0 ∷ [])
-    ∷ out 0 0 (cmd 0 0 0 0) []
-    ∷ out 0 0 (cmd 0 0 0 0) []
+    ∷ out 0 2 (cmd 0 0 0 0) []
     ∷ out 0 0 (cmd 2 1 1 2) (0 ∷ 0 ∷ [])
     ∷ out 0 0 (cmd 0 0 0 0) []
     ∷ out 0 0 (cmd 2 1 1 3) (0 ∷ 0 ∷ [])
+    ∷ out 4 0 (cmd 0 0 0 0) []
     ∷ out 0 0 (cmd 0 0 0 0) []
-    ∷ out 14 0 (cmd 0 0 0 0) []
-    ∷ out 3 0 (cmd 0 0 0 0) []
-    ∷ out 0 1 (cmd 2 0 0 0) (64 ∷ 185 ∷ [])
-    ∷ out 2 0 (cmd 0 0 0 0) []
+    ∷ out 0 0 (cmd 0 0 0 0) []
+    ∷ out 0 0 (cmd 0 0 0 0) []
+    ∷ out 0 0 (cmd 1 1 1 2) []
+    ∷ out 0 1 (cmd 2 0 0 0) (0 ∷ 0 ∷ [])
+    ∷ out 0 0 (cmd 0 0 0 0) []
     ∷ out 0 0 (cmd 2 0 0 1) (0 ∷ 0 ∷ [])
-    ∷ out 0 0 (cmd 0 0 0 0) []
+    ∷ out 2 0 (cmd 0 0 0 0) []
     ∷ out 14 0 (cmd 0 0 0 0) []
+    ∷ out 0 0 (cmd 0 0 0 0) []
     ∷ out 0 0 (cmd 0 0 0 0) []
     ∷ out 0 0 (cmd 1 0 0 0) []
-    ∷ out 0 0 (cmd 0 0 0 0) []
-    ∷ out 14 0 (cmd 0 0 0 0) []
-    ∷ out 0 0 (cmd 1 0 1 2) []
+    ∷ out 0 0 (cmd 0 0 0 0) (0 ∷ 0 ∷ [])
     ∷ out 0 0 (cmd 1 0 0 1) []
+    ∷ out 0 2 (cmd 0 0 0 0) []
     ∷ out 0 0 (cmd 0 0 0 0) []
-    ∷ out 14 0 (cmd 0 0 0 0) []
+    ∷ out 0 0 (cmd 1 0 1 1) []
+    ∷ out 0 0 (cmd 0 0 0 0) []
+    ∷ out 0 0 (cmd 0 0 0 0) []
+    ∷ out 0 0 (cmd 1 0 1 2) []
+    ∷ out 0 0 (cmd 1 0 1 3) []
+    ∷ out 0 0 (cmd 0 0 0 0) []
+    ∷ out 0 0 (cmd 0 0 0 0) []
+    ∷ out 0 3 (cmd 2 0 1 0) (0 ∷ 0 ∷ [])
+    ∷ out 0 0 (cmd 2 0 1 1) (0 ∷ 0 ∷ [])
+    ∷ out 0 0 (cmd 0 0 0 0) []
+    ∷ out 0 0 (cmd 0 0 0 0) []
+    ∷ out 0 0 (cmd 2 0 1 2) (131 ∷ 80 ∷ [])
+    ∷ out 0 0 (cmd 2 0 1 3) (0 ∷ 0 ∷ [])
+    ∷ out 0 0 (cmd 0 0 0 0) []
+    ∷ out 0 0 (cmd 0 0 0 0) []
+    ∷ out 3 0 (cmd 0 0 0 0) []
+    ∷ out 0 1 (cmd 2 1 0 0) (0 ∷ 0 ∷ [])
+    ∷ out 0 0 (cmd 2 1 0 1) (0 ∷ 0 ∷ [])
+    ∷ out 4 0 (cmd 0 0 0 0) []
+    ∷ out 0 0 (cmd 0 0 0 0) []
+    ∷ out 4 0 (cmd 0 0 0 0) []
+    ∷ out 0 0 (cmd 0 0 0 0) []
+    ∷ out 0 0 (cmd 1 0 1 2) []
+    ∷ out 0 0 (cmd 0 0 0 0) []
+    ∷ out 10 0 (cmd 0 0 0 0) []
+    ∷ outFound 0 0 (cmd 0 0 0 0) (131 ∷ 80 ∷ []) (foundLevel 1)
+    ∷ out 2 0 (cmd 0 0 0 0) []
+    ∷ out 0 2 (cmd 0 0 0 0) []
+    ∷ out 0 1 (cmd 2 0 0 0) (0 ∷ 0 ∷ [])
+    ∷ out 0 0 (cmd 2 0 0 1) (211 ∷ 28 ∷ [])
+    ∷ out 0 0 (cmd 0 0 0 0) []
+    ∷ out 0 0 (cmd 0 0 0 0) []
+    ∷ out 0 0 (cmd 1 0 0 0) []
+    ∷ out 0 0 (cmd 1 0 0 1) []
     ∷ out 0 0 (cmd 1 0 1 0) []
     ∷ out 0 0 (cmd 0 0 0 0) []
     ∷ out 0 0 (cmd 0 0 0 0) []
     ∷ out 0 0 (cmd 1 0 1 1) []
-    ∷ outFound 0 0 (cmd 0 0 0 0) (64 ∷ 185 ∷ []) (foundLevel 0)
-    ∷ out 0 0 (cmd 0 0 0 0) []
-    ∷ out 0 4 (cmd 2 0 1 0) (0 ∷ 0 ∷ [])
-    ∷ out 0 0 (cmd 0 0 0 0) []
-    ∷ out 0 2 (cmd 0 0 0 0) []
-    ∷ out 0 0 (cmd 2 0 1 1) (0 ∷ 0 ∷ [])
-    ∷ out 0 0 (cmd 0 0 0 0) []
-    ∷ out 2 0 (cmd 0 0 0 0) []
-    ∷ out 0 0 (cmd 2 0 1 2) (30 ∷ 234 ∷ [])
-    ∷ out 0 0 (cmd 0 0 0 0) []
-    ∷ out 0 0 (cmd 2 0 1 3) (0 ∷ 0 ∷ [])
-    ∷ out 0 0 (cmd 0 0 0 0) []
-    ∷ out 0 0 (cmd 1 0 1 1) []
-    ∷ out 0 0 (cmd 0 0 0 0) []
     ∷ [])
 
 session4 : run closed session4-calls ≡ session4-outcomes

@@ -6,7 +6,7 @@ use mathlib.Core.List.{List, [], _∷_}
 use mathlib.Core.Option.{Option, none, some, Option·getD}
 use Prim.Native.Nat.{ℕ, suc}
 use lib.ListN.{length}
-use lib.Dec.{eqb, ltb}
+use lib.Dec.{eqb}
 use Rattle.lists.specs.Search.{any}
 use Rattle.lists.specs.Tests.{if_then_else_}
 use Rattle.rules.specs.Completion.{complete}
@@ -15,13 +15,13 @@ use Rattle.rules.specs.Form.Reading.{Form, getForm}
 use Rattle.rules.specs.Form.Sums.{outOfBlocks}
 use Rattle.rules.specs.Laws.Shapes.{unawaited, complete-keeps}
 use Rattle.rules.specs.Questions.{turn, completion}
-use Rattle.rules.specs.Levels.{target}
+use Rattle.rules.specs.Jobs.{levelsOf, writeAt}
 use Rattle.rules.specs.Rebuild.{unread, doRebuild}
 use Rattle.rules.specs.Request.{passLevel, releasedFor}
 use Rattle.rules.specs.Run.{perform}
-use Rattle.rules.specs.Shape.{Shape, slots}
+use Rattle.rules.specs.Shape.{Shape}
 use Rattle.rules.specs.State.{State, closed, Command, Request}
-use Rattle.rules.specs.Turn.{Step, idle, noDummy, readForRequest, readForJob, rebuild, writeNext, gatherStep, rebuildStep, writeStep, jobStep, requestStep, decide, doStep, markRead, send}
+use Rattle.rules.specs.Turn.{Step, idle, noDummy, readForRequest, readForJob, rebuild, writeNext, gatherStep, rebuildStep, nextWrite, writeStep, jobStep, requestStep, decide, doStep, markRead, send}
 
 -- a read for a request
 unfoldable forRequest : Step → Bool
@@ -33,19 +33,18 @@ forRequest (rebuild q t) = false
 forRequest (writeNext q t i) = false
 
 job-not : (s : State) (qs : List ℕ) → forRequest (jobStep s qs) ≡ false
-unfolding forRequest jobStep gatherStep rebuildStep writeStep
+unfolding forRequest jobStep gatherStep rebuildStep nextWrite writeStep
 job-not s [] = refl
-job-not s (q ∷ qs) = go (eqb (s .sent) 0) (unread s q) (any (λ c. eqb (c .partition) q) (s .outstanding) || releasedFor (s .partition) (s .request) q) (ltb (s .sent) (slots t))
+job-not s (q ∷ qs) =
+    go (eqb (s .sent) 0) (unread s q) (any (λ c. eqb (c .partition) q) (s .outstanding) || releasedFor (s .partition) (s .request) q) (writeAt (levelsOf s q) (s .sent))
   where
-    t : ℕ
-    t = target (s .shape) (s .counter q)
-
-    go : (a : Bool) (o : Option (ℕ × ℕ)) (b c : Bool) → forRequest (if a then gatherStep q o (if b then idle else rebuild q t) else (if c then writeNext q t (s .sent) else idle)) ≡ false
-    go true none true c = refl
-    go true none false c = refl
-    go true (some p) b c = refl
-    go false o b true = refl
-    go false o b false = refl
+    go : (a : Bool) (o : Option (ℕ × ℕ)) (b : Bool) (w : Option (ℕ × ℕ))
+        → forRequest (if a then gatherStep q o (if b then idle else rebuild q (levelsOf s q)) else nextWrite q w) ≡ false
+    go true none true w = refl
+    go true none false w = refl
+    go true (some p) b w = refl
+    go false o b none = refl
+    go false o b (some p) = refl
 
 -- .. is decided with a request in hand only
 pub reads-asked : (s : State) (q ℓ i : ℕ) → decide s ≡ readForRequest q ℓ i → s .request ≡ none → ⊥

@@ -28,7 +28,7 @@ use Rattle.rules.specs.Reader.{levelsLeft}
 use Rattle.rules.specs.Run
 use Rattle.rules.specs.Run.{perform, step, after}
 use Rattle.rules.specs.State.{State, Command, cmd, read, write, Request}
-use Rattle.rules.specs.Turn.{Step, idle, noDummy, readForRequest, readForJob, rebuild, writeNext, decide, doStep, markRead, send}
+use Rattle.rules.specs.Turn.{Step, idle, noDummy, readForRequest, readForJob, rebuild, writeNext, decide, command, doStep, markRead, send}
 
 -- Of the commands xs those that these calls do not complete
 abbrev completes : Ask → List Command → List Command
@@ -108,7 +108,7 @@ module _ {xs : List Command} {b q : ℕ} where
   }
 
   turn-awaits : (s : State) (x : Step) (js : List ℕ) → Awaits xs b q s → Awaits xs b q (doStep x js s)
-  unfolding doStep markRead send doRebuild
+  unfolding doStep markRead send doRebuild command
   turn-awaits s idle js f = f
   turn-awaits s noDummy js f = f
   turn-awaits s (readForRequest p ℓ i) js f = record {
@@ -131,7 +131,7 @@ module _ {xs : List Command} {b q : ℕ} where
     few = longer s f;
   }
   turn-awaits s (readForJob p ℓ i) js f = sent s (doStep (readForJob p ℓ i) js s) (cmd read p ℓ i) refl refl refl f
-  turn-awaits s (rebuild p t) js f = sent s (doStep (rebuild p t) js s) (cmd write p t 0) refl refl refl f
+  turn-awaits s (rebuild p t) js f = sent s (doStep (rebuild p t) js s) (command (rebuild p t)) refl refl refl f
   turn-awaits s (writeNext p t i) js f = sent s (doStep (writeNext p t i) js s) (cmd write p t i) refl refl refl f
 
   release-awaits : (s : State) → Awaits xs b q s → Awaits xs b q (release s)
@@ -161,15 +161,15 @@ module _ (s : State) (c : Command) (bs : List ℕ) where
       s′ : State
       s′ = completed c s
 
-      ended : (q : ℕ) (qs : List ℕ) (t : Bool) → parts (if t then Completion.endJob q qs s′ else s′) ≡ parts s′
-      ended q qs true = refl
-      ended q qs false = refl
+      ended : (q : ℕ) (t : Bool) → parts (if t then Completion.endJob q s′ else s′) ≡ parts s′
+      ended q true = refl
+      ended q false = refl
 
       go : (t : Bool) (b : Option ℕ) (qs : List ℕ) → parts (if t then Completion.gatherBytes b bs s′ else Completion.finishJob qs s′) ≡ parts s′
       go true none qs = refl
       go true (some b) qs = refl
       go false b [] = refl
-      go false b (q ∷ qs) = ended q qs (Completion.jobDone s′ q)
+      go false b (q ∷ qs) = ended q (Completion.jobDone s′ q)
 
   completion-awaits : {xs : List Command} {b q : ℕ} → Awaits xs b q s → Awaits (without (isCommand c) xs) b q (complete c bs s)
   completion-awaits {xs} {b} {q} f =

@@ -10,7 +10,7 @@ use lib.Pow.{pow-mono}
 use borrow.Author.Tests.{leb-true}
 use Rattle.lists.specs.Search.{isNone, all}
 use Rattle.lists.specs.Members.{all-mem, member-mem}
-use Rattle.lists.specs.All.{all-yes, All, nil, cons, all-map, all-replicate}
+use Rattle.lists.specs.All.{all-yes, All, nil, cons, all-map, all-replicate, all-append}
 use Rattle.lists.specs.Tests.{every-yes, between, and-r}
 use Rattle.rules.specs.Laws.Levels.{partitions-pos}
 use Rattle.rules.specs.Laws.Decided.{StepIn, decide-in}
@@ -20,6 +20,7 @@ use Rattle.rules.specs.Shape.{Shape, within, slots}
 use Rattle.rules.specs.State.{State}
 use Rattle.rules.specs.Draws.{draws, orderBounds}
 use Rattle.rules.specs.Turn.{stepBounds, decide, Step, idle, noDummy, readForRequest, readForJob, rebuild, writeNext}
+use Rattle.rules.specs.Jobs.{ordersBounds}
 
 abbrev pub Few : ℕ → Type 0
 Few m = (0 < m) × (m ≤ 65536)
@@ -41,17 +42,23 @@ orders-few zero l = nil
 orders-few (suc zero) l = nil
 orders-few (suc (suc i)) l = let here : Few (suc (suc i)) = (omega arith, l) in cons here (orders-few (suc i) (omega arith))
 
-pub step-few : (h : Shape) → within h ≡ true → (x : Step) → StepIn h x → All Few (stepBounds x)
+-- of several levels
+levels-orders : (h : Shape) → within h ≡ true → (ls : List ℕ) → All (λ ℓ. ℓ < h .L) ls → All Few (ordersBounds ls)
+unfolding ordersBounds
+levels-orders h w [] nil = nil
+levels-orders h w (ℓ ∷ ls) (cons k ks) = all-append (orders-few (slots ℓ) (levels-few h w ℓ k)) (levels-orders h w ls ks)
+
+pub step-few : (s : State) → within (s .shape) ≡ true → (x : Step) → StepIn s x → All Few (stepBounds x)
 unfolding stepBounds
-step-few h w idle k = nil
-step-few h w noDummy k = nil
-step-few h w (readForRequest q ℓ i) k = nil
-step-few h w (readForJob q ℓ i) k = nil
-step-few h w (rebuild q t) k = orders-few (slots t) (levels-few h w t (k .1))
-step-few h w (writeNext q t i) k = nil
+step-few s w idle k = nil
+step-few s w noDummy k = nil
+step-few s w (readForRequest q ℓ i) k = nil
+step-few s w (readForJob q ℓ i) k = nil
+step-few s w (rebuild q ls) k = levels-orders (s .shape) w ls (k .1)
+step-few s w (writeNext q t i) k = nil
 
 pub turn-few : (s : State) → InRange s → All Few (stepBounds (decide s))
-turn-few s f = step-few (s .shape) (f .shape) (decide s) (decide-in s f)
+turn-few s f = step-few s (f .shape) (decide s) (decide-in s f)
 
 -- the word 0 settles each of such draws
 pub enough-zeros : (ms : List ℕ) → All Few ms → (w : ℕ) → not (isNone (draws ms (replicate w 0))) ≡ leb (length ms) w

@@ -8,7 +8,7 @@ use native.Mathlib.Omega.{arith}
 use native.Mathlib.Decide.{decLt}
 use native.Mathlib.Numerals.{add-one}
 use lib.ListN.{length, getD, take, drop, replicate, length-append, drop-of-length-le}
-use lib.Seq.{drop-cons, getD-take, length-take-le}
+use lib.Seq.{drop-cons, getD-take, length-take-le, drop-at}
 use lib.Dec.{leb}
 use borrow.Author.Tests.{le-leb}
 use Rattle.lists.specs.Search.{isNone}
@@ -32,6 +32,11 @@ ahead-ahead n k is js none = refl
 ahead-ahead n k is js (some d) =
     let e : n + (k + d .taken) ≡ n + k + d .taken = omega arith in
     rw (e, append-assoc is js (d .numbers))
+
+none-ahead : (o : Option Drawn) → o ≡ ahead 0 [] o
+unfolding ahead
+none-ahead none = refl
+none-ahead (some d) = let e : d .taken ≡ 0 + d .taken = omega arith in ap (λ n. some (drawn (d .numbers) n)) e
 
 first-ahead : (j : ℕ) (o : Option Drawn) → drawnFirst j o ≡ ahead 1 (j ∷ []) o
 unfolding drawnFirst ahead
@@ -105,12 +110,7 @@ pub record Reaches (ms ws ms′ : List ℕ) (k : ℕ) : Type 0 where
   pub drawn : draws ms ws ≡ ahead k numbers (draws ms′ (drop k ws))
 
 pub reaches-start : (ms ws : List ℕ) → Reaches ms ws ms 0
-unfolding ahead
-reaches-start ms ws = record { numbers = []; drawn = same (draws ms ws) }
-  where
-    same : (o : Option Drawn) → o ≡ ahead 0 [] o
-    same none = refl
-    same (some d) = let e : d .taken ≡ 0 + d .taken = omega arith in ap (λ n. some (drawn (d .numbers) n)) e
+reaches-start ms ws = record { numbers = []; drawn = none-ahead (draws ms ws) }
 
 pub reaches-next : (ms ws : List ℕ) (m : ℕ) (ms′ : List ℕ) (k r : ℕ) → Reaches ms ws (m ∷ ms′) k → SettledBy m ws k r → r < length ws → Reaches ms ws ms′ (suc r)
 reaches-next ms ws m ms′ k r x y l =
@@ -176,3 +176,78 @@ module _ (ms ws : List ℕ) (h : Straight ms ws) (l : length ms ≤ length ws) w
   draws-number i k =
       settles-number (h .0, all-take (takenOf (draws ms ws)) (h .1)) settled-all i k
       ∙ ap (λ w. w % getD ms i 0) (getD-take (takenOf (draws ms ws)) ws i 0 (omega (arith, taken-all)))
+
+-- ---- Draws one behind the other
+
+-- the word that settles a draw is followed by those of the others
+pub settle-taken : (m : ℕ) (ms ws : List ℕ) (k r : ℕ) → SettledBy m ws k r → Enough (m ∷ ms) (drop k ws)
+    → r + 1 + takenOf (draws ms (drop (r + 1) ws)) ≡ k + takenOf (draws (m ∷ ms) (drop k ws))
+settle-taken m ms ws k r x e =
+    let n = settle-next m ms ws k r x e in
+    rw (add-one r, draws-next m ms ws k r x (n .0)) (go (draws ms (drop (suc r) ws)) (rw (add-one r) at (n .1)))
+  where
+    go : (o : Option Drawn) → not (isNone o) ≡ true → suc r + takenOf o ≡ k + takenOf (ahead (suc (r - k)) (draw m (getD ws r 0) ∷ []) o)
+    go none h = absurd (true≢false (sym (unfold isNone in h)))
+    go (some d) h = unfold ahead takenOf in (omega (arith, x .from))
+
+settles-more : {ms ds js : List ℕ} → Settles ms ds js → (ns us : List ℕ) → draws (ms ++ ns) (ds ++ us) ≡ ahead (length ds) js (draws ns us)
+settles-more done ns us = none-ahead (draws ns us)
+settles-more (takes {m = m} {w = w} {ms = ms} {ws = ws} {js = js} l k) ns us =
+    let e : 1 + length ws ≡ suc (length ws) = omega arith in
+    draws-takes m w (ms ++ ns) (ws ++ us) l ∙ first-ahead _ _ ∙ ap (ahead 1 (draw m w ∷ [])) (settles-more k ns us) ∙ ahead-ahead 1 (length ws) (draw m w ∷ []) js (draws ns us)
+    ∙ ap (λ n. ahead n (draw m w ∷ js) (draws ns us)) e
+settles-more (passes {m = m} {w = w} {ms = ms} {ws = ws} {js = js} l k) ns us = draws-passes m w (ms ++ ns) (ws ++ us) l ∙ ap passOver (settles-more k ns us) ∙ pass-ahead _ _ _
+
+none-more : (ms ns ws : List ℕ) → draws ms ws ≡ none → draws (ms ++ ns) ws ≡ none
+none-more [] ns ws e = absurd (never (unfold draws in e))
+  where
+    never : some (drawn [] 0) ≡ none → ⊥
+    never z = let y : _≡_ {A = ℕ} 0 1 = cc in omega arith
+none-more (m ∷ ms) ns [] e = unfold draws in refl
+none-more (m ∷ ms) ns (w ∷ ws) e = go (decLt w (limit m)) (none-more ms ns ws) (none-more (m ∷ ms) ns ws)
+  where
+    first-none : (j : ℕ) (o : Option Drawn) → drawnFirst j o ≡ none → o ≡ none
+    first-none j none z = refl
+    first-none j (some d) z = absurd (let y : _≡_ {A = ℕ} 0 1 = unfold drawnFirst in (cc z) in omega arith)
+
+    pass-none : (o : Option Drawn) → passOver o ≡ none → o ≡ none
+    pass-none none z = refl
+    pass-none (some d) z = absurd (let y : _≡_ {A = ℕ} 0 1 = unfold passOver in (cc z) in omega arith)
+
+    go : Dec (w < limit m) → (draws ms ws ≡ none → draws (ms ++ ns) ws ≡ none) → (draws (m ∷ ms) ws ≡ none → draws (m ∷ (ms ++ ns)) ws ≡ none) → draws (m ∷ (ms ++ ns)) (w ∷ ws) ≡ none
+    go (yes l) a b =
+        let n = a (first-none (draw m w) (draws ms ws) (sym (draws-takes m w ms ws l) ∙ e)) in
+        draws-takes m w (ms ++ ns) ws l ∙ ap (drawnFirst (draw m w)) n ∙ unfold drawnFirst in refl
+    go (no l) a b =
+        let n = b (pass-none (draws (m ∷ ms) ws) (sym (draws-passes m w ms ws (omega arith)) ∙ e)) in
+        draws-passes m w (ms ++ ns) ws (omega arith) ∙ ap passOver n ∙ unfold passOver in refl
+
+-- Words that are enough for draws below ms and then below ns: the first draws take what they take alone, and the words behind that are enough for the others
+pub record Behind (ms ns ws : List ℕ) : Type 0 where
+  pub first : Enough ms ws
+  pub long : length (numbersOf (draws ms ws)) ≡ length ms
+  pub then : Enough ns (drop (takenOf (draws ms ws)) ws)
+  pub numbers : numbersOf (draws (ms ++ ns) ws) ≡ numbersOf (draws ms ws) ++ numbersOf (draws ns (drop (takenOf (draws ms ws)) ws))
+
+pub draws-behind : (ms ns ws : List ℕ) → Enough (ms ++ ns) ws → Behind ms ns ws
+unfolding takenOf isNone numbersOf
+draws-behind ms ns ws e = go (lent ms ws)
+  where
+    go : Lent ms ws → Behind ms ns ws
+    go (ended n) = absurd (true≢false (sym e ∙ ap (λ (o : Option Drawn). not (isNone o)) (none-more ms ns ws n) ∙ unfold isNone in refl))
+    go (settled ds us js p k) = rw p (record {
+      first = rw one (unfold isNone in refl);
+      long = rw one (unfold numbersOf in (settles-numbers k));
+      then = rw (one, takenOf, drop-at ds us (length ds) refl) (some-behind (draws ns us) (rw (← more) (rw p at e)) .0);
+      numbers = rw (one, takenOf, numbersOf, drop-at ds us (length ds) refl, more) (some-behind (draws ns us) (rw (← more) (rw p at e)) .1);
+    })
+      where
+        one : draws ms (ds ++ us) ≡ some (drawn js (length ds))
+        one = settles-draws k us
+
+        more : draws (ms ++ ns) (ds ++ us) ≡ ahead (length ds) js (draws ns us)
+        more = settles-more k ns us
+
+        some-behind : (o : Option Drawn) → not (isNone (ahead (length ds) js o)) ≡ true → (not (isNone o) ≡ true) × (numbersOf (ahead (length ds) js o) ≡ js ++ numbersOf o)
+        some-behind none h = absurd (true≢false (sym (unfold ahead isNone in h)))
+        some-behind (some d) h = (unfold isNone in refl, unfold ahead numbersOf in refl)

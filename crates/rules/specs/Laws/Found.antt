@@ -14,6 +14,7 @@ use Rattle.rules.specs.Blocks.{lookUp}
 use Rattle.rules.specs.Collect.{carried, finished}
 use Rattle.rules.specs.Completion.{complete}
 use Rattle.rules.specs.Draws.{draws}
+use Rattle.rules.specs.Jobs.{joined, topOf}
 use Rattle.rules.specs.Laws.Answers.{Passed, opens, accepted-passed, step-accepted, refused-keeps, accepted-leaves}
 use Rattle.rules.specs.Laws.Shapes.{unawaited, complete-keeps}
 use Rattle.rules.specs.Questions.{Ask, opening, request, turn, completion, collect, save, load, Call, bounds, questions, number, inHand}
@@ -113,7 +114,7 @@ module _ (s : State) (c : Call) (b : ℕ) (x : Option Found) (e : hand (s .reque
       let js : List ℕ = Run.numbersOf (draws (bounds s (c .ask)) (c .words)) in
       let w : step s c .0 ≡ release (perform s (c .ask) js) = accepted-leaves s c z in
       let h = release-hand (perform s (c .ask) js) b x (perform-hand s (c .ask) (c .memory) (c .words) (c .buffer) js (b, x) e o (λ v. k v z) y) in
-      rw w (unfold lookUp heldFor undrawnOnly worn isSource in h)
+      rw w (unfold lookUp heldFor undrawnOnly worn isSource topOf joined in h)
 
   refused-hand : (number s c ≡ 0 → ⊥) → step s c .0 ≡ s
   refused-hand n = refused-keeps s c o n
@@ -209,4 +210,4 @@ found-when-released s c k b bs w z ds v e u y = found-first e u ds (step s c .0)
         let js : List ℕ = Run.numbersOf (draws (bounds s (c .ask)) (c .words)) in
         let x : step s c .0 ≡ release (perform s (c .ask) js) = accepted-leaves s c z in
         let h = release-hand (perform s (c .ask) js) b none (accepts (c .ask) js w) in
-        rw x (unfold lookUp heldFor undrawnOnly worn isSource in h)
+        rw x (unfold lookUp heldFor undrawnOnly worn isSource topOf joined in h)

@@ -1,41 +1,41 @@
 -- Every accepted call leaves each number of the state in its range.
-use mathlib.Core.Path.{_≡_, refl, sym}
+use mathlib.Core.Path.{_≡_, refl, sym, ap, _∙_}
 use mathlib.Core.Bool.{Bool, true, false, true≢false, not, _&&_}
-use mathlib.Core.List.{List, [], _∷_, _++_, map}
+use mathlib.Core.List.{List, [], _∷_, _++_}
 use mathlib.Core.Option.{Option, none, some, Option·map}
 use Prim.Native.Nat.{ℕ, suc, _+_, _-_, _^_, _≤_, _<_}
 use native.Mathlib.Omega.{arith}
-use lib.ListN.{length, replicate, length-append}
+use lib.ListN.{length, getD, replicate, length-append}
 use lib.Dec.{eqb, leb}
 use lib.Pow.{pow-pos}
 use borrow.Author.Tests.{eqb-true, eqb-false, leb-true, ltb-true}
 use Rattle.lists.specs.Search
-use Rattle.lists.specs.Search.{indexOf}
+use Rattle.lists.specs.Search.{without}
 use Rattle.lists.specs.Lengths.{without-length, firstLeft-le}
 use Rattle.lists.specs.Tests
 use Rattle.lists.specs.Tests.{if_then_else_, and-l, and-r, every-yes}
-use Rattle.lists.specs.All.{All, nil, cons, IfSome, all-append, all-keep, all-without, all-getD, map-below, all-replicate, below-below}
-use Rattle.lists.specs.Tables.{put, putAll-has, put-has}
+use Rattle.lists.specs.All.{All, nil, cons, IfSome, all-append, all-keep, all-without, all-getD, all-replicate}
+use Rattle.lists.specs.Tables.{put, put-has}
 use Rattle.rules.specs.Memory
 use Rattle.rules.specs.Blocks
-use Rattle.rules.specs.Levels.{grown}
-use Rattle.rules.specs.Laws.Range.{PlaceIn, FoundIn, CommandIn, RequestIn, JobsIn, InRange, range-facts}
+use Rattle.rules.specs.Laws.Range.{PlaceIn, FoundIn, CommandIn, RequestIn, JobsIn, InRange, range-facts, JobIn}
+use Rattle.rules.specs.Jobs.{joined, leaveQueue}
 use Rattle.rules.specs.Request
-use Rattle.rules.specs.Laws.Orders.{drew-each, order-below, length-order}
-use Rattle.rules.specs.Laws.Levels.{grown-lt, partitions-pos, levels-pos, slots-le}
-use Rattle.rules.specs.Laws.Layout.{cell-inj, offset-in}
-use Rattle.rules.specs.Shape.{Shape, cell, slots, within}
-use Rattle.rules.specs.Laws.Decided.{StepIn, stepBounds-pos, decide-in}
+use Rattle.rules.specs.Laws.Orders.{drew-each}
+use Rattle.rules.specs.Laws.Levels.{grown-lt, partitions-pos, levels-pos}
+use Rattle.rules.specs.Laws.Layout.{offset-in}
+use Rattle.rules.specs.Shape.{Shape, cell, within}
+use Rattle.rules.specs.Laws.Decided.{Front, StepIn, stepBounds-pos, decide-in}
 use Rattle.rules.specs.Rebuild
-use Rattle.rules.specs.Rebuild.{places}
-use Rattle.rules.specs.Laws.RangeSetters.{inPlace, inBytes, inCounter, inOrder, inMark, inHolds, inWaiting, inQueue, inBegun, inCursor, inSent, inOutstanding, inRequest}
+use Rattle.rules.specs.Rebuild.{places, fills}
+use Rattle.rules.specs.Laws.RangeSetters.{inBytes, inCounter, inMark, inQueue, inBegun, inCursor, inSent, inOutstanding, inRequest}
 use Rattle.rules.specs.Open
 use Rattle.rules.specs.State.{State, closed, Command, Place, nowhere, stored, Request}
 use Rattle.rules.specs.Run
 use Rattle.rules.specs.Run.{act, step, after}
 use Rattle.rules.specs.Collect
 use Rattle.rules.specs.Laws.Answers.{Passed, settled-taken, accepted-passed, step-accepted, step-refused}
-use Rattle.rules.specs.Laws.Waiting.{Waits, leave-waits, pass-waits, others-room, waits-le}
+use Rattle.rules.specs.Laws.Waiting.{Waits, pass-waits, others-room, waits-le}
 use Rattle.rules.specs.Questions
 use Rattle.rules.specs.Questions.{Ask, opening, request, turn, completion, collect, save, load, Call, bounds, questions, number}
 use Rattle.rules.specs.Turn
@@ -45,8 +45,9 @@ use Rattle.rules.specs.Form.Sums.{outOfBlocks}
 use Rattle.rules.specs.Form.Reading.{Form, getForm}
 use Rattle.rules.specs.Form.Loading.{checks, sound, isSound, loads, stateIn, loadedForm}
 use Rattle.rules.specs.Ranges.{inRange, others, isKind}
-use Rattle.rules.specs.Draws.{newOrder, draws, Drew}
+use Rattle.rules.specs.Draws.{draws, Drew}
 use Rattle.rules.specs.Laws.Draws.{settles-drew}
+use Rattle.rules.specs.Laws.Rebuilt.{gathered-in, fills-in, front-fits, front-joins, no-job, more-jobs, rebuild-in, leave-queue-le, all-leave-queue}
 
 -- Commands sent
 pub kind-read : isKind 1 ≡ true
@@ -75,101 +76,53 @@ unfolding Request.passLevel
 pass-jobs qs ℓ n none h = h
 pass-jobs qs ℓ n (some r) h = h
 
-pub all-leave : {P : ℕ → Type 0} (o : Option ℕ) {xs : List ℕ} → All P xs → All P (Rebuild.leave o xs)
-unfolding Rebuild.leave
-all-leave none h = h
-all-leave (some b) h = all-without _ h
-
-pub itemPlace-in : (top t : ℕ) (o : List ℕ) (k : Option ℕ) (x : Place) → t < top → All (λ v. v < slots t) o → PlaceIn top x → PlaceIn top (Rebuild.itemPlace t o k x)
-unfolding Rebuild.itemPlace
-itemPlace-in top t o none x ht ho hx = hx
-itemPlace-in top t o (some k) x ht ho hx = (ht, all-getD k ho (pow-pos (t + 1)))
-
-pub itemHolds-in : (n : ℕ) (blocks : List ℕ) (k : Option ℕ) → All (λ b. b < n) blocks → Rebuild.itemHolds blocks k ≤ n
-unfolding Rebuild.itemHolds
-itemHolds-in n blocks none h = omega arith
-itemHolds-in n blocks (some k) h = all-getD k (more blocks h) (omega arith)
-  where
-    more : (xs : List ℕ) → All (λ b. b < n) xs → All (λ v. v ≤ n) (map suc xs)
-    more [] nil = nil
-    more (x ∷ xs) (cons a t) = cons a (more xs t)
-
-pub newHolds-in : (n m : ℕ) (blocks o : List ℕ) → All (λ b. b < n) blocks → All (λ v. v ≤ n) (Rebuild.newHolds m blocks o)
-unfolding Rebuild.newHolds
-newHolds-in n m blocks o h = map-below (λ v. v ≤ n) (λ i. Rebuild.itemHolds blocks (indexOf i o)) m (λ i k. itemHolds-in n blocks (indexOf i o) h)
-
-pub gathered-in : (s : State) (q : ℕ) → All (λ b. b < s .shape .N) (Rebuild.gathered s q)
-unfolding Rebuild.gathered
-gathered-in s q = all-keep _ (below-below (s .shape .N))
-
 pub emptied-in : (at : ℕ → ℕ → ℕ) (n : ℕ) (x : Place) (f : ℕ → ℕ) (c : ℕ) → f c ≤ n → Collect.emptied at x f c ≤ n
 unfolding Collect.emptied
 emptied-in at n nowhere f c k = k
 emptied-in at n (stored ℓ i) f c k = put-has (λ v. v ≤ n) (at ℓ i) 0 f c (omega arith) k
 
-pub cleared-in : (n a m : ℕ) (f : ℕ → ℕ) (c : ℕ) → f c ≤ n → Rebuild.cleared a m f c ≤ n
-unfolding Rebuild.cleared
-cleared-in n a m f c k = putAll-has (λ v. v ≤ n) a (replicate m 0) f c (λ x y. all-getD _ (all-replicate (λ v. v ≤ n) m 0 (omega arith)) (omega arith)) k
-
--- a rebuild
-module _ (s : State) (f : InRange s) (q t : ℕ) (ht : t < s .shape .L) (o : List ℕ) (ho : All (λ v. v < slots t) o) (lo : length o ≡ slots t) where
-  start : ℕ
-  start = cell (s .shape) q t 0
-
-  level-of : (p ℓ i : ℕ) → ℓ < s .shape .L → i < slots ℓ → start ≤ cell (s .shape) p ℓ i → cell (s .shape) p ℓ i < start + length o → t ≡ ℓ
-  unfolding start
-  level-of p ℓ i hℓ hi a b = cell-inj (s .shape) q p t ℓ k i ht hℓ (omega arith) hi same .1
-    where
-      k : ℕ
-      k = cell (s .shape) p ℓ i - start
-
-      same : cell (s .shape) q t k ≡ cell (s .shape) p ℓ i
-      same = unfold cell in (omega arith)
-
-  pub rebuild-in : InRange (Rebuild.doRebuild q t o s)
-  unfolding Rebuild.doRebuild Rebuild.newPlace start
-  rebuild-in = inSent _ (inBegun _ (inHolds _ (inMark _ (inOrder _ (inWaiting _ (inPlace s f _
-      (λ b hb. itemPlace-in (s .shape .L) t o (indexOf b (Rebuild.gathered s q)) (s .place b) ht ho (f .places b hb)))
-      _ (all-leave (Rebuild.chosen s q) (f .waiting)) (leave-waits (s .shape .E) (s .waiting) (Rebuild.chosen s q) (s .request) (f .cache)))
-      _ (λ p ℓ i hp hℓ hi. putAll-has (λ v. v < slots ℓ) start o (s .order) (cell (s .shape) p ℓ i)
-      (λ a b. rw (← level-of p ℓ i hℓ hi a b) (all-getD _ ho (pow-pos (t + 1)))) (f .orders p ℓ i hp hℓ hi)))
-      _ (λ p ℓ i hp hℓ hi. putAll-has (λ v. v ≤ 1) start (replicate (slots t) 1) (s .mark) (cell (s .shape) p ℓ i)
-      (λ a b. all-getD _ (all-replicate (λ v. v ≤ 1) (slots t) 1 (omega arith)) (omega arith)) (f .marks p ℓ i hp hℓ hi)))
-      _ (λ p ℓ i hp hℓ hi. putAll-has (λ v. v ≤ s .shape .N) start (Rebuild.newHolds (slots t) (Rebuild.gathered s q) o) _ (cell (s .shape) p ℓ i)
-      (λ a b. all-getD _ (newHolds-in (s .shape .N) (slots t) (Rebuild.gathered s q) o (gathered-in s q)) (omega arith))
-      (cleared-in (s .shape .N) _ _ (s .holds) (cell (s .shape) p ℓ i) (f .holds p ℓ i hp hℓ hi))))
-      1 (omega arith)) 1 (pow-pos (s .shape .L))
-
-pub jobs-tail : (q : ℕ) (l : List ℕ) (r : Option Request) → JobsIn (q ∷ l) r → JobsIn l r
-jobs-tail q l none h = omega arith
-jobs-tail q l (some r) h = omega arith
+jobs-fewer : (qs xs : List ℕ) (r : Option Request) → length xs ≤ length qs → JobsIn qs r → JobsIn xs r
+jobs-fewer qs xs none l h = omega arith
+jobs-fewer qs xs (some r) l h = omega arith
 
 module _ (s : State) (f : InRange s) where
-  begun-in : (t : Bool) → (if t then 1 else s .begun) ≤ 1
-  begun-in true = omega arith
-  begun-in false = f .begun
+  -- the front of a queue
+  front-of : (q : ℕ) (qs : List ℕ) → s .queue ≡ qs → Request.isFront qs q ≡ true → Front s q
+  unfolding Request.isFront
+  front-of q [] e k = absurd (true≢false (sym k))
+  front-of q (p ∷ qs) e k = (qs, e ∙ ap (λ x. x ∷ qs) (eqb-true p q k))
 
-  pub doStep-in : (x : Step) (js : List ℕ) → StepIn (s .shape) x → length (s .outstanding) < s .shape .W → InRange (doStep x js s)
+  begun-in : (q ℓ : ℕ) (t : Bool) → Request.isSource s q ℓ ≡ t → JobIn (s .shape) (s .counter) (s .queue) (if t then joined s q else s .begun)
+  unfolding Request.isSource
+  begun-in q ℓ true e = front-fits s f q (front-of q (s .queue) refl (and-l (Request.isFront (s .queue) q) _ e))
+  begun-in q ℓ false e = f .begun
+
+  pub doStep-in : (x : Step) (js : List ℕ) → StepIn s x → length (s .outstanding) < s .shape .W → InRange (doStep x js s)
   unfolding doStep Turn.markRead Rebuild.doRebuild
   doStep-in idle js h w = f
   doStep-in noDummy js h w = f
   doStep-in (readForRequest q ℓ i) js h w = send-in _ (inBegun _ (inRequest _ (mark-in s f q ℓ i) _
       (pass-in (s .shape) ℓ (suc (length (s .outstanding))) (s .request) (h .1) w (f .request)) (pass-jobs (s .queue) ℓ (suc (length (s .outstanding))) (s .request) (f .jobs))
-      (pass-waits (s .shape .E) ℓ (suc (length (s .outstanding))) (s .waiting) (s .request) (f .cache))) _ (begun-in (Request.isSource s q ℓ)))
+      (pass-waits (s .shape .E) ℓ (suc (length (s .outstanding))) (s .waiting) (s .request) (f .cache))) _ (begun-in q ℓ (Request.isSource s q ℓ) refl))
       _ (record { kind = kind-read; partition = h .0; level = h .1; slot = h .2 }) w
-  doStep-in (readForJob q ℓ i) js h w = send-in _ (inCursor _ (inBegun _ (mark-in s f q ℓ i) 1 (omega arith)) _ (offset-in (s .shape .L) ℓ i (h .1) (h .2))) _ (record { kind = kind-read; partition = h .0; level = h .1; slot = h .2 }) w
-  doStep-in (rebuild q t) js h w = send-in _ (rebuild-in s f q t (h .1) (newOrder (slots t) js) (order-below (slots t) js (pow-pos (t + 1))) (length-order (slots t) js))
-      _ (record { kind = kind-write; partition = h .0; level = h .1; slot = pow-pos (t + 1) }) w
-  doStep-in (writeNext q t i) js h w = send-in _ (inSent s f (suc i) (omega (arith, slots-le (s .shape) t (h .1)))) _ (record { kind = kind-write; partition = h .0; level = h .1; slot = h .2 }) w
+  doStep-in (readForJob q ℓ i) js h w = send-in _ (inBegun _ (inCursor _ (mark-in s f q ℓ i) _ (offset-in (s .shape .L) ℓ i (h .1) (h .2))) _ (front-fits s f q (h .3)))
+      _ (record { kind = kind-read; partition = h .0; level = h .1; slot = h .2 }) w
+  doStep-in (rebuild q ls) js h w = send-in _ (rebuild-in s f q (h .2) ls (fills ls js (Rebuild.gathered s q)) (fills-in (s .shape) ls js (Rebuild.gathered s q) (h .1) (gathered-in s q)))
+      _ (record { kind = kind-write; partition = h .0; level = all-getD 0 (h .1) (levels-pos (s .shape) (f .shape)); slot = pow-pos (getD ls 0 0 + 1) }) w
+  doStep-in (writeNext q t i) js h w = send-in _ (inSent s f (suc (s .sent)) (h .3)) _ (record { kind = kind-write; partition = h .0; level = h .1; slot = h .2 }) w
 
-  pub finishJob-in : (l : List ℕ) → All (λ q. q < s .shape .P) l → JobsIn l (s .request) → InRange (Completion.finishJob l s)
+  pub finishJob-in : (l : List ℕ) → s .queue ≡ l → All (λ q. q < s .shape .P) l → InRange (Completion.finishJob l s)
   unfolding Completion.finishJob Completion.endJob
-  finishJob-in [] a b = f
-  finishJob-in (q ∷ l) (cons a t) b = go (Completion.jobDone s q)
+  finishJob-in [] e a = f
+  finishJob-in (q ∷ l) e (cons a t) = go (Completion.jobDone s q)
     where
-      go : (u : Bool) → InRange (if u then Completion.endJob q l s else s)
-      go true = inSent _ (inCursor _ (inBegun _ (inQueue _ (inCounter s f _ (λ p hp. put-has (λ c. c < 2 ^ s .shape .L) q (grown (s .shape) (s .counter q)) (s .counter) p
-          (grown-lt (s .shape) (s .counter q) (levels-pos (s .shape) (f .shape)) (f .counters q a)) (f .counters p hp))) l t (jobs-tail q l (s .request) b)) 0 (omega arith)) 0 (omega arith)) 0 (omega arith)
+      j : ℕ
+      j = joined s q
+
+      go : (u : Bool) → InRange (if u then Completion.endJob q s else s)
+      go true = inSent _ (inCursor _ (inQueue _ (inCounter _ (inBegun s f 0 (no-job (s .shape) (s .counter) (s .queue))) _ (λ p hp. put-has (λ c. c < 2 ^ s .shape .L) q _ (s .counter) p
+          (grown-lt (s .shape) (s .counter q) j (levels-pos (s .shape) (f .shape)) (f .counters q a) (front-joins s f q l e .1)) (f .counters p hp)) (no-job (s .shape) _ (s .queue)))
+          _ (all-leave-queue q j (f .queue)) (no-job (s .shape) _ (leaveQueue q j (s .queue))) (jobs-fewer (s .queue) (leaveQueue q j (s .queue)) (s .request) (leave-queue-le q j (s .queue)) (f .jobs))) 0 (omega arith)) 0 (omega arith)
       go false = f
 
   pub gatherBytes-in : (o : Option ℕ) (bs : List ℕ) → InRange (Completion.gatherBytes o bs s)
@@ -208,7 +161,7 @@ module _ (s : State) (f : InRange s) where
     waiting = all-append (all-keep _ (f .waiting)) (cons (a .block) nil);
     queue = all-append (f .queue) (cons (f .partitions (r .block) (a .block)) (cons (a .evict) nil));
     outstanding = f .outstanding;
-    begun = f .begun;
+    begun = more-jobs (s .shape) (s .counter) (s .queue) _ (s .begun) (f .begun);
     cursor = f .cursor;
     sent = f .sent;
     free = f .free;
@@ -269,7 +222,7 @@ fresh-in h js w d = record {
   waiting = nil;
   queue = nil;
   outstanding = nil;
-  begun = omega arith;
+  begun = refl;
   cursor = omega arith;
   sent = omega arith;
   free = omega arith;
@@ -294,7 +247,7 @@ module _ (s : State) (f : InRange s) where
     where
       go : (t : Bool) → InRange (if t then Completion.completeRead c bs s else Completion.completeWrite c s)
       go true = gatherBytes-in (Completion.completed c s) (completed-in s f c) (Blocks.holder s (c .partition) (c .level) (c .slot)) bs
-      go false = finishJob-in (Completion.completed c s) (completed-in s f c) (s .queue) (f .queue) (completed-in s f c .jobs)
+      go false = finishJob-in (Completion.completed c s) (completed-in s f c) (s .queue) refl (f .queue)
 
   pub perform-in : (a : Ask) (m : ℕ) (ws : List ℕ) (k : ℕ) (js : List ℕ) → Passed (questions s a m ws k) → Drew (bounds s a) js → InRange (Run.perform s a js)
   unfolding Run.perform questions bounds Request.accept

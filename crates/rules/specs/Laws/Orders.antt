@@ -1,9 +1,9 @@
 -- The order that is drawn: its slots are below n, there are n of them, and none stands twice.
 use mathlib.Core.Path.{_≡_, refl, ap, sym, _∙_}
-use mathlib.Core.List.{List, [], _∷_}
+use mathlib.Core.List.{List, [], _∷_, _++_}
 use Prim.Native.Nat.{ℕ, zero, suc, _-_, _≤_, _<_}
 use native.Mathlib.Omega.{arith}
-use lib.ListN.{length, getD, set, replicate, length-set}
+use lib.ListN.{length, getD, set, replicate, take, drop, length-set}
 use mathlib.Core.Logic.{ite}
 use native.Mathlib.Decide.{ℕ-discrete}
 use lib.Seq.{getD-set-same, getD-set-other}
@@ -12,6 +12,8 @@ use Rattle.lists.specs.Lengths.{length-count, length-below}
 use Rattle.lists.specs.All.{All, nil, cons, all-getD, all-set, below-below}
 use Rattle.lists.specs.Search.{below}
 use Rattle.lists.specs.Distinct.{Mem, NoDup, index, index-mem, mem-at, nodup-inj, inj-nodup}
+use Rattle.rules.specs.Shape.{slots}
+use Rattle.rules.specs.Jobs.{ordersBounds}
 use Rattle.rules.specs.Draws.{exchange, shuffle, newOrder, orderBounds, Drew}
 
 -- An order's slots
@@ -160,3 +162,31 @@ unfolding orderBounds
 length-bounds zero = refl
 length-bounds (suc zero) = refl
 length-bounds (suc (suc n)) = omega (arith, length-bounds (suc n))
+
+-- the draws of one after the other
+pub drew-append : (ms ns js : List ℕ) → Drew (ms ++ ns) js → Drew ms (take (length ms) js) × Drew ns (drop (length ms) js)
+drew-append [] ns js d = (tt, d)
+drew-append (m ∷ ms) ns [] d = absurd d
+drew-append (m ∷ ms) ns (j ∷ js) d = let r = drew-append ms ns js (d .1) in ((d .0, r .0), r .1)
+
+pub append-drew : (ms ns js ks : List ℕ) → Drew ms js → Drew ns ks → Drew (ms ++ ns) (js ++ ks)
+append-drew [] ns [] ks a b = b
+append-drew [] ns (j ∷ js) ks a b = absurd a
+append-drew (m ∷ ms) ns [] ks a b = absurd a
+append-drew (m ∷ ms) ns (j ∷ js) ks a b = (a .0, append-drew ms ns js ks (a .1) b)
+
+-- an order looks at no more numbers than it draws
+shuffle-take : (i : ℕ) (js o : List ℕ) → shuffle i (take i js) o ≡ shuffle i js o
+unfolding shuffle
+shuffle-take zero js o = refl
+shuffle-take (suc i) [] o = refl
+shuffle-take (suc i) (j ∷ js) o = shuffle-take i js (exchange o (suc i) j)
+
+pub order-take : (n : ℕ) (js : List ℕ) → newOrder n (take (n - 1) js) ≡ newOrder n js
+unfolding newOrder
+order-take n js = shuffle-take (n - 1) js (below n)
+
+-- the orders of these levels: the first, and the rest
+pub orders-split : (ℓ : ℕ) (ls js : List ℕ) → Drew (ordersBounds (ℓ ∷ ls)) js → Drew (orderBounds (slots ℓ)) (take (slots ℓ - 1) js) × Drew (ordersBounds ls) (drop (slots ℓ - 1) js)
+unfolding ordersBounds
+orders-split ℓ ls js d = rw (length-bounds (slots ℓ)) at (drew-append (orderBounds (slots ℓ)) (ordersBounds ls) js d)

@@ -24,7 +24,7 @@ turn-shape s idle js = refl
 turn-shape s noDummy js = refl
 turn-shape s (readForRequest q ℓ i) js = refl
 turn-shape s (readForJob q ℓ i) js = refl
-turn-shape s (rebuild q t) js = refl
+turn-shape s (rebuild q ls) js = refl
 turn-shape s (writeNext q t i) js = refl
 
 -- a request but for the commands that it awaits
@@ -47,15 +47,15 @@ complete-keeps s c bs = go (eqb (c .kind) 1) (holder s (c .partition) (c .level)
     less none = refl
     less (some r) = refl
 
-    ended : (q : ℕ) (qs : List ℕ) (t : Bool) → both (if t then endJob q qs s′ else s′) ≡ both s′
-    ended q qs true = refl
-    ended q qs false = refl
+    ended : (q : ℕ) (t : Bool) → both (if t then endJob q s′ else s′) ≡ both s′
+    ended q true = refl
+    ended q false = refl
 
     first : (t : Bool) (b : Option ℕ) (qs : List ℕ) → both (if t then gatherBytes b bs s′ else finishJob qs s′) ≡ both s′
     first true none qs = refl
     first true (some b) qs = refl
     first false b [] = refl
-    first false b (q ∷ qs) = ended q qs (jobDone s′ q)
+    first false b (q ∷ qs) = ended q (jobDone s′ q)
 
     go : (t : Bool) (b : Option ℕ) (qs : List ℕ) → both (if t then gatherBytes b bs s′ else finishJob qs s′) ≡ both s
     go t b qs = first t b qs ∙ ap (λ (o : Option Request). (s .shape, o)) (less (s .request))

@@ -23,6 +23,7 @@ use Rattle.rules.specs.Laws.Range.{InRange, FoundIn, RequestIn, JobsIn, 
 use Rattle.rules.specs.Laws.RangeSetters.{inRequest}
 use Rattle.rules.specs.Laws.Released.{without, written-same, handed-release, handed-unseen, unseen-release}
 use Rattle.rules.specs.Laws.Waiting.{Waits}
+use Rattle.rules.specs.Jobs
 use Rattle.rules.specs.Memory.{needed}
 use Rattle.rules.specs.Rebuild
 use Rattle.rules.specs.Questions
@@ -60,7 +61,7 @@ pass-without ℓ n (some r) = rw (held-same r)
 
 module _ (s : State) where
   step-without : (x : Step) (js : List ℕ) → withoutFound (doStep x js (withoutFound s)) ≡ withoutFound (doStep x js s)
-  unfolding doStep Turn.markRead Turn.send Rebuild.doRebuild Rebuild.gathered Rebuild.chosen Blocks.blocksIn Blocks.entries Request.isSource
+  unfolding doStep Turn.markRead Turn.send Rebuild.doRebuild Rebuild.gathered Rebuild.chosen Blocks.blocksIn Blocks.entries Request.isSource Jobs.topOf Jobs.joined
   step-without idle js = rw (without-twice (s .request))
   step-without noDummy js = rw (without-twice (s .request))
   step-without (readForRequest q ℓ i) js = ap (λ o. setRequest o (doStep (readForRequest q ℓ i) js s)) (pass-without ℓ (suc (length (s .outstanding))) (s .request))
@@ -89,11 +90,11 @@ module _ (s t : State) (e : withoutFound s ≡ withoutFound t) where
   bytes-without (some b) bs = ap (λ x. Completion.gatherBytes (some b) bs x) e
 
   finish-without : (l : List ℕ) → withoutFound (Completion.finishJob l s) ≡ withoutFound (Completion.finishJob l t)
-  unfolding Completion.finishJob Completion.endJob Completion.jobDone
+  unfolding Completion.finishJob Completion.endJob Completion.jobDone Jobs.joined Jobs.levelsOf
   finish-without [] = e
   finish-without (q ∷ l) = over s (Completion.jobDone s q) ∙ ap (λ x. Completion.finishJob (q ∷ l) x) e ∙ sym (over t (Completion.jobDone t q))
     where
-      over : (x : State) (b : Bool) → withoutFound (if b then Completion.endJob q l x else x) ≡ (if b then Completion.endJob q l (withoutFound x) else withoutFound x)
+      over : (x : State) (b : Bool) → withoutFound (if b then Completion.endJob q x else x) ≡ (if b then Completion.endJob q (withoutFound x) else withoutFound x)
       over x true = refl
       over x false = refl
 
@@ -116,7 +117,7 @@ release-without s = ap (λ o. setRequest o s) (go (s .request))
 
     go : (o : Option Request) → without (Option·map (Request.releasedIn (withoutFound s)) (without o)) ≡ without (Option·map (Request.releasedIn s) o)
     go none = refl
-    go (some r) = unfold Request.releasedIn Request.blocked Request.heldFor Request.undrawnOnly Request.worn Request.isSource Blocks.lookUp in (rw (held-same r) (one r (held r && not (Request.blocked s r))))
+    go (some r) = unfold Request.releasedIn Request.blocked Request.heldFor Request.undrawnOnly Request.worn Request.isSource Jobs.topOf Jobs.joined Blocks.lookUp in (rw (held-same r) (one r (held r && not (Request.blocked s r))))
 
 -- ---- What calls answer
 
@@ -132,7 +133,7 @@ inHand-without (some r) = refl
 
 module _ (s : State) where
   requestStep-without : (o : Option Request) → Turn.requestStep (withoutFound s) (without o) ≡ Turn.requestStep s o
-  unfolding Turn.requestStep Reader.levelsLeft Reader.costs Reader.condition Reader.slotRead Reader.readLevel Reader.readReal Reader.readFake Request.isSource Reader.dummy Reader.lowest Blocks.isUnread Blocks.holder
+  unfolding Turn.requestStep Reader.levelsLeft Reader.costs Reader.condition Reader.slotRead Reader.readLevel Reader.readReal Reader.readFake Request.isSource Jobs.topOf Jobs.joined Reader.dummy Reader.lowest Blocks.isUnread Blocks.holder
   requestStep-without none = refl
   requestStep-without (some r) = rw (held-same r)
 
@@ -142,7 +143,7 @@ module _ (s : State) where
   releasedFor-without q (some r) = rw (held-same r)
 
   jobStep-without : (l : List ℕ) → Turn.jobStep (withoutFound s) l ≡ Turn.jobStep s l
-  unfolding Turn.jobStep Turn.rebuildStep Turn.writeStep Rebuild.unread Blocks.isUnread
+  unfolding Turn.jobStep Turn.rebuildStep Turn.writeStep Rebuild.unread Rebuild.nextUnread Jobs.topOf Jobs.joined Jobs.levelsOf Blocks.isUnread
   jobStep-without [] = refl
   jobStep-without (q ∷ l) = rw (releasedFor-without q (s .request))
 
@@ -160,7 +161,7 @@ module _ (s : State) where
   possible-without (writeNext q t i) = refl
 
   finished-without : (o : Option Request) → Questions.inHand (Collect.finished (withoutFound s)) (without o) ≡ Questions.inHand (Collect.finished s) o
-  unfolding Questions.inHand Collect.finished Reader.levelsLeft Reader.costs Reader.condition Request.isSource Blocks.isUnread
+  unfolding Questions.inHand Collect.finished Reader.levelsLeft Reader.costs Reader.condition Request.isSource Jobs.topOf Jobs.joined Blocks.isUnread
   finished-without none = refl
   finished-without (some r) = rw (held-same r)
 

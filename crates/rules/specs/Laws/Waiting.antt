@@ -8,7 +8,7 @@ use native.Mathlib.Omega.{arith}
 use lib.ListN.{length}
 use lib.Dec.{eqb, ltb}
 use borrow.Author.Tests.{eqb-true, eqb-false, eq-eqb, ne-eqb, le-leb, ltb-true, lt-ltb}
-use Rattle.lists.specs.Search.{keep, any, member, keep-yes, keep-no}
+use Rattle.lists.specs.Search.{keep, any, member, without, keep-yes, keep-no}
 use Rattle.rules.specs.Request
 use Rattle.rules.specs.Rebuild
 use Rattle.rules.specs.State.{Request}
@@ -59,11 +59,15 @@ unfolding Request.passLevel
 pass-waits e ℓ n xs none h = h
 pass-waits e ℓ n xs (some r) h = h
 
-pub leave-waits : (e : ℕ) (xs : List ℕ) (o : Option ℕ) (r : Option Request) → Waits e xs r → Waits e (Rebuild.leave o xs) r
-unfolding Rebuild.leave others
-leave-waits e xs none r h = h
-leave-waits e xs (some b) none h = omega (arith, without-length (eqb b) xs)
-leave-waits e xs (some b) (some r) h = omega (arith, without-length (eqb b) xs, keep-without-le (eqb b) (λ a. not (eqb a (r .block))) xs)
+leave-one : (e : ℕ) (xs : List ℕ) (b : ℕ) (r : Option Request) → Waits e xs r → Waits e (without (eqb b) xs) r
+unfolding others
+leave-one e xs b none h = omega (arith, without-length (eqb b) xs)
+leave-one e xs b (some r) h = omega (arith, without-length (eqb b) xs, keep-without-le (eqb b) (λ a. not (eqb a (r .block))) xs)
+
+pub leave-waits : (e : ℕ) (xs bs : List ℕ) (r : Option Request) → Waits e xs r → Waits e (Rebuild.leave bs xs) r
+unfolding Rebuild.leave
+leave-waits e xs [] r h = h
+leave-waits e xs (b ∷ bs) r h = leave-waits e (without (eqb b) xs) bs r (leave-one e xs b r h)
 
 -- where b does not wait, the others are all
 others-none : (b : ℕ) (xs : List ℕ) → member b xs ≡ false → length (others xs b) ≡ length xs
