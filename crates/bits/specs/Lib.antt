@@ -1,2 +1,3 @@
 pub mod Ones
 pub mod Top
+pub mod Runs

@@ -8,7 +8,7 @@ use lib.Dec.{eqb}
 use lib.Pow.{pow-pos}
 use lib.Count.{trailingZeros, under}
 use borrow.Author.Tests.{eqb-true, eqb-false}
-use Rattle.rules.specs.Levels.{trailingOnes}
+use Rattle.rules.specs.Laws.Single.Rules.{trailingOnes}
 
 -- the trailing zeros of a complement are the trailing ones of the number
 pub zeros-of-complement : (k n : ℕ) → n < 2 ^ k → trailingZeros k ((2 ^ k - 1) - n) ≡ trailingOnes k n

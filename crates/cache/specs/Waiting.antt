@@ -2,7 +2,7 @@
 use mathlib.Core.Path.{_≡_, refl, ap, sym, subst, fun-ext, _∙_}
 use mathlib.Core.Bool.{Bool, true, false, not, true≢false}
 use mathlib.Core.List.{List, [], _∷_, _++_}
-use Prim.Native.Nat.{ℕ, zero, suc, _+_, _-_, _≤_, _<_}
+use Prim.Native.Nat.{ℕ, zero, suc, _+_, _≤_, _<_}
 use native.Mathlib.Numerals.{add-one}
 use native.Mathlib.Omega.{arith}
 use native.Mathlib.Decide.{ℕ-discrete, decLt}
@@ -19,12 +19,11 @@ use Rattle.rules.specs.Setters.{setWaiting}
 use Rattle.memory.specs.declared.Shape.{Shape}
 use Rattle.memory.specs.Tables as M
 use Rattle.memory.specs.Tables.{tablesOf}
-use Rattle.memory.specs.Closing.{closedUp}
 use Rattle.memory.specs.Fits.{shapeOf, fit}
 use Rattle.client.specs.declared.Client.{Client}
 use Rattle.client.specs.View.{rows, view, stateOf}
-use Rattle.client.specs.Rows.{dropAt, length-rows, Kept, kept-none, kept-yes, kept-no, any-hit, any-miss}
-use Rattle.client.specs.Changes.{fitted, fit-push, fit-kept, fit-closed}
+use Rattle.client.specs.Rows.{length-rows, Kept, kept-none, kept-yes, kept-no, any-hit, any-miss}
+use Rattle.client.specs.Changes.{fitted, fit-push, fit-kept}
 use Rattle.client.specs.Moves.{withWaiting, Stands, stands}
 
 abbrev pub blocksIn : Shape → List ℕ → ℕ → ℕ
@@ -44,12 +43,6 @@ pub waiting-stands : (c : Client) (m₀ m : List ℕ) (f : ℕ → ℕ) (n : ℕ
     → Stands (withWaiting n c) m₀ m (setWaiting xs (stateOf c m₀))
 unfolding stateOf view tablesOf
 waiting-stands c m₀ m f n xs e l = stands (withWaiting n c) m₀ m (M.withWaiting f (tablesOf (shapeOf (c .shape)) m₀)) _ e refl (ap (λ r. setWaiting r (view c (tablesOf (shapeOf (c .shape)) m₀))) l)
-
--- the block at place j leaves
-pub left : (c : Client) (m₀ m : List ℕ) (j : ℕ) → 1 ≤ c .shape .n → j < c .waiting
-    → tablesOf (shapeOf (c .shape)) m ≡ M.withWaiting (closedUp (c .shape .n) j (c .waiting - 1) (tablesOf (shapeOf (c .shape)) m₀ .waiting)) (tablesOf (shapeOf (c .shape)) m₀)
-    → Stands (withWaiting (c .waiting - 1) c) m₀ m (setWaiting (dropAt j (stateOf c m₀ .waiting)) (stateOf c m₀))
-left c m₀ m j s l e = waiting-stands c m₀ m _ (c .waiting - 1) _ e (fit-closed (c .shape .n) s _ j (c .waiting) l ∙ ap (dropAt j) (sym (waiting-is c m₀)))
 
 -- ---- The first place of a block among the first n, or n
 pub record FirstAt (f : ℕ → ℕ) (n b r : ℕ) : Type 0 where

@@ -1,18 +1,17 @@
 // The blocks that wait in the eviction cache, longest waiting first, in the lent memory.
 use client::Client;
-use client::Found;
-use memory::tables::Table;
 ghost use mathlib.Core.Path.{_≡_};
 ghost use mathlib.Core.List.{_∷_, [], _++_};
-ghost use Prim.Native.Nat.{_+_, _-_, _<_, _≤_};
-ghost use lib.ListN.{length, replicate};
-ghost use Rattle.lists.specs.Search.{member};
+ghost use Prim.Native.Nat.{_+_, _<_, _≤_};
+ghost use lib.ListN.{length, replicate, take};
+ghost use Rattle.lists.specs.Search.{member, keep};
 ghost use Rattle.rules.specs.Ranges.{others};
 ghost use Rattle.rules.specs.Setters.{setWaiting};
+ghost use Rattle.rules.specs.Rebuild.{leave};
 ghost use Rattle.client.specs.View.{stateOf};
-ghost use Rattle.client.specs.Rows.{dropAt};
 ghost use Rattle.client.specs.Moves.{withWaiting, Room, Stands};
-ghost use Rattle.cache.specs.Longest.{Longest};
+ghost use Rattle.cache.specs.Longest.{waitsFor, Longest};
+ghost use Rattle.cache.specs.Leaving.{MovedUp};
 ghost use Rattle.cache.specs.Marks.{marksRoom, Marked};
 ghost use Rattle.cache.specs.Waiting.{blocksIn, FirstAt, Joined};
 
@@ -73,8 +72,8 @@ pub fn mark_waiting(c: Client, m: &[u8], marks: &mut [u8; BLOCKS])
     }
 }
 
-// The place in the cache of the block that has waited longest for partition q.
-pub fn longest(c: Client, m: &[u8], q: usize) -> Found
+// The place in the cache of the block that has waited longest for partition q, or the number of those that wait.
+pub fn longest(c: Client, m: &[u8], q: usize) -> usize
     requires { ⌜ Room c (now m) × (c .waiting ≤ c .shape .n) ⌝ }
     ensures { λ r. ⌜ Longest (stateOf c (now (m .entry))) q r ⌝ }
 {
@@ -83,21 +82,42 @@ pub fn longest(c: Client, m: &[u8], q: usize) -> Found
     while i < n {
         let b = memory::tables::waiting(c.shape, m, i);
         if memory::tables::partition(c.shape, m, b) == q {
-            return Found::At(i);
+            return i;
         }
         i += 1;
     }
-    Found::Nothing
+    n
 }
 
-// The block at place j of the cache waits no longer.
-pub fn leave(c: Client, m: &mut [u8], j: usize) -> Client
-    requires { ⌜ Room c (now m) × (c .waiting ≤ c .shape .n) × (j < c .waiting) ⌝ }
-    ensures { λ r. ⌜ (r ≡ withWaiting (c .waiting - 1) c) × Stands r (now (m .entry)) (now (m .exit)) (setWaiting (dropAt j (stateOf c (now (m .entry)) .waiting)) (stateOf c (now (m .entry)))) ⌝ }
+// The k blocks that have waited longest for q, or all that wait for it, wait no longer. The first of them is at place `first`.
+pub fn leave_first(c: Client, m: &mut [u8], q: usize, first: usize, k: usize) -> Client
+    requires { ⌜ Room c (now m) × (c .waiting ≤ c .shape .n) × Longest (stateOf c (now m)) q first ⌝ }
+    ensures { λ r. ⌜ (r ≡ withWaiting (r .waiting) c) × Stands r (now (m .entry)) (now (m .exit)) (setWaiting (leave (take k (keep (waitsFor (stateOf c (now (m .entry))) q) (stateOf c (now (m .entry)) .waiting))) (stateOf c (now (m .entry)) .waiting)) (stateOf c (now (m .entry)))) ⌝ }
 {
-    let last = c.waiting - 1;
-    memory::tables::close_up(c.shape, m, Table::Waiting, j, last, c.shape.n);
-    c.with_waiting(last)
+    let n = c.waiting;
+    let mut gone = 0;
+    let mut i = first;
+    while i < n {
+        gone = move_up(c, m, q, i, gone, k);
+        i += 1;
+    }
+    c.with_waiting(n - gone)
+}
+
+// The block at place i leaves, if it waits for q and fewer than k have left; else it moves up by as many places as have left. The result is how many
+// have left then.
+fn move_up(c: Client, m: &mut [u8], q: usize, i: usize, gone: usize, k: usize) -> usize
+    requires { ⌜ Room c (now m) × (gone ≤ i) × (i < c .shape .n) ⌝ }
+    ensures { λ r. ⌜ MovedUp (c .shape) (now (m .entry)) (now (m .exit)) q i gone k r ⌝ }
+{
+    let x = memory::tables::waiting(c.shape, m, i);
+    if gone < k {
+        if memory::tables::partition(c.shape, m, x) == q {
+            return gone + 1;
+        }
+    }
+    memory::tables::set_waiting(c.shape, m, i - gone, x);
+    gone
 }
 
 // Block b leaves the cache wherever it waits, and joins its young end. Those before its first place stay where they are. Mostly it does not wait, so

@@ -11,7 +11,6 @@ use Rattle.lists.specs.Search.{isNone}
 use Rattle.rules.specs.Shape.{slots}
 use Rattle.rules.specs.State as R
 use Rattle.rules.specs.Request.{held}
-use Rattle.rules.specs.Levels.{trailingOnes, sources}
 use Rattle.memory.specs.Tables.{Tables, tablesOf}
 use Rattle.memory.specs.Fits.{shapeOf, fit}
 use Rattle.client.specs.declared.Client.{Client}
@@ -103,10 +102,6 @@ module _ (c : Client) (m : List ℕ) where
   pub counter-is : (q x : ℕ) → x ≡ fit (2 ^ c .shape .l) (tablesOf (shapeOf (c .shape)) m .counter q) → stateOf c m .counter q ≡ x
   unfolding stateOf view
   counter-is q x e = sym e
-
-  pub sources-is : (q v n : ℕ) → v ≡ fit (2 ^ c .shape .l) (tablesOf (shapeOf (c .shape)) m .counter q) → n ≡ trailingOnes (c .shape .l) v → n ≡ sources (shapeOf (c .shape)) (stateOf c m .counter q)
-  unfolding sources
-  sources-is q v n e k = k ∙ ap (trailingOnes (c .shape .l)) (sym (counter-is q v e))
 
   pub place-as : (b x : ℕ) → x ≡ fit (slots (c .shape .l)) (tablesOf (shapeOf (c .shape)) m .place b) → stateOf c m .place b ≡ placeOf (c .shape .l) x
   unfolding stateOf view

@@ -77,7 +77,7 @@ module _ {A : Type 0} where
 
 -- ---- Searches by place
 module _ {A : Type 0} where
-  rows-none : (g : ℕ → A) → rows g 0 ≡ []
+  pub rows-none : (g : ℕ → A) → rows g 0 ≡ []
   unfolding rows below count
   rows-none g = refl
 

@@ -22,7 +22,7 @@ pub struct Request {
     pub awaits: usize,
 }
 
-// How many jobs are queued, blocks wait and commands are outstanding; whether the front job has begun (1), and how far it is.
+// How many jobs are queued, blocks wait and commands are outstanding; how many jobs the front one runs for, 0 until it has begun, and how far it is.
 pub struct Client {
     pub shape: Shape,
     pub request: Request,

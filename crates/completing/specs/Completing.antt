@@ -4,7 +4,7 @@ use mathlib.Core.Bool.{Bool, true, false, not, _&&_, true≢false}
 use mathlib.Core.Logic.{_⊎_, inl, inr}
 use mathlib.Core.List.{List, [], _∷_}
 use mathlib.Core.Option.{Option, some, Option·map}
-use Prim.Native.Nat.{ℕ, zero, suc, _+_, _-_, _^_, _≤_, _<_, min}
+use Prim.Native.Nat.{ℕ, zero, suc, _+_, _-_, _^_, _≤_, _<_}
 use native.Mathlib.Omega.{arith}
 use lib.ListN.{length}
 use lib.Dec.{eqb, leb, ltb}
@@ -12,7 +12,7 @@ use lib.Pow.{pow-pos}
 use lib.Bits.{bitAnd}
 use borrow.Author.Tests.{eqb-true, eq-eqb, ne-eqb, leb-true}
 use Rattle.lists.specs.Tests.{if_then_else_, and-l, and-r, or-true, between}
-use Rattle.lists.specs.Search.{any, without, firstLeft, below, count}
+use Rattle.lists.specs.Search.{any, keep, without, firstLeft, below, count}
 use Rattle.lists.specs.All.{All, nil, cons}
 use Rattle.lists.specs.Tables.{put}
 use Rattle.rules.specs.Shape.{Shape, slots, cell}
@@ -20,13 +20,17 @@ use Rattle.rules.specs.State as R
 use Rattle.rules.specs.State.{Command, cmd, read, write, foundNumber}
 use Rattle.rules.specs.Setters.{setRequest, setOutstanding, setQueue, setCounter, setBegun, setCursor, setSent}
 use Rattle.rules.specs.Ranges.{isKind}
-use Rattle.rules.specs.Levels.{sources, target, grown, trailingOnes}
+use Rattle.rules.specs.Levels.{filled, joins, grown, down}
+use Rattle.rules.specs.Jobs.{queued, begunWith, joined, levelsOf, leaveQueue, slotCount}
 use Rattle.rules.specs.Blocks.{holder, named}
 use Rattle.rules.specs.Completion.{isCommand, awaitsLess, completed, gatherBytes, completeRead, jobDone, endJob, finishJob, completeWrite, complete}
 use Rattle.rules.specs.Draws.{draws}
 use Rattle.rules.specs.Questions.{completion, ready, bounds, questions, firstNo, number}
 use Rattle.rules.specs.Run.{perform, refuse, sentCommand, handed, handedFound, takenOf, numbersOf}
 use Rattle.rules.specs.Laws.Range.{CommandIn}
+use Rattle.rules.specs.Laws.Single.Job.{alone-levels}
+use Rattle.rules.specs.Laws.Single.Levels.{one-holds}
+use Rattle.rules.specs.Laws.Single.Rules.{target}
 use Rattle.rules.specs.Laws.Kept.{complete-in}
 use Rattle.rules.specs.Laws.Shapes.{complete-keeps}
 use Rattle.memory.specs.Tables.{tablesOf, withBlocks, withCounter}
@@ -41,7 +45,9 @@ use Rattle.contract.specs.Answers.{refusedWith}
 use Rattle.contract.specs.Meets.{callOf, meets-no}
 use Rattle.ready.specs.Usable.{Usable, usable}
 use Rattle.releasing.specs.Performs.{Performs, ready-after}
+use Rattle.jobs.specs.declared.Run.{Run}
 use Rattle.jobs.specs.Queue.{jobsIn, queue-is}
+use Rattle.jobs.specs.Runs.{BegunIn, begun-in, begun-moved, RunOf, levels-are}
 use Rattle.commands.specs.Outstanding.{OutstandingAt, ofKind}
 use Rattle.commands.specs.Commands.{outstanding-is}
 use Rattle.completing.specs.Awaited.{lessened, lessened-is}
@@ -132,6 +138,7 @@ command-in h d e (cons {x = x} {xs = xs} k a) = go (or-true (isCommand d x) (any
 pub record Completes (c : Client) (m : List ℕ) (d : Command) (bs : List ℕ) (j : ℕ) : Type 0 where
   pub room : Room c m
   pub jobs : c .jobs ≤ 64
+  pub begun : BegunIn c m
   pub out : c .out ≤ 32
   pub place : j < c .out
   pub gone : without (isCommand d) (stateOf c m .outstanding) ≡ dropAt j (stateOf c m .outstanding)
@@ -154,6 +161,7 @@ completes c m d bs j r o l =
     record {
       room = u .room;
       jobs = u .jobs;
+      begun = begun-in c m (u .range);
       out = omega (arith, u .counts .out, u .window);
       place = omega (arith, o .place, ap length (outstanding-is c m) ∙ length-rows _ _);
       gone = o .gone;
@@ -211,30 +219,38 @@ one-bit n t l e = rw e (go t l)
     go (suc (suc (suc (suc (suc (suc (suc zero))))))) l = refl
     go (suc (suc (suc (suc (suc (suc (suc (suc t)))))))) l = absurd (omega arith)
 
--- while the writes sent are not as many as the slots of some level, the job is not done
-pub not-done : (c : Client) (m : List ℕ) (q : ℕ) (one : Bool) → Room c m → AllOfLevel (c .sent) one → one ≡ false → jobDone (stateOf c m) q ≡ false
-unfolding jobDone target stateOf view
-not-done c m q one r f e = rw (ne-eqb (c .sent) (slots (min (sources (shapeOf (c .shape)) (stateOf c m .counter q)) (c .shape .l - 1))) (λ z. true≢false (sym (f _ (omega (arith, r .levels, r .someLevels)) z) ∙ e)))
+-- while the writes sent are not as many as the slots of some level, a job that runs alone is not done
+pub not-done : (c : Client) (m : List ℕ) (q : ℕ) (one : Bool) → Room c m → c .begun ≡ 1 → AllOfLevel (c .sent) one → one ≡ false → jobDone (stateOf c m) q ≡ false
+unfolding jobDone stateOf view
+not-done c m q one r b f e =
+    let h = shapeOf (c .shape) in
+    let s = stateOf c m in
+    let n = s .counter q in
+    let k : n < 2 ^ c .shape .l = fit-lt (2 ^ c .shape .l) _ (pow-pos (c .shape .l)) in
+    let alone : joined s q ≡ 1 = unfold joined begunWith in (ap (λ j. begunWith j (joins h n (queued (s .queue) q))) b) in
+    let t : target h n < 8 = unfold target in (omega (arith, r .levels, r .someLevels)) in
+    let w : slotCount (levelsOf s q) ≡ slots (target h n) = ap slotCount (alone-levels s q alone (r .someLevels) k) ∙ one-holds h n (r .someLevels) k .1 in
+    rw (w, ne-eqb (c .sent) (slots (target h n)) (λ z. true≢false (sym (f _ t z) ∙ e)))
 
-pub done-is : (c : Client) (m : List ℕ) (q n s t w : ℕ) (writing : Bool) → n ≡ fit (2 ^ c .shape .l) (tablesOf (shapeOf (c .shape)) m .counter q) → s ≡ trailingOnes (c .shape .l) n → t ≡ min s (c .shape .l - 1) → w ≡ 2 ^ (t + 1)
+pub done-is : (c : Client) (m : List ℕ) (q next w : ℕ) (r : Run) (writing : Bool) → RunOf c m q r → next ≡ grown (shapeOf (c .shape)) (r .counter) (r .joined) → w ≡ slotCount (keep (filled next) (down (suc (r .top))))
     → writing ≡ any (ofKind write) (stateOf c m .outstanding) → (eqb (c .sent) w && not writing) ≡ jobDone (stateOf c m) q
-unfolding jobDone target sources stateOf view
-done-is c m q n s t w writing e₁ e₂ e₃ e₄ e₅ = rw (e₅, e₄, e₃, e₂, e₁)
+unfolding jobDone
+done-is c m q next w r writing f g e k = ap (λ x. eqb (c .sent) x && not writing) (e ∙ ap slotCount (sym (levels-are c m q r next f g))) ∙ (unfold stateOf view in (rw k))
 
 -- the counter grows
-pub counted : (c : Client) (m m₁ : List ℕ) (q k n : ℕ) → k ≡ fit (2 ^ c .shape .l) (tablesOf (shapeOf (c .shape)) m .counter q) → n ≡ grown (shapeOf (c .shape)) k → n < 2 ^ c .shape .l
+pub counted : (c : Client) (m m₁ : List ℕ) (q n : ℕ) (r : Run) → RunOf c m q r → n ≡ grown (shapeOf (c .shape)) (r .counter) (r .joined) → n < 2 ^ c .shape .l
     → tablesOf (shapeOf (c .shape)) m₁ ≡ withCounter (put q n (tablesOf (shapeOf (c .shape)) m .counter)) (tablesOf (shapeOf (c .shape)) m)
-    → Stands c m m₁ (setCounter (put q (grown (stateOf c m .shape) (stateOf c m .counter q)) (stateOf c m .counter)) (stateOf c m))
+    → Stands c m m₁ (setCounter (put q (grown (stateOf c m .shape) (stateOf c m .counter q) (joined (stateOf c m) q)) (stateOf c m .counter)) (stateOf c m))
 unfolding stateOf view tablesOf
-counted c m m₁ q k n e g l t = stands c m m₁ _ _ t refl (view-counter c (tablesOf (shapeOf (c .shape)) m) q n l ∙ rw (g, e))
+counted c m m₁ q n r f g l t = stands c m m₁ _ _ t refl (view-counter c (tablesOf (shapeOf (c .shape)) m) q n l ∙ ap (λ x. setCounter (put q x (stateOf c m .counter)) (stateOf c m)) (g ∙ ap (λ x. grown (shapeOf (c .shape)) x (r .joined)) (f .counter) ∙ ap (grown (shapeOf (c .shape)) (stateOf c m .counter q)) (f .joined)))
 
--- the front job leaves, and the next one has sent nothing
-pub ended : (c d : Client) (m m₁ m₂ : List ℕ) (q : ℕ) → Stands c m m₁ (setCounter (put q (grown (stateOf c m .shape) (stateOf c m .counter q)) (stateOf c m .counter)) (stateOf c m))
-    → d ≡ withJobs (c .jobs - 1) c → Stands d m₁ m₂ (setQueue (dropAt 0 (stateOf c m₁ .queue)) (stateOf c m₁))
-    → Stands (withSent 0 (withCursor 0 (withBegun 0 d))) m m₂ (endJob q (dropAt 0 (stateOf c m .queue)) (stateOf c m))
+-- its jobs leave, and the next one has sent nothing
+pub ended : (c d : Client) (m m₁ m₂ : List ℕ) (q j n : ℕ) → j ≡ joined (stateOf c m) q → Stands c m m₁ (setCounter (put q (grown (stateOf c m .shape) (stateOf c m .counter q) (joined (stateOf c m) q)) (stateOf c m .counter)) (stateOf c m))
+    → d ≡ withJobs n c → Stands d m₁ m₂ (setQueue (leaveQueue q j (stateOf c m₁ .queue)) (stateOf c m₁))
+    → Stands (withSent 0 (withCursor 0 (withBegun 0 d))) m m₂ (endJob q (stateOf c m))
 unfolding endJob stateOf view
-ended c d m m₁ m₂ q k e p = record {
-  state = ap (λ s. setSent 0 (setCursor 0 (setBegun 0 s))) (p .state ∙ ap (λ s. setQueue (dropAt 0 (s .queue)) s) (k .state));
+ended c d m m₁ m₂ q j n a k e p = record {
+  state = ap (λ s. setSent 0 (setCursor 0 (setBegun 0 s))) (p .state ∙ ap (λ s. setQueue (leaveQueue q j (s .queue)) s) (k .state) ∙ ap (λ x. setQueue (leaveQueue q x (stateOf c m .queue)) (setCounter (put q (grown (stateOf c m .shape) (stateOf c m .counter q) (joined (stateOf c m) q)) (stateOf c m .counter)) (stateOf c m))) a);
   tail = next c d m m₁ m₂ _ _ (rw e) k p .tail;
 }
 
@@ -244,14 +260,14 @@ module _ (c : Client) (m : List ℕ) where
   finish-none z = record { state = sym (ap (λ qs. finishJob qs (stateOf c m)) (queue-is c m ∙ ap (rows (jobsIn (c .shape) m)) z)); tail = refl }
 
   module _ (q : ℕ) (front : stateOf c m .queue ≡ q ∷ dropAt 0 (stateOf c m .queue)) where
-    finish-is : (t : Bool) → jobDone (stateOf c m) q ≡ t → finishJob (stateOf c m .queue) (stateOf c m) ≡ (if t then endJob q (dropAt 0 (stateOf c m .queue)) (stateOf c m) else stateOf c m)
+    finish-is : (t : Bool) → jobDone (stateOf c m) q ≡ t → finishJob (stateOf c m .queue) (stateOf c m) ≡ (if t then endJob q (stateOf c m) else stateOf c m)
     unfolding finishJob
-    finish-is t e = ap (λ qs. finishJob qs (stateOf c m)) front ∙ ap (λ t. if t then endJob q (dropAt 0 (stateOf c m .queue)) (stateOf c m) else stateOf c m) e
+    finish-is t e = ap (λ qs. finishJob qs (stateOf c m)) front ∙ ap (λ t. if t then endJob q (stateOf c m) else stateOf c m) e
 
     pub finish-later : jobDone (stateOf c m) q ≡ false → Stands c m m (finishJob (stateOf c m .queue) (stateOf c m))
     finish-later e = record { state = sym (finish-is false e); tail = refl }
 
-    pub finish-now : (c′ : Client) (m′ : List ℕ) → jobDone (stateOf c m) q ≡ true → Stands c′ m m′ (endJob q (dropAt 0 (stateOf c m .queue)) (stateOf c m)) → Stands c′ m m′ (finishJob (stateOf c m .queue) (stateOf c m))
+    pub finish-now : (c′ : Client) (m′ : List ℕ) → jobDone (stateOf c m) q ≡ true → Stands c′ m m′ (endJob q (stateOf c m)) → Stands c′ m m′ (finishJob (stateOf c m .queue) (stateOf c m))
     finish-now c′ m′ e s = record { state = s .state ∙ sym (finish-is true e); tail = s .tail }
 
 -- ---- Both: the command leaves the list first
@@ -261,6 +277,11 @@ module _ (c d : Client) (m m₁ : List ℕ) (x : Command) (bs : List ℕ) (j : �
   left : stateOf d m₁ ≡ completed x (stateOf c m)
   unfolding completed
   left = s .state ∙ ap (λ (z : R.State). setOutstanding (dropAt j (z .outstanding)) z) (lessened-is c m x j (k .left)) ∙ ap (λ cs. setOutstanding cs (setRequest (Option·map (awaitsLess x (stateOf c m .outstanding)) (stateOf c m .request)) (stateOf c m))) (sym (k .gone))
+
+  -- the jobs that run are as before
+  pub begun-left : d .shape ≡ c .shape → d .begun ≡ c .begun → BegunIn d m₁
+  unfolding completed
+  begun-left h b = begun-moved c d m m₁ (completed x (stateOf c m)) left refl refl h b (k .begun)
 
   pub read-done : (m₂ : List ℕ) → x .kind ≡ 1 → Stands d m₁ m₂ (gatherBytes (holder (stateOf d m₁) (x .partition) (x .level) (x .slot)) bs (stateOf d m₁)) → Stands d m m₂ (complete x bs (stateOf c m))
   unfolding complete completeRead completed holder

@@ -3,23 +3,20 @@ use client::Client;
 use client::Found;
 use client::READ;
 use contract::Answer;
-use memory::Shape;
 ghost use mathlib.Core.Path.{_≡_};
 ghost use mathlib.Core.List.{[]};
-ghost use Prim.Native.Nat.{_^_, _<_, _≤_};
+ghost use Prim.Native.Nat.{_<_, _≤_};
 ghost use lib.ListN.{length};
 ghost use lib.Dec.{eqb};
 ghost use Rattle.lists.specs.Tests.{if_then_else_};
 ghost use Rattle.rules.specs.Shape.{slots};
 ghost use Rattle.rules.specs.State.{cmd, read};
-ghost use Rattle.rules.specs.Levels.{grown as grownOf};
 ghost use Rattle.rules.specs.Blocks.{holder};
 ghost use Rattle.rules.specs.Completion.{gatherBytes, jobDone, endJob, finishJob, complete as completeOf};
 ghost use Rattle.rules.specs.Questions.{completion as completionOf};
-ghost use Rattle.memory.specs.Fits.{shapeOf};
 ghost use Rattle.client.specs.View.{stateOf};
-ghost use Rattle.client.specs.Rows.{dropAt};
 ghost use Rattle.client.specs.Moves.{withRequest, Room, Stands};
+ghost use Rattle.jobs.specs.Runs.{BegunIn, Runs};
 ghost use Rattle.contract.specs.Meets.{Meets};
 ghost use Rattle.releasing.specs.Performs.{Performs};
 ghost use Rattle.completing.specs.Completing.{AllOfLevel, Completes};
@@ -55,45 +52,38 @@ fn one_bit(n: usize) -> bool
     n & (n - 1) == 0
 }
 
-// The job for q has sent all its writes, and none is outstanding. Most completions of writes come while the number sent is no power of two: then it is
-// not all of them, whatever the target.
+// The front job, for q, has sent all its writes, and none is outstanding. Most completions of writes come while a job runs alone and the number sent is no
+// power of two: then it is not all of them, whatever the level.
 fn is_done(c: Client, m: &[u8], q: usize) -> bool
-    requires { ⌜ Room c (now m) × (c .out ≤ 32) × (q < c .shape .p) ⌝ }
+    requires { ⌜ Runs c (now m) q × (c .out ≤ 32) ⌝ }
     ensures { λ r. ⌜ r ≡ jobDone (stateOf c (now (m .entry))) q ⌝ }
 {
-    if !one_bit(c.sent) {
+    if (c.begun == 1) & !one_bit(c.sent) {
         return false;
     }
-    let l = c.shape.l;
-    let sources = bits::sources(memory::tables::counter(c.shape, m, q), l);
-    let writes = bits::pow2(bits::target(sources, l) + 1);
+    let run = jobs::running(c, m, q);
+    let next = bits::grown(run.counter, run.joined, c.shape.l);
+    let writes = bits::filled_slots(next, run.top);
     (c.sent == writes) & !commands::is_writing(c, m)
 }
 
-// The counter grows by 1, or from 2^L - 1 falls to 2^(L-1).
-fn grown(h: Shape, counter: usize) -> usize
-    requires { ⌜ (1 ≤ h .l) × (h .l ≤ 8) × (counter < 2 ^ h .l) ⌝ }
-    ensures { λ r. ⌜ (r ≡ grownOf (shapeOf h) counter) × (r < 2 ^ h .l) ⌝ }
-{
-    if counter == bits::pow2(h.l) - 1 {
-        return bits::pow2(h.l - 1);
-    }
-    counter + 1
-}
-
-// The front job, for q, is done: its counter grows, and it leaves the queue.
+// The front job, for q, is done: the counter grows by the jobs that it runs for, and these leave the queue.
 fn end_job(c: Client, m: &mut [u8], q: usize) -> Client
-    requires { ⌜ Room c (now m) × (1 ≤ c .jobs) × (c .jobs ≤ 64) × (q < c .shape .p) ⌝ }
-    ensures { λ r. ⌜ (r .shape ≡ c .shape) × Stands r (now (m .entry)) (now (m .exit)) (endJob q (dropAt 0 (stateOf c (now (m .entry)) .queue)) (stateOf c (now (m .entry)))) × (r .request ≡ c .request) ⌝ }
+    requires { ⌜ Runs c (now m) q ⌝ }
+    ensures { λ r. ⌜ (r .shape ≡ c .shape) × Stands r (now (m .entry)) (now (m .exit)) (endJob q (stateOf c (now (m .entry)))) × (r .request ≡ c .request) ⌝ }
 {
-    let n = grown(c.shape, memory::tables::counter(c.shape, m, q));
+    let run = jobs::running(c, m, q);
+    let n = bits::grown(run.counter, run.joined, c.shape.l);
     memory::tables::set_counter(c.shape, m, q, n);
-    jobs::pop(c, m).with_begun(0).with_cursor(0).with_sent(0)
+    jobs::leave(c, m, q, run.joined)
+        .with_begun(0)
+        .with_cursor(0)
+        .with_sent(0)
 }
 
 // The front job ends when its last write completes.
 fn finish_job(c: Client, m: &mut [u8]) -> Client
-    requires { ⌜ Room c (now m) × (c .out ≤ 32) × (c .jobs ≤ 64) ⌝ }
+    requires { ⌜ Room c (now m) × (c .out ≤ 32) × (c .jobs ≤ 64) × BegunIn c (now m) ⌝ }
     ensures { λ r. ⌜ (r .shape ≡ c .shape) × Stands r (now (m .entry)) (now (m .exit)) (finishJob (stateOf c (now (m .entry)) .queue) (stateOf c (now (m .entry)))) × (r .request ≡ c .request) ⌝ }
 {
     if c.jobs == 0 {

@@ -3,23 +3,28 @@ use mathlib.Core.Path.{_≡_, refl, ap, sym, _∙_}
 use mathlib.Core.Bool.{Bool, true, false}
 use mathlib.Core.List.{List, _∷_}
 use mathlib.Core.Option.{Option, none, some, Option·getD}
-use Prim.Native.Nat.{ℕ, _-_, _≤_, _<_, min}
+use Prim.Native.Nat.{ℕ, suc, _+_, _-_, _≤_, _<_}
+use native.Mathlib.Omega.{arith}
+use native.Mathlib.Numerals.{add-one}
 use lib.Dec.{eqb}
-use borrow.Author.Tests.{eq-eqb, ne-eqb, lt-ltb, le-ltb}
+use borrow.Author.Tests.{eq-eqb, ne-eqb}
 use Rattle.lists.specs.Search.{any, keep, below, count}
-use Rattle.rules.specs.Shape.{Shape, slots}
 use Rattle.rules.specs.State.{State, Request}
-use Rattle.rules.specs.Levels.{sources, target}
+use Rattle.rules.specs.Levels.{filled, grown, down}
+use Rattle.rules.specs.Jobs.{levelsOf, writeAt}
 use Rattle.rules.specs.Request.{held, releasedFor}
 use Rattle.rules.specs.Reader.{costs, levelsLeft, slotRead}
 use Rattle.rules.specs.Rebuild.{unread}
 use Rattle.rules.specs.Turn as Turn
-use Rattle.rules.specs.Turn.{requestStep, readStep, firstRead, jobStep, gatherStep, rebuildStep, writeStep}
+use Rattle.rules.specs.Turn.{requestStep, readStep, firstRead, jobStep, gatherStep, rebuildStep, nextWrite, writeStep}
+use Rattle.rules.specs.Laws.Bits.{slotsAt, write-here, write-later, write-none}
 use Rattle.memory.specs.Fits.{shapeOf, fit}
 use Rattle.memory.specs.Tables.{tablesOf}
 use Rattle.client.specs.declared.Client.{Client}
 use Rattle.client.specs.View.{rows, view, stateOf}
 use Rattle.client.specs.Readings.{handOf, hand-none, hand-some, hand-held, hand-released}
+use Rattle.jobs.specs.declared.Run.{Run}
+use Rattle.jobs.specs.Runs.{RunOf, levels-are}
 use Rattle.commands.specs.Outstanding.{ofPartition}
 use Rattle.levels.specs.Next.{NextLevel}
 use Rattle.reading.specs.Slots.{Reads}
@@ -28,13 +33,14 @@ use Rattle.deciding.specs.declared.Step.the-variants.{Idle, NoDummy, Rea
 use Rattle.deciding.specs.declared.Due.{Due}
 use Rattle.deciding.specs.declared.Due.the-variants as due
 
-abbrev pub stepOf : Step → Turn.Step
-stepOf Idle = Turn.idle
-stepOf NoDummy = Turn.noDummy
-stepOf (ReadForRequest q l i) = Turn.readForRequest q l i
-stepOf (ReadForJob q l i) = Turn.readForJob q l i
-stepOf (Rebuild q t) = Turn.rebuild q t
-stepOf (WriteNext q t i) = Turn.writeNext q t i
+-- the rules' step, in the state s: a rebuild writes the levels of its run
+abbrev pub stepOf : State → Step → Turn.Step
+stepOf s Idle = Turn.idle
+stepOf s NoDummy = Turn.noDummy
+stepOf s (ReadForRequest q l i) = Turn.readForRequest q l i
+stepOf s (ReadForJob q l i) = Turn.readForJob q l i
+stepOf s (Rebuild q) = Turn.rebuild q (levelsOf s q)
+stepOf s (WriteNext q t i) = Turn.writeNext q t i
 
 abbrev pub dueOf : Due → Option Turn.Step
 dueOf (due.Read q l i) = some (Turn.readForRequest q l i)
@@ -123,11 +129,6 @@ pub job-none : (c : Client) (m : List ℕ) → c .jobs ≡ 0 → Turn.idle ≡ j
 unfolding stateOf view rows below count jobStep
 job-none c m e = ap (λ n. jobStep (stateOf c m) (rows (λ i. fit (c .shape .p) (tablesOf (shapeOf (c .shape)) m .queue i)) n)) (sym e)
 
--- its target
-pub target-is : (h : Shape) (k n t : ℕ) → n ≡ sources h k → t ≡ min n (h .L - 1) → t ≡ target h k
-unfolding target
-target-is h k n t e f = f ∙ ap (λ x. min x (h .L - 1)) e
-
 module _ (s : State) (q : ℕ) where
   pub gather-read : (p : ℕ × ℕ) → some p ≡ unread s q → Turn.readForJob q (p .0) (p .1) ≡ gatherStep q (unread s q) (rebuildStep s q)
   unfolding gatherStep
@@ -145,18 +146,36 @@ module _ (s : State) (q : ℕ) where
   unfolding rebuildStep
   gather-stays e b k = sym (rw (b, k)) ∙ gather-done e
 
-  pub gather-rebuilds : (t : ℕ) → none ≡ unread s q → any (ofPartition q) (s .outstanding) ≡ false → releasedFor (s .partition) (s .request) q ≡ false → t ≡ target (s .shape) (s .counter q)
-      → Turn.rebuild q t ≡ gatherStep q (unread s q) (rebuildStep s q)
+  pub gather-rebuilds : none ≡ unread s q → any (ofPartition q) (s .outstanding) ≡ false → releasedFor (s .partition) (s .request) q ≡ false
+      → Turn.rebuild q (levelsOf s q) ≡ gatherStep q (unread s q) (rebuildStep s q)
   unfolding rebuildStep
-  gather-rebuilds t e b k f = ap (Turn.rebuild q) f ∙ sym (rw (b, k)) ∙ gather-done e
+  gather-rebuilds e b k = sym (rw (b, k)) ∙ gather-done e
 
-  pub write-next : (t : ℕ) → t ≡ target (s .shape) (s .counter q) → s .sent < slots t → Turn.writeNext q t (s .sent) ≡ writeStep s q
-  unfolding writeStep
-  write-next t e l = rw (← e, lt-ltb (s .sent) (slots t) l)
+-- ---- The job's writes
 
-  pub write-none : (t : ℕ) → t ≡ target (s .shape) (s .counter q) → slots t ≤ s .sent → Turn.idle ≡ writeStep s q
-  unfolding writeStep
-  write-none t e l = rw (← e, le-ltb (s .sent) (slots t) l)
+-- write number i₀ of the levels below l₀ is write number i of those below l
+abbrev pub Passed : ℕ → ℕ → ℕ → ℕ → ℕ → Type 0
+Passed next l₀ i₀ l i = writeAt (keep (filled next) (down l₀)) i₀ ≡ writeAt (keep (filled next) (down l)) i
+
+pub passed-more : (next l₀ i₀ l i n : ℕ) → 0 < l → n ≡ slotsAt next (l - 1) → n ≤ i → Passed next l₀ i₀ l i → Passed next l₀ i₀ (l - 1) (i - n)
+passed-more next l₀ i₀ l i n s e k w =
+    let z : l ≡ suc (l - 1) = omega arith in
+    w ∙ ap (λ x. writeAt (keep (filled next) (down x)) i) z ∙ write-later next (l - 1) i (rw e at k) ∙ ap (λ x. writeAt (keep (filled next) (down (l - 1))) (i - x)) (sym e)
+
+module _ (c : Client) (m : List ℕ) (q : ℕ) (r : Run) (next : ℕ) (f : RunOf c m q r) (g : next ≡ grown (shapeOf (c .shape)) (r .counter) (r .joined)) where
+  writes-are : writeStep (stateOf c m) q ≡ nextWrite q (writeAt (keep (filled next) (down (r .top + 1))) (c .sent))
+  unfolding writeStep stateOf view
+  writes-are = ap (λ ls. nextWrite q (writeAt ls (c .sent))) (levels-are c m q r next f g ∙ ap (λ n. keep (filled next) (down n)) (sym (add-one (r .top))))
+
+  pub write-next : (l i n : ℕ) → 0 < l → n ≡ slotsAt next (l - 1) → i < n → Passed next (r .top + 1) (c .sent) l i → Turn.writeNext q (l - 1) i ≡ writeStep (stateOf c m) q
+  unfolding nextWrite
+  write-next l i n s e k w =
+      let z : l ≡ suc (l - 1) = omega arith in
+      sym (writes-are ∙ ap (nextWrite q) (w ∙ ap (λ x. writeAt (keep (filled next) (down x)) i) z ∙ write-here next (l - 1) i (rw e at k)))
+
+  pub write-ends : (l i : ℕ) → l ≡ 0 → Passed next (r .top + 1) (c .sent) l i → Turn.idle ≡ writeStep (stateOf c m) q
+  unfolding nextWrite
+  write-ends l i z w = sym (writes-are ∙ ap (nextWrite q) (w ∙ ap (λ x. writeAt (keep (filled next) (down x)) i) z ∙ write-none next i))
 
 -- a request's reads go before a job's commands
 pub decided : (s : State) (o : Option Turn.Step) → o ≡ requestStep s (s .request) → Option·getD o (jobStep s (s .queue)) ≡ Turn.decide s

@@ -1,28 +1,30 @@
 // What a turn does next. A request's reads go before a job's commands.
 use client::Client;
 use client::Found;
+use jobs::Run;
 use levels::Spot;
 ghost use mathlib.Core.Path.{_≡_};
 ghost use Prim.Native.Nat.{_-_, _<_};
 ghost use Rattle.lists.specs.Search.{keep, count};
-ghost use Rattle.rules.specs.Levels.{sources as sourcesOf, target as targetOf};
 ghost use Rattle.rules.specs.Request.{releasedFor};
 ghost use Rattle.rules.specs.Reader.{costs, slotRead};
 ghost use Rattle.rules.specs.Rebuild.{unread};
 ghost use Rattle.rules.specs.Turn.{decide as decideOf, requestStep, firstRead, jobStep, gatherStep, rebuildStep, writeStep};
-ghost use Rattle.memory.specs.Fits.{shapeOf};
 ghost use Rattle.client.specs.View.{stateOf};
+ghost use Rattle.client.specs.Moves.{Room};
+ghost use Rattle.jobs.specs.Runs.{RunOf};
 ghost use Rattle.ready.specs.Usable.{Usable};
 ghost use Rattle.reading.specs.Slots.{Reads};
 ghost use Rattle.deciding.specs.Steps.{stepOf, dueOf};
 
-// There is no command to send; the request lacks an unread dummy, or in a source an unread item; or the step: partition, level, and but for a rebuild the slot.
+// There is no command to send; the request lacks an unread dummy, or in a source an unread item; or the step: partition, and but for a rebuild level and
+// slot.
 pub enum Step {
     Idle,
     NoDummy,
     ReadForRequest(usize, usize, usize),
     ReadForJob(usize, usize, usize),
-    Rebuild(usize, usize),
+    Rebuild(usize),
     WriteNext(usize, usize, usize),
 }
 
@@ -88,11 +90,11 @@ fn is_released_for(c: Client, m: &[u8], q: usize) -> bool
 }
 
 // The job's next read; or the rebuild, once nothing of its partition is outstanding and no look-up there is to be collected.
-fn gather_step(c: Client, m: &[u8], q: usize, sources: usize) -> Step
-    requires { ⌜ Usable c (now m) × (q < c .shape .p) × (sources ≡ sourcesOf (shapeOf (c .shape)) (stateOf c (now m) .counter q)) ⌝ }
-    ensures { λ r. ⌜ stepOf r ≡ gatherStep q (unread (stateOf c (now (m .entry))) q) (rebuildStep (stateOf c (now (m .entry))) q) ⌝ }
+fn gather_step(c: Client, m: &[u8], q: usize, run: Run) -> Step
+    requires { ⌜ Usable c (now m) × (q < c .shape .p) × RunOf c (now m) q run ⌝ }
+    ensures { λ r. ⌜ stepOf (stateOf c (now (m .entry))) r ≡ gatherStep q (unread (stateOf c (now (m .entry))) q) (rebuildStep (stateOf c (now (m .entry))) q) ⌝ }
 {
-    let spot = levels::unread(c, m, q, sources);
+    let spot = levels::unread(c, m, q, run.counter, run.top);
     if let Spot::At(l, i) = spot {
         return Step::ReadForJob(q, l, i);
     }
@@ -102,18 +104,24 @@ fn gather_step(c: Client, m: &[u8], q: usize, sources: usize) -> Step
     if is_released_for(c, m, q) {
         return Step::Idle;
     }
-    let t = bits::target(sources, c.shape.l);
-    Step::Rebuild(q, t)
+    Step::Rebuild(q)
 }
 
-// The job's next write to level t, if one is left.
-fn write_step(c: Client, m: &[u8], q: usize, t: usize) -> Step
-    requires { ⌜ (t < 8) × (t ≡ targetOf (shapeOf (c .shape)) (stateOf c (now m) .counter q)) ⌝ }
-    ensures { λ r. ⌜ stepOf r ≡ writeStep (stateOf c (now (m .entry))) q ⌝ }
+// The job's next write, if one is left: of the highest level that has one, slots ascending. Most jobs run alone and write one level.
+fn write_step(c: Client, m: &[u8], q: usize, run: Run) -> Step
+    requires { ⌜ Room c (now m) × RunOf c (now m) q run ⌝ }
+    ensures { λ r. ⌜ stepOf (stateOf c (now (m .entry))) r ≡ writeStep (stateOf c (now (m .entry))) q ⌝ }
 {
-    let i = c.sent;
-    if i < bits::pow2(t + 1) {
-        return Step::WriteNext(q, t, i);
+    let next = bits::grown(run.counter, run.joined, c.shape.l);
+    let mut l = run.top + 1;
+    let mut i = c.sent;
+    while 0 < l {
+        l -= 1;
+        let n = bits::slots_at(next, l);
+        if i < n {
+            return Step::WriteNext(q, l, i);
+        }
+        i -= n;
     }
     Step::Idle
 }
@@ -121,23 +129,22 @@ fn write_step(c: Client, m: &[u8], q: usize, t: usize) -> Step
 // What the front job does next.
 fn job_step(c: Client, m: &[u8]) -> Step
     requires { ⌜ Usable c (now m) ⌝ }
-    ensures { λ r. ⌜ stepOf r ≡ jobStep (stateOf c (now (m .entry))) (stateOf c (now (m .entry)) .queue) ⌝ }
+    ensures { λ r. ⌜ stepOf (stateOf c (now (m .entry))) r ≡ jobStep (stateOf c (now (m .entry))) (stateOf c (now (m .entry)) .queue) ⌝ }
 {
     if c.jobs == 0 {
         return Step::Idle;
     }
     let q = jobs::front(c, m);
-    let counter = memory::tables::counter(c.shape, m, q);
-    let sources = bits::sources(counter, c.shape.l);
+    let run = jobs::running(c, m, q);
     if c.sent == 0 {
-        return gather_step(c, m, q, sources);
+        return gather_step(c, m, q, run);
     }
-    write_step(c, m, q, bits::target(sources, c.shape.l))
+    write_step(c, m, q, run)
 }
 
 pub fn decide(c: Client, m: &[u8]) -> Step
     requires { ⌜ Usable c (now m) ⌝ }
-    ensures { λ r. ⌜ stepOf r ≡ decideOf (stateOf c (now (m .entry))) ⌝ }
+    ensures { λ r. ⌜ stepOf (stateOf c (now (m .entry))) r ≡ decideOf (stateOf c (now (m .entry))) ⌝ }
 {
     let due = request_step(c, m);
     match due {

@@ -3,15 +3,15 @@ use mathlib.Core.Path.{_≡_, refl, ap}
 use mathlib.Core.Bool.{Bool, true, false}
 use mathlib.Core.List.{List}
 use mathlib.Core.Option.{Option, none, some, Option·getD}
-use Prim.Native.Nat.{ℕ, _+_, _-_, _%_, _^_, _≤_, _<_}
+use Prim.Native.Nat.{ℕ, _+_, _-_, _%_, _≤_, _<_}
 use native.Mathlib.Nat.{mod-eq-of-lt}
 use native.Mathlib.Omega.{arith}
-use lib.ListN.{length}
+use lib.ListN.{length, getD}
 use lib.Dec.{eqb, leb}
 use lib.Pow.{pow-mono, pow-pos}
 use borrow.Author.Tests.{eqb-true, leb-true, eq-eqb}
 use Rattle.lists.specs.Tests.{if_then_else_, and-r, every-yes, between}
-use Rattle.lists.specs.All.{IfSome}
+use Rattle.lists.specs.All.{IfSome, all-getD}
 use Rattle.rules.specs.Shape.{Shape, within, slots}
 use Rattle.rules.specs.Collect.{carried}
 use Rattle.rules.specs.State.{State, Command, cmd, Found, foundNowhere, foundCache, foundLevel, foundNumber}
@@ -22,10 +22,12 @@ use Rattle.rules.specs.Questions.{Ask, opening, request, turn, completion, coll
 use Rattle.rules.specs.Run.{sentCommand, handedFound}
 use Rattle.rules.specs.Laws.Answers.{Passed}
 use Rattle.rules.specs.Laws.Range.{InRange, FoundIn, RequestIn, JobsIn}
+use Rattle.rules.specs.Laws.Levels.{levels-pos}
 use Rattle.rules.specs.Laws.Waiting.{waits-le}
 use Rattle.rules.specs.Setters.{setRequest}
 use Rattle.rules.specs.Laws.Decided.{StepIn, decide-in}
 use Rattle.rules.specs.Laws.Kept.{given-in}
+use Rattle.rules.specs.Laws.Rebuilt.{job-le}
 use Rattle.memory.specs.Fits.{shapeOf, parts-le, fit}
 use Rattle.memory.specs.Tables.{tablesOf}
 use Rattle.client.specs.declared.Client.{Client}
@@ -69,14 +71,14 @@ cell-small s f k q ℓ i l h =
 no-command : SmallCommand (cmd 0 0 0 0)
 no-command = record { kind = omega arith; partition = omega arith; level = omega arith; slot = omega arith }
 
-step-small : (s : State) → InRange s → (x : Step) → StepIn (s .shape) x → SmallCommand (command x)
+step-small : (s : State) → InRange s → (x : Step) → StepIn s x → SmallCommand (command x)
 unfolding command
 step-small s f idle h = no-command
 step-small s f noDummy h = no-command
 step-small s f (readForRequest q ℓ i) h = cell-small s f 1 q ℓ i (omega arith) h
-step-small s f (readForJob q ℓ i) h = cell-small s f 1 q ℓ i (omega arith) h
-step-small s f (rebuild q t) h = cell-small s f 2 q t 0 (omega arith) (h .0, h .1, pow-pos (t + 1))
-step-small s f (writeNext q t i) h = cell-small s f 2 q t i (omega arith) h
+step-small s f (readForJob q ℓ i) h = cell-small s f 1 q ℓ i (omega arith) (h .0, h .1, h .2)
+step-small s f (rebuild q ls) h = cell-small s f 2 q (getD ls 0 0) 0 (omega arith) (h .0, all-getD 0 (h .1) (levels-pos (s .shape) (f .shape)), pow-pos (getD ls 0 0 + 1))
+step-small s f (writeNext q t i) h = cell-small s f 2 q t i (omega arith) (h .0, h .1, h .2)
 
 -- of an accepted call
 pub accepted-small : (s : State) (a : Ask) (m : ℕ) (ws : List ℕ) (n : ℕ) → Passed (questions s a m ws n) → SmallCommand (sentCommand s a)
@@ -199,10 +201,9 @@ low-client c m f =
     let waiting : c .waiting ≤ c .shape .e = omega (arith, waits-le (h .E) (stateOf c m .waiting) (stateOf c m .request) (f .cache), length-rows (λ i. fit (h .N) (tablesOf h m .waiting i)) (c .waiting)) in
     let out : c .out ≤ c .shape .w = omega (arith, f .free, length-rows (λ i. commandBy h (tablesOf h m .kinds i) (tablesOf h m .spots i)) (c .out)) in
     let cells : slots (c .shape .l) ≤ 512 = pow-mono {i = c .shape .l + 1} {j = 9} (omega arith) in
-    let writes : 2 ^ c .shape .l ≤ 256 = pow-mono {i = c .shape .l} {j = 8} (omega arith) in
-    let begun : c .begun ≤ 1 = f .begun in
+    let begun : c .begun ≤ 64 = job-le h (stateOf c m .counter) (stateOf c m .queue) (c .begun) (f .begun) in
     let cursor : c .cursor ≤ slots (c .shape .l) - 2 = f .cursor in
-    let sent : c .sent ≤ 2 ^ c .shape .l = f .sent in
+    let sent : c .sent ≤ slots (c .shape .l) - 2 = f .sent in
     rw (
       low (c .shape .n) (omega arith),
       low (c .shape .p) (omega arith),

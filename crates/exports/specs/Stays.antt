@@ -54,15 +54,15 @@ complete-waiting s c bs = go (eqb (c .kind) 1) (holder s (c .partition) (c .leve
     s′ : State
     s′ = completed c s
 
-    ended : (q : ℕ) (qs : List ℕ) (t : Bool) → (if t then endJob q qs s′ else s′) .waiting ≡ s .waiting
-    ended q qs true = refl
-    ended q qs false = refl
+    ended : (q : ℕ) (t : Bool) → (if t then endJob q s′ else s′) .waiting ≡ s .waiting
+    ended q true = refl
+    ended q false = refl
 
     go : (t : Bool) (b : Option ℕ) (qs : List ℕ) → (if t then gatherBytes b bs s′ else finishJob qs s′) .waiting ≡ s .waiting
     go true none qs = refl
     go true (some b) qs = refl
     go false b [] = refl
-    go false b (q ∷ qs) = ended q qs (jobDone s′ q)
+    go false b (q ∷ qs) = ended q (jobDone s′ q)
 
 -- that of a read
 pub read-done-stays : (s : State) (c : Command) (bs : List ℕ) → c .kind ≡ 1 → (complete c bs s .queue ≡ s .queue) × (complete c bs s .cursor ≡ s .cursor) × (complete c bs s .sent ≡ s .sent) × (complete c bs s .begun ≡ s .begun)

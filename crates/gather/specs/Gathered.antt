@@ -1,15 +1,17 @@
 -- The gathered blocks as an ascending list that grows by insertion.
 use mathlib.Core.Path.{_≡_, refl, ap}
 use mathlib.Core.Bool.{true, false}
-use mathlib.Core.List.{List, [], _∷_}
-use mathlib.Core.Option.{Option, none, some}
+use mathlib.Core.List.{List, [], _∷_, _++_, map}
 use Prim.Native.Nat.{ℕ, zero, suc, _-_, _≤_, _<_}
 use lib.ListN.{length, take, getD}
 use native.Mathlib.Omega.{arith}
 use lib.Dec.{eqb, ltb}
 use Rattle.lists.specs.All.{All}
+use Rattle.lists.specs.Search.{keep, below}
+use Rattle.rules.specs.Shape.{cell}
 use Rattle.rules.specs.State.{State}
-use Rattle.rules.specs.Rebuild.{chosen, gathered}
+use Rattle.rules.specs.Levels.{filled}
+use Rattle.rules.specs.Rebuild.{chosen, entriesIn, gatherFrom}
 
 -- each number is below those after it
 abbrev pub Ascending : List ℕ → Type 0
@@ -41,16 +43,15 @@ pub record Shifted (l l′ : List ℕ) (i k : ℕ) : Type 0 where
   pub kept : (j : ℕ) → j < i → getD l′ j 0 ≡ getD l j 0
   pub moved : (j : ℕ) → i < j → j ≤ k → getD l′ j 0 ≡ getD l (j - 1) 0
 
--- the chosen block, as a number
-abbrev pub extraOf : Option ℕ → ℕ
-extraOf none = 0
-extraOf (some b) = suc b
+-- what a slot holds
+unfoldable pub slotAt : State → ℕ → ℕ → ℕ → ℕ
+slotAt s q ℓ i = s .holds (cell (s .shape) q ℓ i)
 
-abbrev pub Extra : State → ℕ → ℕ → Type 0
-Extra s q extra = extra ≡ extraOf (chosen s q)
+-- the blocks gathered of the sources below level ℓ, and of the first j slots of level ℓ
+unfoldable pub gatheredTo : State → ℕ → ℕ → ℕ → List ℕ
+gatheredTo s q ℓ j = gatherFrom (chosen s q) (entriesIn (slotAt s q) (keep (filled (s .counter q)) (below ℓ)) ++ map (slotAt s q ℓ) (below j)) (s .shape .N)
 
--- the first r entries of the list are the gathered blocks, unless there are more than the limit
-pub record Gathers (s : State) (q limit r : ℕ) (list : List ℕ) : Type 0 where
-  pub all : length (gathered s q) ≤ limit → take r list ≡ gathered s q
-  pub count : length (gathered s q) ≤ limit → r ≡ length (gathered s q)
-  pub more : limit < length (gathered s q) → limit < r
+-- the first r entries of the list are these blocks, unless there are more than the limit
+pub record Gathers (blocks : List ℕ) (limit r : ℕ) (list : List ℕ) : Type 0 where
+  pub all : r ≤ limit → take r list ≡ blocks
+  pub more : limit < r → limit < length blocks

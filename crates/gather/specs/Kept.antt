@@ -1,28 +1,20 @@
--- The blocks gathered so far: those of the first slots, kept from all in their order.
+-- The blocks gathered so far, kept from all in their order, ascend, and grow by insertion.
 use mathlib.Core.Path.{_≡_, refl, ap, sym, _∙_}
 use mathlib.Core.Bool.{Bool, true, false, _||_}
 use mathlib.Core.Logic.{⊎-elim}
-use mathlib.Core.List.{List, [], _∷_, _++_, map}
-use mathlib.Core.Option.{Option, none, some}
-use Prim.Native.Nat.{ℕ, zero, suc, _+_, _-_, _≤_, _<_}
+use mathlib.Core.List.{List, [], _∷_, _++_}
+use Prim.Native.Nat.{ℕ, zero, suc, _+_, _≤_, _<_}
 use native.Mathlib.Omega.{arith}
 use native.Mathlib.Decide.{ℕ-discrete}
-use lib.ListN.{length, take}
-use lib.Seq.{length-take-le}
+use lib.ListN.{length}
 use lib.Dec.{eqb}
 use borrow.Author.Tests.{eq-eqb, ne-eqb}
 use Rattle.lists.specs.Tests.{or-true, or-left, or-right}
 use Rattle.lists.specs.Search.{keep, below, count, member, any, keep-yes, keep-no}
 use Rattle.lists.specs.All.{All, nil, cons, all-keep, all-map, keep-passes}
-use Rattle.lists.specs.Members.{all-mem, count-from, keep-mem, mem-keep, keep-same, nodup-keep, nodup-count, nodup-sub, map-mem, mem-map, below-mem, mem-below, mem-member, member-mem}
-use Rattle.rules.specs.Shape.{slots, cell}
-use Rattle.rules.specs.State.{State}
-use Rattle.rules.specs.Levels.{sources}
-use Rattle.rules.specs.Blocks.{entries}
-use Rattle.rules.specs.Rebuild.{chosen, isChosen, gathered}
-use Rattle.client.specs.View.{rows}
-use Rattle.client.specs.Rows.{rows-snoc}
-use Rattle.gather.specs.Gathered.{Ascending, inserted, added, extraOf, Gathers}
+use Rattle.lists.specs.Members.{all-mem, count-from, keep-mem, mem-keep, keep-same, nodup-keep, nodup-count, nodup-sub, member-append, mem-member, member-mem}
+use Rattle.rules.specs.Rebuild.{gatherFrom}
+use Rattle.gather.specs.Gathered.{Ascending, inserted, added}
 use Rattle.gather.specs.Inserted.{inserted-before, inserted-here, inserted-behind}
 
 -- ---- Numbers that are kept from all below n
@@ -74,7 +66,7 @@ kept-none : (p : ℕ → Bool) (xs : List ℕ) → ((x : ℕ) → p x ≡ false)
 kept-none p [] h = unfold keep in refl
 kept-none p (x ∷ xs) h = keep-no p x xs (h x) ∙ kept-none p xs h
 
--- ---- Members of the first entries of a table
+-- ---- The blocks below n that are among xs, or that an entry of es names
 
 or-assoc : (a b d : Bool) → ((a || b) || d) ≡ (a || (b || d))
 or-assoc true b d = refl
@@ -89,103 +81,44 @@ unfolding member any
 member-snoc y [] z = or-false (eqb y z)
 member-snoc y (x ∷ xs) z = ap (λ t. eqb y x || t) (member-snoc y xs z) ∙ sym (or-assoc (eqb y x) (member y xs) (eqb y z))
 
-member-last : (y : ℕ) (f : ℕ → ℕ) (j : ℕ) → member y (map f (below (j + 1))) ≡ (member y (map f (below j)) || eqb y (f j))
-unfolding rows
-member-last y f j = ap (member y) (rows-snoc f j) ∙ member-snoc y (map f (below j)) (f j)
+abbrev isAmong : List ℕ → List ℕ → ℕ → Bool
+isAmong xs es b = member b xs || member (suc b) es
 
-member-more : (y : ℕ) (f : ℕ → ℕ) (j k : ℕ) → j ≤ k → member y (map f (below j)) ≡ true → member y (map f (below k)) ≡ true
-member-more y f j k h m =
-    let r = mem-map f y (below j) (member-mem y (map f (below j)) m) in
-    mem-member y (map f (below k)) (rw (r .1 .1) (map-mem f (r .0) (below k) (below-mem k (r .0) (omega (arith, mem-below j (r .0) (r .1 .0))))))
+module _ (n : ℕ) where
+  pub from-none : gatherFrom [] [] n ≡ []
+  unfolding gatherFrom member any
+  from-none = kept-none (λ b. false) (below n) (λ b. refl)
 
--- ---- The blocks below n among a chosen one and those that the first j entries of a table name
+  pub from-ascends : (xs es : List ℕ) → Ascending (gatherFrom xs es n)
+  unfolding gatherFrom below
+  from-ascends xs es = kept-ascend (isAmong xs es) 0 n
 
-unfoldable isAmong : Option ℕ → (ℕ → ℕ) → ℕ → ℕ → Bool
-isAmong o f j b = isChosen o b || member (suc b) (map f (below j))
-
-unfoldable upTo : Option ℕ → (ℕ → ℕ) → ℕ → ℕ → List ℕ
-upTo o f n j = keep (isAmong o f j) (below n)
-
-module _ (o : Option ℕ) (f : ℕ → ℕ) (n : ℕ) where
-  up-ascends : (j : ℕ) → Ascending (upTo o f n j)
-  unfolding upTo below
-  up-ascends j = kept-ascend (isAmong o f j) 0 n
-
-  up-step : (j : ℕ) → f j ≤ n → added (f j) (upTo o f n j) ≡ upTo o f n (j + 1)
-  unfolding upTo
-  up-step j h = go (f j) refl h
+  -- an entry more
+  pub from-entry : (xs es : List ℕ) (e : ℕ) → e ≤ n → added e (gatherFrom xs es n) ≡ gatherFrom xs (es ++ (e ∷ [])) n
+  unfolding gatherFrom
+  from-entry xs es e l = go e refl l
     where
-      one : (b : ℕ) → isAmong o f (j + 1) b ≡ (isAmong o f j b || eqb (suc b) (f j))
-      one b = unfold isAmong in (ap (λ t. isChosen o b || t) (member-last (suc b) f j) ∙ sym (or-assoc (isChosen o b) (member (suc b) (map f (below j))) (eqb (suc b) (f j))))
+      one : (b : ℕ) → isAmong xs (es ++ (e ∷ [])) b ≡ (isAmong xs es b || eqb (suc b) e)
+      one b = ap (λ t. member b xs || t) (member-snoc (suc b) es e) ∙ sym (or-assoc (member b xs) (member (suc b) es) (eqb (suc b) e))
 
-      other : (b : ℕ) → (suc b ≡ f j → ⊥) → isAmong o f j b ≡ isAmong o f (j + 1) b
-      other b d = sym (one b ∙ ap (λ t. isAmong o f j b || t) (ne-eqb (suc b) (f j) d) ∙ or-false (isAmong o f j b))
+      other : (b : ℕ) → (suc b ≡ e → ⊥) → isAmong xs es b ≡ isAmong xs (es ++ (e ∷ [])) b
+      other b d = sym (one b ∙ ap (λ t. isAmong xs es b || t) (ne-eqb (suc b) e d) ∙ or-false (isAmong xs es b))
 
-      go : (e : ℕ) → f j ≡ e → e ≤ n → added e (keep (isAmong o f j) (below n)) ≡ keep (isAmong o f (j + 1)) (below n)
-      go zero e l = unfold added in (keep-same (isAmong o f j) (isAmong o f (j + 1)) (below n) (λ b m. other b (λ d. omega arith)))
-      go (suc x) e l = unfold added in (below-insert (isAmong o f j) (isAmong o f (j + 1)) x (one x ∙ or-right (isAmong o f j x) _ (eq-eqb (suc x) (f j) (sym e))) (λ b d. other b (λ q. d (omega arith))) n (omega arith))
+      go : (x : ℕ) → e ≡ x → x ≤ n → added x (keep (isAmong xs es) (below n)) ≡ keep (isAmong xs (es ++ (e ∷ []))) (below n)
+      go zero q l = unfold added in (keep-same (isAmong xs es) (isAmong xs (es ++ (e ∷ []))) (below n) (λ b m. other b (λ d. omega arith)))
+      go (suc x) q l = unfold added in (below-insert (isAmong xs es) (isAmong xs (es ++ (e ∷ []))) x (one x ∙ or-right (isAmong xs es x) _ (eq-eqb (suc x) e (sym q))) (λ b d. other b (λ u. d (omega arith))) n (omega arith))
 
-  up-le : (j k : ℕ) → j ≤ k → length (upTo o f n j) ≤ length (upTo o f n k)
-  unfolding upTo below
-  up-le j k h = nodup-sub (keep (isAmong o f j) (below n)) (keep (isAmong o f k) (below n)) (nodup-keep (isAmong o f j) (below n) (nodup-count 0 n))
-      (λ b m. mem-keep (isAmong o f k) (below n) b (keep-mem (isAmong o f j) (below n) b m) (more b (all-mem (keep-passes (isAmong o f j) (below n)) b m)))
+  -- a block more
+  pub from-block : (xs : List ℕ) (x : ℕ) → x < n → inserted x (gatherFrom xs [] n) ≡ gatherFrom (xs ++ (x ∷ [])) [] n
+  unfolding gatherFrom
+  from-block xs x l = below-insert (isAmong xs []) (isAmong (xs ++ (x ∷ [])) []) x (or-left _ _ (member-snoc x xs x ∙ or-right (member x xs) _ (eq-eqb x x refl)))
+      (λ b d. ap (λ t. t || member (suc b) []) (sym (member-snoc b xs x ∙ ap (λ t. member b xs || t) (ne-eqb b x d) ∙ or-false (member b xs)))) n l
+
+  -- entries more
+  pub from-le : (xs es us : List ℕ) → length (gatherFrom xs es n) ≤ length (gatherFrom xs (es ++ us) n)
+  unfolding gatherFrom below
+  from-le xs es us = nodup-sub (keep (isAmong xs es) (below n)) (keep (isAmong xs (es ++ us)) (below n)) (nodup-keep (isAmong xs es) (below n) (nodup-count 0 n))
+      (λ b m. mem-keep (isAmong xs (es ++ us)) (below n) b (keep-mem (isAmong xs es) (below n) b m) (more b (all-mem (keep-passes (isAmong xs es) (below n)) b m)))
     where
-      more : (b : ℕ) → isAmong o f j b ≡ true → isAmong o f k b ≡ true
-      more b e = unfold isAmong in (⊎-elim (or-left (isChosen o b) _) (λ m. or-right (isChosen o b) _ (member-more (suc b) f j k h m)) (or-true (isChosen o b) _ e))
-
-up-start : (o : Option ℕ) (f : ℕ → ℕ) (n : ℕ) → extraOf o ≤ n → added (extraOf o) [] ≡ upTo o f n 0
-unfolding added upTo isAmong isChosen member any below count
-up-start none f n h = sym (kept-none (isAmong none f 0) (below n) (λ b. refl))
-up-start (some a) f n h =
-    ap (inserted a) (sym (kept-none (λ b. false) (below n) (λ b. refl)))
-    ∙ below-insert (λ b. false) (isAmong (some a) f 0) a (or-left (eqb a a) false (eq-eqb a a refl)) (λ b d. sym (or-false (eqb a b) ∙ ne-eqb a b (λ e. d (sym e)))) n (omega arith)
-
--- ---- What is gathered
-
-unfoldable pub entryOf : State → ℕ → ℕ → ℕ
-entryOf s q j = s .holds (cell (s .shape) q 0 j)
-
--- after the first j slots of the sources
-pub sofar : State → ℕ → ℕ → List ℕ
-sofar s q j = upTo (chosen s q) (entryOf s q) (s .shape .N) j
-
--- all slots of the sources
-unfoldable pub topOf : State → ℕ → ℕ
-topOf s q = slots (sources (s .shape) (s .counter q)) - 2
-
-module _ (s : State) (q : ℕ) where
-  all-sofar : sofar s q (topOf s q) ≡ gathered s q
-  unfolding sofar topOf upTo isAmong entryOf gathered entries
-  all-sofar = refl
-
-  pub sofar-ascends : (j : ℕ) → Ascending (sofar s q j)
-  unfolding sofar
-  sofar-ascends j = up-ascends (chosen s q) (entryOf s q) (s .shape .N) j
-
-  pub sofar-start : extraOf (chosen s q) ≤ s .shape .N → added (extraOf (chosen s q)) [] ≡ sofar s q 0
-  unfolding sofar
-  sofar-start h = up-start (chosen s q) (entryOf s q) (s .shape .N) h
-
-  pub sofar-step : (j : ℕ) → entryOf s q j ≤ s .shape .N → added (entryOf s q j) (sofar s q j) ≡ sofar s q (j + 1)
-  unfolding sofar
-  sofar-step j h = up-step (chosen s q) (entryOf s q) (s .shape .N) j h
-
-  sofar-le : (j : ℕ) → j ≤ topOf s q → length (sofar s q j) ≤ length (gathered s q)
-  unfolding sofar
-  sofar-le j h = rw (← all-sofar) (up-le (chosen s q) (entryOf s q) (s .shape .N) j (topOf s q) h)
-
-  module _ (limit r : ℕ) (list : List ℕ) (long : r ≤ length list) (j : ℕ) (is : take r list ≡ sofar s q j) where
-    size : r ≡ length (sofar s q j)
-    size = sym (length-take-le r list long) ∙ ap length is
-
-    -- too many before the end
-    pub gathers-more : j ≤ topOf s q → limit < r → Gathers s q limit r list
-    gathers-more h k =
-        let g = sofar-le j h in
-        record { all = λ l. absurd (omega (arith, size)); count = λ l. absurd (omega (arith, size)); more = λ l. k }
-
-    pub gathers-all : j ≡ topOf s q → Gathers s q limit r list
-    gathers-all e =
-        let a : sofar s q j ≡ gathered s q = ap (sofar s q) e ∙ all-sofar in
-        let n : r ≡ length (gathered s q) = size ∙ ap length a in
-        record { all = λ l. is ∙ a; count = λ l. n; more = λ l. omega arith }
+      more : (b : ℕ) → isAmong xs es b ≡ true → isAmong xs (es ++ us) b ≡ true
+      more b e = ⊎-elim (or-left (member b xs) _) (λ m. or-right (member b xs) _ (mem-member (suc b) (es ++ us) (member-append (suc b) es us (member-mem (suc b) es m)))) (or-true (member b xs) _ e)

@@ -3,11 +3,12 @@ use client::Client;
 use client::Found;
 use memory::Shape;
 ghost use mathlib.Core.Path.{_≡_};
-ghost use Prim.Native.Nat.{_+_, _*_, _<_, _≤_};
+ghost use Prim.Native.Nat.{_+_, _-_, _*_, _<_, _≤_};
 ghost use lib.ListN.{length};
 ghost use Rattle.lists.specs.Tests.{if_then_else_};
 ghost use Rattle.rules.specs.Shape.{slots, cell as cellOf};
-ghost use Rattle.rules.specs.Levels.{filled, sources as sourcesOf};
+ghost use Rattle.rules.specs.Levels.{filled};
+ghost use Rattle.rules.specs.Jobs.{topOf};
 ghost use Rattle.rules.specs.Blocks.{blocksIn, isUnread, readsOf};
 ghost use Rattle.rules.specs.Reader.{dummy, lowest};
 ghost use Rattle.rules.specs.Rebuild.{unread as unreadOf};
@@ -130,19 +131,31 @@ pub fn reads(c: Client, m: &[u8], q: usize, l: usize) -> usize
     k as usize
 }
 
-// The next unread slot of the levels below `sources` of partition q, levels ascending, and slots ascending within a level. The levels below that
+// The first of the n slots of level l that the cursor has not gone over; or n, if the level is not filled and so no source.
+fn first_slot(counter: usize, cursor: usize, l: usize, n: usize) -> usize
+    requires { ⌜ (l < 32) × (2 ≤ n) ⌝ }
+    ensures { λ r. ⌜ r ≡ (if filled counter l then cursor - (n - 2) else n) ⌝ }
+{
+    if !bits::filled(counter, l) {
+        return n;
+    }
+    if n - 2 < cursor { cursor - (n - 2) } else { 0 }
+}
+
+// The next unread slot of the filled levels up to `top` of partition q, levels ascending, and slots ascending within a level. The levels below that
 // of the cursor have been gone over.
-pub fn unread(c: Client, m: &[u8], q: usize, sources: usize) -> Spot
-    requires { ⌜ Room c (now m) × (q < c .shape .p) × (sources ≡ sourcesOf (shapeOf (c .shape)) (stateOf c (now m) .counter q)) × (sources ≤ c .shape .l) × (c .cursor ≤ 65536) ⌝ }
+pub fn unread(c: Client, m: &[u8], q: usize, counter: usize, top: usize) -> Spot
+    requires { ⌜ Room c (now m) × (q < c .shape .p) × (counter ≡ stateOf c (now m) .counter q) × (top ≡ topOf (stateOf c (now m)) q) × (top < c .shape .l) × (c .cursor ≤ 65536) ⌝ }
     ensures { λ r. ⌜ foundSpot r ≡ unreadOf (stateOf c (now (m .entry))) q ⌝ }
 {
     let cursor = c.cursor;
     let from = bits::level_of(cursor);
+    let end = top + 1;
     let mut found = Spot::Nothing;
-    'levels: for l in from..sources {
+    'levels: for l in from..end {
         let n = bits::pow2(l + 1);
         let base = cell(c.shape, q, l, 0);
-        let first = if n - 2 < cursor { cursor - (n - 2) } else { 0 };
+        let first = first_slot(counter, cursor, l, n);
         for i in first..n {
             if memory::tables::mark(c.shape, m, base + i) == 1 {
                 found = Spot::At(l, i);

@@ -9,7 +9,7 @@ use borrow.Author.Tests.{eqb-true, eq-eqb, lt-ltb, le-ltb, ltb-true}
 use Rattle.lists.specs.All.{any-none, any-all, below-below}
 use Rattle.lists.specs.Members.{all-mem, below-mem}
 use Rattle.lists.specs.Search.{any, below}
-use Rattle.lists.specs.Tests.{if_then_else_, both-true}
+use Rattle.lists.specs.Tests.{if_then_else_, and-l, both-true}
 use Rattle.lists.specs.Totals.{total, total-gap, total-none}
 use Rattle.rules.specs.Shape.{slots, cell}
 use Rattle.rules.specs.State.{State}
@@ -110,7 +110,11 @@ module _ (s : State) (q ℓ : ℕ) where
       go true = refl
       go false = refl
 
-  -- one that costs a read is in the condition that its mark says
+  -- one that costs a read is filled
+  pub costs-filled : costs s q ℓ ≡ true → filled (s .counter q) ℓ ≡ true
+  costs-filled k = and-l (filled (s .counter q) ℓ) (not (isSource s q ℓ) || any (isUnread s q ℓ) (below (slots ℓ))) (sym (costs-is s q ℓ) ∙ k)
+
+  -- ..and in the condition that its mark says
   pub read-as : (t : Bool) → isSource s q ℓ ≡ t → costs s q ℓ ≡ true → ReadAs s q ℓ t
   unfolding costs condition costing conditionBy
   read-as t b k = go (filled (s .counter q) ℓ) (isSource s q ℓ) (any (isUnread s q ℓ) (below (slots ℓ))) t b k
@@ -127,13 +131,14 @@ module _ (s : State) (q ℓ : ℕ) where
   unfolding worn
   worn-empty a = rw a
 
-  pub worn-source : isSource s q ℓ ≡ true → worn s q ℓ ≡ false
+  -- one that is a source if it is filled is not worn
+  pub worn-source : (filled (s .counter q) ℓ ≡ true → isSource s q ℓ ≡ true) → worn s q ℓ ≡ false
   unfolding worn
-  worn-source b = go (filled (s .counter q) ℓ)
+  worn-source b = go (filled (s .counter q) ℓ) refl
     where
-      go : (t : Bool) → (t && (not (isSource s q ℓ) && leb (2 ^ ℓ) (readsOf (s .shape) (s .mark) q ℓ))) ≡ false
-      go true = rw b
-      go false = refl
+      go : (t : Bool) → filled (s .counter q) ℓ ≡ t → (t && (not (isSource s q ℓ) && leb (2 ^ ℓ) (readsOf (s .shape) (s .mark) q ℓ))) ≡ false
+      go true e = rw (b e)
+      go false e = refl
 
   pub worn-other : filled (s .counter q) ℓ ≡ true → isSource s q ℓ ≡ false → worn s q ℓ ≡ leb (2 ^ ℓ) (readsOf (s .shape) (s .mark) q ℓ)
   unfolding worn

@@ -13,8 +13,9 @@ ghost use Rattle.rules.specs.Reader.{condition, costing, costs as costsOf, read
 ghost use Rattle.client.specs.View.{stateOf, foundOf};
 ghost use Rattle.client.specs.Moves.{Room};
 ghost use Rattle.ready.specs.Usable.{Usable};
+ghost use Rattle.jobs.specs.Runs.{BegunIn, CounterOf};
 ghost use Rattle.levels.specs.Next.{NextLevel};
-ghost use Rattle.reading.specs.Sources.{Sources, Counted};
+ghost use Rattle.reading.specs.Sources.{Sources};
 ghost use Rattle.reading.specs.Conditions.{conditionOf, ReadAs};
 ghost use Rattle.reading.specs.Slots.{Reads, Placed, LevelFound};
 
@@ -38,9 +39,9 @@ pub fn level_of(x: usize) -> Found
     Found::At(bits::level_of(x - 2))
 }
 
-// The levels of partition q below this number are sources of the front job; 0 if that is for another partition.
+// The filled levels of partition q below this number are sources of the front job; 0 if that is for another partition.
 pub fn sources(c: Client, m: &[u8], q: usize) -> usize
-    requires { ⌜ Room c (now m) × (c .jobs ≤ 64) × (q < c .shape .p) ⌝ }
+    requires { ⌜ Room c (now m) × (c .jobs ≤ 64) × (q < c .shape .p) × BegunIn c (now m) ⌝ }
     ensures { λ r. ⌜ Sources c (now (m .entry)) q r ⌝ }
 {
     if c.jobs == 0 {
@@ -49,7 +50,8 @@ pub fn sources(c: Client, m: &[u8], q: usize) -> usize
     if jobs::front(c, m) != q {
         return 0;
     }
-    bits::sources(memory::tables::counter(c.shape, m, q), c.shape.l)
+    let run = jobs::running(c, m, q);
+    run.top + 1
 }
 
 // ReadPartition, 2): the condition of level l.
@@ -61,7 +63,7 @@ fn condition_of(
     sources: usize,
     l: usize,
 ) -> Condition
-    requires { ⌜ Room c (now m) × (q < c .shape .p) × (l < c .shape .l) × Counted c (now m) q counter × Sources c (now m) q sources ⌝ }
+    requires { ⌜ Room c (now m) × (q < c .shape .p) × (l < c .shape .l) × CounterOf c (now m) q counter × Sources c (now m) q sources ⌝ }
     ensures { λ r. ⌜ conditionOf r ≡ condition (stateOf c (now (m .entry))) q l ⌝ }
 {
     if !bits::filled(counter, l) {
@@ -169,7 +171,7 @@ pub fn read_level(
 
 // Whether level l, which is no source, is filled and has been read 2^l times.
 fn wears(c: Client, m: &[u8], q: usize, counter: usize, l: usize) -> bool
-    requires { ⌜ Room c (now m) × (q < c .shape .p) × (l < c .shape .l) × Counted c (now m) q counter × (isSource (stateOf c (now m)) q l ≡ false) ⌝ }
+    requires { ⌜ Room c (now m) × (q < c .shape .p) × (l < c .shape .l) × CounterOf c (now m) q counter × (isSource (stateOf c (now m)) q l ≡ false) ⌝ }
     ensures { λ r. ⌜ r ≡ worn (stateOf c (now (m .entry))) q l ⌝ }
 {
     if !bits::filled(counter, l) {
@@ -180,7 +182,7 @@ fn wears(c: Client, m: &[u8], q: usize, counter: usize, l: usize) -> bool
 
 // Whether some filled level l of partition q that is no source has been read 2^l times.
 pub fn is_worn(c: Client, m: &[u8], q: usize) -> bool
-    requires { ⌜ Room c (now m) × (c .jobs ≤ 64) × (q < c .shape .p) ⌝ }
+    requires { ⌜ Room c (now m) × (c .jobs ≤ 64) × (q < c .shape .p) × BegunIn c (now m) ⌝ }
     ensures { λ r. ⌜ r ≡ any (worn (stateOf c (now (m .entry))) q) (below (c .shape .l)) ⌝ }
 {
     let levels = c.shape.l;

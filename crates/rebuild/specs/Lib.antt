@@ -4,3 +4,4 @@ pub mod Steps
 pub mod Shuffle
 pub mod Items
 pub mod Placing
+pub mod Laying

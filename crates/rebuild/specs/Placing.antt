@@ -17,10 +17,10 @@ use Rattle.client.specs.View.{placeOf, view, stateOf}
 use Rattle.rules.specs.Laws.Layout.{offset-lt}
 use Rattle.client.specs.Changes.{place-is}
 use Rattle.client.specs.Moves.{Stands, restated}
-use Rattle.lists.specs.Entries.{putAll-at, putAll-over}
-use Rattle.rebuild.specs.Target.{orderIn, Empty, placed, rebuilt, Within, length-orderIn, order-at, order-put}
+use Rattle.lists.specs.Entries.{putAll-at}
+use Rattle.rebuild.specs.Target.{orderIn, Empty, placed, levelWritten, Within, length-orderIn, order-at, order-put}
 use Rattle.rebuild.specs.Steps.{stays, moved, puts-place, puts-holds, reads-order, slot-lt, marked, emptied, ordered}
-use Rattle.rebuild.specs.Items.{place-none, place-more, length-holds, holds-none, holds-more}
+use Rattle.rebuild.specs.Items.{place-none, place-more, holds-none, holds-more}
 
 shape-is : (c : Client) (m : List ℕ) → shapeOf (c .shape) ≡ stateOf c m .shape
 unfolding stateOf view
@@ -66,42 +66,33 @@ module _ (c : Client) (m₀ m m′ m″ : List ℕ) (q t base n b x : ℕ) (xs :
         let second = moved c m₀ m′ m″ _ (λ s. setPlace (put b (placeOf (h .L) (n + x)) (s .place)) s) first (puts-place c m′ m″ b (n + x) ln d) in
         restated second (λ k. setPlace (there new k) (setHolds (slot-holds u k) (stateOf c m₀)))
 
--- a level that is emptied, and its blocks placed
-pub places-blocks : (c : Client) (m m′ m″ : List ℕ) (q t base n : ℕ) (xs : List ℕ) → n ≡ slots t → Stands c m m′ (emptied base n (stateOf c m))
-    → Stands c m′ m″ (placed base t xs (orderIn (stateOf c m′) q t) (stateOf c m′)) → Stands c m m″ (placed base t xs (orderIn (stateOf c m) q t) (stateOf c m))
-unfolding orderIn cleared
-places-blocks c m m′ m″ q t base n xs e a b = restated (moved c m m′ m″ _ (λ s. placed base t xs (orderIn s q t) s) a b)
-    (ap (λ f. setPlace (newPlace t xs (orderIn (stateOf c m) q t) (stateOf c m .place)) (setHolds f (stateOf c m)))
-    (putAll-over base (newHolds (slots t) xs (orderIn (stateOf c m) q t)) (stateOf c m .holds) _ (length-replicate {A = ℕ} n 0 ∙ e ∙ sym (length-holds (slots t) xs (orderIn (stateOf c m) q t)))))
-
-pub emptied-order : (c : Client) (m m′ : List ℕ) (q t base n : ℕ) → Stands c m m′ (emptied base n (stateOf c m)) → orderIn (stateOf c m′) q t ≡ orderIn (stateOf c m) q t
-unfolding orderIn
-emptied-order c m m′ q t base n a = ap (λ s. orderIn s q t) (a .state)
-
 pub emptied-empty : (c : Client) (m m′ : List ℕ) (base n : ℕ) → Stands c m m′ (emptied base n (stateOf c m)) → Empty base n (stateOf c m′)
 unfolding cleared
 emptied-empty c m m′ base n a i l =
     ap (λ (s : State). s .holds (base + i)) (a .state) ∙ putAll-at base _ (stateOf c m .holds) i (rw (length-replicate {A = ℕ} n 0) l) ∙ getD-replicate n i 0 0 l
 
--- ---- The whole rebuild
-module _ (c : Client) (m₀ m₁ m₂ m₃ : List ℕ) (q t n : ℕ) (o : List ℕ) (long : length o ≡ slots t)
-    (a : Stands c m₀ m₁ (emptied (cell (shapeOf (c .shape)) q 0 0) (slots n - 2) (stateOf c m₀)))
-    (b : Stands c m₁ m₂ (marked (cell (shapeOf (c .shape)) q t 0) (slots t) (stateOf c m₁)))
-    (d : Stands c m₂ m₃ (ordered (cell (shapeOf (c .shape)) q t 0) o (stateOf c m₂))) where
+-- ---- A level: marked and ordered, and then its blocks are placed
+module _ (c : Client) (m₀ m₁ m₂ : List ℕ) (q t : ℕ) (o : List ℕ) (long : length o ≡ slots t)
+    (b : Stands c m₀ m₁ (marked (cell (shapeOf (c .shape)) q t 0) (slots t) (stateOf c m₀)))
+    (d : Stands c m₁ m₂ (ordered (cell (shapeOf (c .shape)) q t 0) o (stateOf c m₁))) where
   abbrev base : ℕ
   base = cell (shapeOf (c .shape)) q t 0
 
   abbrev drawn : State
-  drawn = ordered base o (marked base (slots t) (emptied (cell (shapeOf (c .shape)) q 0 0) (slots n - 2) (stateOf c m₀)))
+  drawn = ordered base o (marked base (slots t) (stateOf c m₀))
 
-  so-far : Stands c m₀ m₃ drawn
-  so-far = moved c m₀ m₂ m₃ _ (ordered base o) (moved c m₀ m₁ m₂ _ (marked base (slots t)) a b) d
+  so-far : Stands c m₀ m₂ drawn
+  so-far = moved c m₀ m₁ m₂ _ (ordered base o) b d
 
   drawn-order : orderIn drawn q t ≡ o
-  drawn-order = order-put (marked base (slots t) (emptied (cell (shapeOf (c .shape)) q 0 0) (slots n - 2) (stateOf c m₀))) q t base o _ (ap (λ h. cell h q t 0) (shape-is c m₀)) long
+  drawn-order = order-put (marked base (slots t) (stateOf c m₀)) q t base o _ (ap (λ h. cell h q t 0) (shape-is c m₀)) long
 
-  pub order-drawn : orderIn (stateOf c m₃) q t ≡ o
+  pub order-drawn : orderIn (stateOf c m₂) q t ≡ o
   order-drawn = ap (λ s. orderIn s q t) (so-far .state) ∙ drawn-order
 
-  pub rebuilds : (m₄ bs : List ℕ) → Stands c m₃ m₄ (placed base t bs (orderIn (stateOf c m₃) q t) (stateOf c m₃)) → Stands c m₀ m₄ (rebuilt (shapeOf (c .shape)) q t n bs o (stateOf c m₀))
-  rebuilds m₄ bs e = restated (moved c m₀ m₃ m₄ _ (λ s. placed base t bs (orderIn s q t) s) so-far e) (ap (λ p. placed base t bs p drawn) drawn-order)
+  -- it still holds nothing
+  pub empty-drawn : Empty base (slots t) (stateOf c m₀) → Empty base (slots t) (stateOf c m₂)
+  empty-drawn e i l = ap (λ (s : State). s .holds (base + i)) (so-far .state) ∙ e i l
+
+  pub writes-level : (m₃ bs : List ℕ) → Stands c m₂ m₃ (placed base t bs (orderIn (stateOf c m₂) q t) (stateOf c m₂)) → Stands c m₀ m₃ (levelWritten (shapeOf (c .shape)) q t bs o (stateOf c m₀))
+  writes-level m₃ bs e = restated (moved c m₀ m₂ m₃ _ (λ s. placed base t bs (orderIn s q t) s) so-far e) (ap (λ p. placed base t bs p drawn) drawn-order)

@@ -1,5 +1,5 @@
 -- A level's cells, and the order that stands in the tables for it.
-use mathlib.Core.Path.{_≡_, refl, ap, sym, _∙_}
+use mathlib.Core.Path.{_≡_, ap, sym, _∙_}
 use mathlib.Core.List.{List, map}
 use Prim.Native.Nat.{ℕ, suc, _+_, _-_, _*_, _≤_, _<_}
 use native.Mathlib.Nat.{mul-le-mul-right}
@@ -13,9 +13,8 @@ use Rattle.lists.specs.Members.{getD-map-below}
 use Rattle.lists.specs.Tables.{putAll}
 use Rattle.rules.specs.Shape.{Shape, slots, cell}
 use Rattle.rules.specs.State.{State}
-use Rattle.rules.specs.Setters.{_▷_, setPlace, setWaiting, setOrder, setMark, setHolds, setBegun, setSent}
-use Rattle.rules.specs.Levels.{sources}
-use Rattle.rules.specs.Rebuild.{cleared, newPlace, newHolds, chosen, gathered, leave, doRebuild}
+use Rattle.rules.specs.Setters.{_▷_, setPlace, setOrder, setMark, setHolds}
+use Rattle.rules.specs.Rebuild.{newPlace, newHolds}
 use Rattle.rules.specs.Laws.Layout.{cell-from}
 use Rattle.client.specs.View.{levelAt}
 use Rattle.client.specs.Changes.{cell-level}
@@ -32,18 +31,13 @@ Empty base n s = (i : ℕ) → i < n → s .holds (base + i) ≡ 0
 abbrev pub placed : ℕ → ℕ → List ℕ → List ℕ → State → State
 placed base t bs o s = s ▷ setPlace (newPlace t bs o (s .place)) ▷ setHolds (putAll base (newHolds (slots t) bs o) (s .holds))
 
--- The tables' part of the rules' `doRebuild`, for the sources below n, the gathered blocks bs and the order o
-abbrev pub rebuilt : Shape → ℕ → ℕ → ℕ → List ℕ → List ℕ → State → State
-rebuilt h q t n bs o s =
+-- level t of q is written, with the blocks bs in the order o
+abbrev pub levelWritten : Shape → ℕ → ℕ → List ℕ → List ℕ → State → State
+levelWritten h q t bs o s =
     s ▷ setPlace (newPlace t bs o (s .place))
     ▷ setOrder (putAll (cell h q t 0) o (s .order))
     ▷ setMark (putAll (cell h q t 0) (replicate (slots t) 1) (s .mark))
-    ▷ setHolds (putAll (cell h q t 0) (newHolds (slots t) bs o) (cleared (cell h q 0 0) (slots n - 2) (s .holds)))
-
-pub rebuild-is : (q t : ℕ) (o : List ℕ) (s : State) → doRebuild q t o s ≡
-    rebuilt (s .shape) q t (sources (s .shape) (s .counter q)) (gathered s q) o s ▷ setWaiting (leave (chosen s q) (s .waiting)) ▷ setBegun 1 ▷ setSent 1
-unfolding doRebuild
-rebuild-is q t o s = refl
+    ▷ setHolds (putAll (cell h q t 0) (newHolds (slots t) bs o) (s .holds))
 
 -- x is the cell of a level of n slots
 pub record Within (h : Shape) (n x : ℕ) : Type 0 where

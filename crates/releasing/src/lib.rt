@@ -5,9 +5,11 @@ ghost use mathlib.Core.Path.{_≡_};
 ghost use Prim.Native.Nat.{suc, _<_, _≤_};
 ghost use Rattle.rules.specs.State.{foundNumber};
 ghost use Rattle.rules.specs.Blocks.{lookUp};
+ghost use Rattle.rules.specs.Jobs.{queued};
 ghost use Rattle.rules.specs.Request.{undrawnOnly, heldFor};
 ghost use Rattle.client.specs.View.{stateOf};
 ghost use Rattle.client.specs.Moves.{Room};
+ghost use Rattle.jobs.specs.Runs.{BegunIn};
 ghost use Rattle.releasing.specs.Performs.{Settled};
 ghost use Rattle.releasing.specs.Released.{Releasable, Released};
 
@@ -27,32 +29,31 @@ fn look_up(c: Client, m: &[u8]) -> usize
     }
 }
 
-// Whether the only job for partition q is at the front of the queue and has not drawn its order.
-fn is_undrawn_only(c: Client, m: &[u8], q: usize) -> bool
-    requires { ⌜ Room c (now m) × (c .jobs ≤ 64) ⌝ }
+// Whether the only job for partition q, of which n are queued, is at the front of the queue and has not drawn its orders. Jobs that run together count as
+// one.
+fn is_undrawn_only(c: Client, m: &[u8], q: usize, n: usize) -> bool
+    requires { ⌜ Room c (now m) × (c .jobs ≤ 64) × (1 ≤ n) × (n ≡ queued (stateOf c (now m) .queue) q) ⌝ }
     ensures { λ r. ⌜ r ≡ undrawnOnly (stateOf c (now (m .entry))) q ⌝ }
 {
     if c.sent != 0 {
         return false;
     }
-    if c.jobs == 0 {
-        return false;
-    }
     if jobs::front(c, m) != q {
         return false;
     }
-    !jobs::is_queued(c, m, q, 1)
+    (n <= 1) | (n <= c.begun)
 }
 
 // Whether a request for a block of partition q is held: a job for q is queued, but for the only one, at the front and undrawn, if no other level is worn.
 fn is_held_for(c: Client, m: &[u8], q: usize) -> bool
-    requires { ⌜ Room c (now m) × (c .jobs ≤ 64) × (q < c .shape .p) ⌝ }
+    requires { ⌜ Room c (now m) × (c .jobs ≤ 64) × (q < c .shape .p) × BegunIn c (now m) ⌝ }
     ensures { λ r. ⌜ r ≡ heldFor (stateOf c (now (m .entry))) q ⌝ }
 {
-    if !jobs::is_queued(c, m, q, 0) {
+    let n = jobs::queued(c, m, q);
+    if n == 0 {
         return false;
     }
-    if !is_undrawn_only(c, m, q) {
+    if !is_undrawn_only(c, m, q, n) {
         return true;
     }
     reading::is_worn(c, m, q)

@@ -17,7 +17,8 @@ use Rattle.rules.specs.State.{State, Request}
 use Rattle.rules.specs.Memory.{needed}
 use Rattle.rules.specs.Questions.{ready, firstNo}
 use Rattle.rules.specs.Figures.{nowhereBlocks, storedBlocks, waitingBlocks, inPartition, jobsFor, figures, allFigures}
-use Rattle.rules.specs.Laws.Figures.{places-add}
+use Rattle.rules.specs.Laws.Figures.{places-add, jobs-class}
+use Rattle.rules.specs.Laws.Levels.{queued-le}
 use Rattle.rules.specs.Laws.Range.{InRange, JobsIn}
 use Rattle.rules.specs.Laws.Kept.{given-in}
 use Rattle.memory.specs.Fits.{Fits, fits}
@@ -36,7 +37,7 @@ module _ (s : State) where
 
   jobs-le : (q : ℕ) → jobsFor s q ≤ length (s .queue)
   unfolding jobsFor
-  jobs-le q = keep-le _ (s .queue)
+  jobs-le q = queued-le (s .queue) q
 
 -- with or without a request in hand
 queue-le : (qs : List ℕ) (r : Option Request) → JobsIn qs r → length qs ≤ 64
@@ -98,8 +99,8 @@ page-le s memory e = let f = given-in s memory e in omega (arith, page-length s 
 
 module _ (s : State) (t : List ℕ) (k : Counted s t) where
   pub line-figures : (q : ℕ) → q < mostPartitions → figures s q ≡ s .counter q ∷ getD t (entryAt 1 q) 0 ∷ getD t (entryAt 2 q) 0 ∷ getD t (entryAt 3 q) 0 ∷ []
-  unfolding figures inPartition jobsFor
-  line-figures q h = λ i. s .counter q ∷ sym (k .stored .each q h) i ∷ sym (k .waiting .each q h) i ∷ sym (k .queued .each q h) i ∷ []
+  unfolding figures inPartition
+  line-figures q h = λ i. s .counter q ∷ sym (k .stored .each q h) i ∷ sym (k .waiting .each q h) i ∷ (jobs-class s q ∙ sym (k .queued .each q h)) i ∷ []
 
   pub end-figures : allFigures s ≡ getD t (entryAt 0 mostPartitions) 0 ∷ getD t (entryAt 1 mostPartitions) 0 ∷ getD t (entryAt 2 mostPartitions) 0 ∷ []
   unfolding allFigures

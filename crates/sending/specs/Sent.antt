@@ -4,27 +4,30 @@ use mathlib.Core.Bool.{Bool, true, false, not, _||_}
 use mathlib.Core.List.{List, [], _∷_}
 use mathlib.Core.Option.{none, some}
 use Prim.Native.Nat.{ℕ, zero, suc, _+_, _-_, _≤_, _<_}
+use native.Mathlib.Numerals.{add-one}
 use native.Mathlib.Omega.{arith}
-use lib.ListN.{length, replicate}
+use lib.ListN.{length, getD, replicate, take}
 use lib.Dec.{eqb, ltb}
 use borrow.Author.Tests.{lt-ltb, le-ltb, eq-eqb, ne-eqb}
 use Rattle.lists.specs.Tests.{if_then_else_}
-use Rattle.lists.specs.Search.{isNone}
+use Rattle.lists.specs.All.{All}
+use Rattle.lists.specs.Search.{isNone, keep}
 use Rattle.rules.specs.Shape.{slots, cell, offset}
 use Rattle.rules.specs.State.{State, cmd, read, write, foundNumber}
 use Rattle.rules.specs.Setters.{setRequest, setBegun, setCursor, setSent, setWaiting}
-use Rattle.rules.specs.Draws.{draws, newOrder}
-use Rattle.rules.specs.Levels.{sources}
+use Rattle.rules.specs.Draws.{draws}
+use Rattle.rules.specs.Levels.{filled as isFilled, down}
+use Rattle.rules.specs.Jobs.{joined, levelsOf, ordersBounds}
 use Rattle.rules.specs.Request.{isSource, passLevel}
 use Rattle.rules.specs.Blocks.{holder, slotBytes, named, zeros}
-use Rattle.rules.specs.Rebuild.{gathered, doRebuild}
+use Rattle.rules.specs.Rebuild.{gathered, fills, leave, doRebuild}
 use Rattle.rules.specs.Turn.{Step, idle, noDummy, readForRequest, readForJob, rebuild, writeNext, decide, command, stepBounds, markRead, send, doStep}
 use Rattle.rules.specs.Questions.{turn, ready, sends, possible, questions, firstNo, number, bounds}
 use Rattle.rules.specs.Run.{act, perform, sentCommand, handed, handedFound, written, numbersOf, takenOf, refuse}
 use Rattle.rules.specs.Laws.Draws.{Enough}
 use Rattle.rules.specs.Laws.Answers.{opens}
 use Rattle.rules.specs.Laws.Asked.{reads-asked}
-use Rattle.rules.specs.Laws.Decided.{StepIn, decide-in}
+use Rattle.rules.specs.Laws.Decided.{Front, StepIn, decide-in}
 use Rattle.rules.specs.Laws.Kept.{doStep-in}
 use Rattle.rules.specs.Laws.Shapes.{act-shape}
 use Rattle.memory.specs.Fits.{shapeOf, fit, fit-lt}
@@ -39,10 +42,38 @@ use Rattle.contract.specs.declared.Answer.{Answer}
 use Rattle.contract.specs.Answers.{refusedWith, acceptedWith}
 use Rattle.contract.specs.Buffers.{filled}
 use Rattle.contract.specs.Meets.{callOf, handedTo, commandOf, meets-no}
-use Rattle.rebuild.specs.Target.{rebuilt, rebuild-is}
-use Rattle.client.specs.declared.Found.{Found}
+use Rattle.cache.specs.Longest.{waitsFor}
+use Rattle.rebuild.specs.Laying.{rebuilt, rebuild-is}
 use Rattle.releasing.specs.Performs.{Performs, ready-after}
-use Rattle.sending.specs.Chosen.{Chosen, leftBy}
+use Rattle.sending.specs.declared.Plan.{Plan}
+use Rattle.sending.specs.Plans.{PlanOf}
+
+-- what a turn decides is in range
+abbrev pub Inside : Client → State → Step → Type 0
+Inside c s idle = Unit {0}
+Inside c s noDummy = Unit {0}
+Inside c s (readForRequest q ℓ i) = (q < c .shape .p) × (ℓ < c .shape .l) × (i < slots ℓ)
+Inside c s (readForJob q ℓ i) = (q < c .shape .p) × (ℓ < c .shape .l) × (i < slots ℓ) × Front s q
+Inside c s (rebuild q ls) = (q < c .shape .p) × All (λ ℓ. ℓ < c .shape .l) ls × Front s q
+Inside c s (writeNext q t i) = (q < c .shape .p) × (t < c .shape .l) × (i < slots t) × (c .sent < slots (c .shape .l) - 2)
+
+inside-of : (c : Client) (m : List ℕ) (x : Step) → StepIn (stateOf c m) x → Inside c (stateOf c m) x
+unfolding stateOf view
+inside-of c m idle h = tt
+inside-of c m noDummy h = tt
+inside-of c m (readForRequest q ℓ i) h = h
+inside-of c m (readForJob q ℓ i) h = h
+inside-of c m (rebuild q ls) h = h
+inside-of c m (writeNext q t i) h = h
+
+inside-in : (c : Client) (m : List ℕ) (x : Step) → Inside c (stateOf c m) x → StepIn (stateOf c m) x
+unfolding stateOf view
+inside-in c m idle h = tt
+inside-in c m noDummy h = tt
+inside-in c m (readForRequest q ℓ i) h = h
+inside-in c m (readForJob q ℓ i) h = h
+inside-in c m (rebuild q ls) h = h
+inside-in c m (writeNext q t i) h = h
 
 -- a turn that may be made, and the step that it decides
 pub record Due (c : Client) (m : List ℕ) (x : Step) : Type 0 where
@@ -50,10 +81,10 @@ pub record Due (c : Client) (m : List ℕ) (x : Step) : Type 0 where
   pub usable : Usable c m
   pub free : c .out < c .shape .w
   pub step : decide (stateOf c m) ≡ x
-  pub inside : StepIn (shapeOf (c .shape)) x
+  pub inside : Inside c (stateOf c m) x
 
 pub due : (c : Client) (m : List ℕ) (x : Step) → ready (stateOf c m) (length m) ≡ true → Usable c m → c .out < c .shape .w → decide (stateOf c m) ≡ x → Due c m x
-due c m x r u f e = record { ready = r; usable = u; free = f; step = e; inside = rw (sym e) (unfold stateOf view in (decide-in (stateOf c m) (u .range))) }
+due c m x r u f e = record { ready = r; usable = u; free = f; step = e; inside = inside-of c m x (subst (StepIn (stateOf c m)) e (decide-in (stateOf c m) (u .range))) }
 
 -- a turn that sends a read, whatever the tape and the buffer; one that sends a write without a draw, whatever the tape
 abbrev pub Reads : Client → List ℕ → Answer → List ℕ → Type 0
@@ -105,7 +136,7 @@ module _ (c : Client) (m tape b : List ℕ) (x : Step) (d : Due c m x) where
 
   -- the state that it leaves answers the first question too
   left-ready : (e : Client) (m′ js : List ℕ) → length m′ ≡ length m → Left c e m m′ (doStep x js s) → ready (stateOf e m′) (length m′) ≡ true
-  left-ready e m′ js l f = ready-after c e m m′ (doStep x js s) (d .usable .room) l (f .stands .state) shape (doStep-in s (d .usable .range) x js (unfold stateOf view in (d .inside)) (omega (arith, out-count c m, window-is c m, d .free)))
+  left-ready e m′ js l f = ready-after c e m m′ (doStep x js s) (d .usable .room) l (f .stands .state) shape (doStep-in s (d .usable .range) x js (inside-in c m x (d .inside)) (omega (arith, out-count c m, window-is c m, d .free)))
     where
       shape : doStep x js s .shape ≡ shapeOf (c .shape)
       shape = subst (λ y. doStep y js s .shape ≡ shapeOf (c .shape)) (d .step) (unfold act perform stateOf view in (act-shape s turn js (unfold opens in refl)))
@@ -197,7 +228,7 @@ module _ (c d e : Client) (m m₁ m₂ : List ℕ) where
   abbrev S : State
   S = stateOf c m
 
-  pub request-sent : (q l i n : ℕ) → (c .request .kind ≡ 0 → ⊥) → Stands c m m₁ (markRead q l i S) → n ≡ (if isSource S q l then 1 else S .begun) → d ≡ passed l (withBegun n c) → e ≡ withOut (d .out + 1) d
+  pub request-sent : (q l i n : ℕ) → (c .request .kind ≡ 0 → ⊥) → Stands c m m₁ (markRead q l i S) → n ≡ (if isSource S q l then joined S q else S .begun) → d ≡ passed l (withBegun n c) → e ≡ withOut (d .out + 1) d
       → Stands e m₁ m₂ (send (cmd 1 q l i) (stateOf d m₁)) → (js : List ℕ) → Left c e m m₂ (doStep (readForRequest q l i) js S)
   unfolding doStep markRead
   request-sent q l i n k a w x y b js =
@@ -206,32 +237,31 @@ module _ (c d e : Client) (m m₁ m₂ : List ℕ) where
       left (λ z. absurd (k (sym kind ∙ z))) (restated (next c e m m₁ m₂ _ _ shape a b) (ap (send (cmd 1 q l i)) (ap (λ z. stateOf z m₁) x ∙ passed-is l n c m₁ ∙ ap (λ (z : State). setBegun n (setRequest (passLevel l (suc (length (z .outstanding))) (z .request)) z)) (a .state)
       ∙ ap (λ j. setBegun j (setRequest (passLevel l (suc (length (S .outstanding))) (S .request)) (markRead q l i S))) w)))
 
-  pub job-sent : (q l i n : ℕ) → Stands c m m₁ (markRead q l i S) → n ≡ suc (offset l i) → d ≡ withCursor n (withBegun 1 c) → e ≡ withOut (d .out + 1) d → Stands e m₁ m₂ (send (cmd 1 q l i) (stateOf d m₁))
+  pub job-sent : (q l i n j : ℕ) → Stands c m m₁ (markRead q l i S) → n ≡ suc (offset l i) → j ≡ joined S q → d ≡ withCursor n (withBegun j c) → e ≡ withOut (d .out + 1) d → Stands e m₁ m₂ (send (cmd 1 q l i) (stateOf d m₁))
       → (js : List ℕ) → Left c e m m₂ (doStep (readForJob q l i) js S)
   unfolding doStep
-  job-sent q l i n a z x y b js =
-      let shape : e .shape ≡ c .shape = ap (λ (w : Client). w .shape) y ∙ ap (λ (w : Client). w .shape) x in
-      left (λ _. ap (λ (w : Client). w .request) y ∙ ap (λ (w : Client). w .request) x)
-      (restated (next c e m m₁ m₂ _ _ shape a b) (ap (send (cmd 1 q l i)) (ap (λ w. stateOf w m₁) x ∙ cursor-is ∙ ap (λ w. setCursor n (setBegun 1 w)) (a .state) ∙ ap (λ k. setCursor k (setBegun 1 (markRead q l i S))) z)))
+  job-sent q l i n j a z w x y b js =
+      let shape : e .shape ≡ c .shape = ap (λ (v : Client). v .shape) y ∙ ap (λ (v : Client). v .shape) x in
+      left (λ _. ap (λ (v : Client). v .request) y ∙ ap (λ (v : Client). v .request) x)
+      (restated (next c e m m₁ m₂ _ _ shape a b) (ap (send (cmd 1 q l i)) (ap (λ v. stateOf v m₁) x ∙ cursor-is ∙ ap (λ v. setCursor n (setBegun j v)) (a .state) ∙ (λ k. setCursor (z k) (setBegun (w k) (markRead q l i S))))))
     where
-      cursor-is : stateOf (withCursor n (withBegun 1 c)) m₁ ≡ setCursor n (setBegun 1 (stateOf c m₁))
+      cursor-is : stateOf (withCursor n (withBegun j c)) m₁ ≡ setCursor n (setBegun j (stateOf c m₁))
       cursor-is = unfold stateOf view in refl
 
-  pub write-sent : (q t i : ℕ) → d ≡ withSent (i + 1) c → e ≡ withOut (d .out + 1) d → Stands e m m₁ (send (cmd 2 q t i) (stateOf d m))
+  pub write-sent : (q t i : ℕ) → d ≡ withSent (c .sent + 1) c → e ≡ withOut (d .out + 1) d → Stands e m m₁ (send (cmd 2 q t i) (stateOf d m))
       → (js : List ℕ) → Left c e m m₁ (doStep (writeNext q t i) js S)
   unfolding doStep
   write-sent q t i x y b js =
-      let k : i + 1 ≡ suc i = omega arith in
       left (λ _. ap (λ (w : Client). w .request) y ∙ ap (λ (w : Client). w .request) x)
-      (restated b (ap (send (cmd 2 q t i)) (ap (λ w. stateOf w m) x ∙ sent-is ∙ ap (λ n. setSent n S) k)))
+      (restated b (ap (send (cmd 2 q t i)) (ap (λ w. stateOf w m) x ∙ sent-is)))
     where
-      sent-is : stateOf (withSent (i + 1) c) m ≡ setSent (i + 1) S
-      sent-is = unfold stateOf view in refl
+      sent-is : stateOf (withSent (c .sent + 1) c) m ≡ setSent (suc (S .sent)) S
+      sent-is = unfold stateOf view in (ap (λ n. setSent n (stateOf c m)) (add-one (c .sent)))
 
-  pub rebuild-sent : (q t : ℕ) (js : List ℕ) → d .shape ≡ c .shape → d .request ≡ c .request → Stands d m m₁ (doRebuild q t (newOrder (slots t) js) S) → e ≡ withOut (d .out + 1) d → Stands e m₁ m₂ (send (cmd 2 q t 0) (stateOf d m₁))
-      → Left c e m m₂ (doStep (rebuild q t) js S)
+  pub rebuild-sent : (q t : ℕ) (ls js : List ℕ) → getD ls 0 0 ≡ t → d .shape ≡ c .shape → d .request ≡ c .request → Stands d m m₁ (doRebuild q ls (fills ls js (gathered S q)) S) → e ≡ withOut (d .out + 1) d → Stands e m₁ m₂ (send (cmd 2 q t 0) (stateOf d m₁))
+      → Left c e m m₂ (doStep (rebuild q ls) js S)
   unfolding doStep
-  rebuild-sent q t js h k a y b = left (λ _. ap (λ (z : Client). z .request) y ∙ k) (restated (next d e m m₁ m₂ _ _ (ap (λ (z : Client). z .shape) y) a b) (ap (send (cmd 2 q t 0)) (a .state)))
+  rebuild-sent q t ls js z h k a y b = left (λ _. ap (λ (v : Client). v .request) y ∙ k) (restated (next d e m m₁ m₂ _ _ (ap (λ (v : Client). v .shape) y) a b) (λ i. send (cmd 2 q (sym z i) 0) (a .state i)))
 
 -- ---- Whole turns
 
@@ -273,25 +303,36 @@ module _ (c : Client) (m tape b : List ℕ) (x : Step) (d : Due c m x) where
         (rw (g, k, eq-eqb (length b) (c .shape .b) h, w, p)) refl t (sym k) refl y f (rw k (handed-write b b′ (doStep x (drawn c m tape b x d) (stateOf c m)) q l i o (z ∙ ap (λ s. slotBytes s (holder s q l i)) (f .stands .state))))
 
 -- ---- The rebuild
-pub rebuilt-stands : (c d : Client) (m m₁ m₂ : List ℕ) (q t n : ℕ) (bs o : List ℕ) (x : Found) → d .shape ≡ c .shape
-    → Stands c m m₁ (rebuilt (shapeOf (c .shape)) q t n bs o (stateOf c m)) → Stands d m₁ m₂ (setWaiting (leftBy x (stateOf c m₁ .waiting)) (stateOf c m₁))
-    → Chosen (stateOf c m) q x → bs ≡ gathered (stateOf c m) q → n ≡ sources (shapeOf (c .shape)) (stateOf c m .counter q)
-    → Stands (withSent 1 (withBegun 1 d)) m m₂ (doRebuild q t o (stateOf c m))
-rebuilt-stands c d m m₁ m₂ q t n bs o x h a b k e f =
-    restated (next c (withSent 1 (withBegun 1 d)) m m₁ m₂ _ (setSent 1 (setBegun 1 (setWaiting (leftBy x (stateOf c m₁ .waiting)) (stateOf c m₁)))) h a (record { state = sent-is ∙ ap (λ z. setSent 1 (setBegun 1 z)) (b .state); tail = b .tail }))
-    (ap (λ (z : State). setSent 1 (setBegun 1 (setWaiting (leftBy x (z .waiting)) z))) (a .state) ∙ same)
+
+-- the numbers that these words give for the orders of levels
+abbrev pub drawnOf : List ℕ → List ℕ → List ℕ
+drawnOf ls ws = numbersOf (draws (ordersBounds ls) ws)
+
+pub rebuilt-stands : (c d : Client) (m m₁ m₂ : List ℕ) (q : ℕ) (p : Plan) (ws bs : List ℕ) → PlanOf c m q p → bs ≡ gathered (stateOf c m) q → d .shape ≡ c .shape
+    → Stands c m m₁ (rebuilt (shapeOf (c .shape)) q (p .top) (keep (isFilled (p .next)) (down (suc (p .top)))) (drawnOf (keep (isFilled (p .next)) (down (suc (p .top)))) ws) bs (stateOf c m))
+    → Stands d m₁ m₂ (setWaiting (leave (take (p .taken) (keep (waitsFor (stateOf c m₁) q) (stateOf c m₁ .waiting))) (stateOf c m₁ .waiting)) (stateOf c m₁))
+    → Stands (withSent 1 (withBegun (p .joined) d)) m m₂ (doRebuild q (levelsOf (stateOf c m) q) (fills (levelsOf (stateOf c m) q) (drawnOf (levelsOf (stateOf c m) q) ws) (gathered (stateOf c m) q)) (stateOf c m))
+rebuilt-stands c d m m₁ m₂ q p ws bs k g h a b =
+    restated (next c (withSent 1 (withBegun (p .joined) d)) m m₁ m₂ _ (F (stateOf c m₁)) h a (record { state = sent-is ∙ ap (λ z. setSent 1 (setBegun (p .joined) z)) (b .state); tail = b .tail }))
+    (ap F (a .state) ∙ same)
   where
     s : State
     s = stateOf c m
 
-    sent-is : stateOf (withSent 1 (withBegun 1 d)) m₂ ≡ setSent 1 (setBegun 1 (stateOf d m₂))
+    F : State → State
+    F z = setSent 1 (setBegun (p .joined) (setWaiting (leave (take (p .taken) (keep (waitsFor z q) (z .waiting))) (z .waiting)) z))
+
+    sent-is : stateOf (withSent 1 (withBegun (p .joined) d)) m₂ ≡ setSent 1 (setBegun (p .joined) (stateOf d m₂))
     sent-is = unfold stateOf view in refl
 
-    shape-is : s .shape ≡ shapeOf (c .shape)
+    shape-is : shapeOf (c .shape) ≡ s .shape
     shape-is = unfold stateOf view in refl
 
-    same : setSent 1 (setBegun 1 (setWaiting (leftBy x (s .waiting)) (rebuilt (shapeOf (c .shape)) q t n bs o s))) ≡ doRebuild q t o s
-    same = rw (e, f, k .gone, sym shape-is) (sym (rebuild-is q t o s))
+    ls : List ℕ
+    ls = keep (isFilled (p .next)) (down (suc (p .top)))
+
+    same : F (rebuilt (shapeOf (c .shape)) q (p .top) ls (drawnOf ls ws) bs s) ≡ doRebuild q (levelsOf s q) (fills (levelsOf s q) (drawnOf (levelsOf s q) ws) (gathered s q)) s
+    same = (λ i. setSent 1 (setBegun (k .joined i) (setWaiting (leave (k .taken i) (s .waiting)) (rebuilt (shape-is i) q (k .top i) (sym (k .levels) i) (drawnOf (sym (k .levels) i) ws) (g i) s)))) ∙ sym (rebuild-is q (levelsOf s q) (drawnOf (levelsOf s q) ws) (gathered s q) s)
 
 -- ---- Turns that are refused before a step is decided
 module _ (c : Client) (m tape b : List ℕ) where

@@ -1,18 +1,22 @@
 // The steps of a turn: each sends one command, if enough is lent for it. The turn releases a request after it.
 use client::Client;
-use client::Found;
 use client::READ;
 use client::WRITE;
 use contract::Answer;
+use jobs::Run;
+ghost use mathlib.Core.Bool.{true};
 ghost use mathlib.Core.Path.{_≡_};
-ghost use Prim.Native.Nat.{_+_, _<_, _≤_, _^_};
+ghost use Prim.Native.Nat.{suc, _+_, _<_, _≤_};
 ghost use lib.ListN.{length, take};
+ghost use Rattle.lists.specs.Search.{keep};
 ghost use Rattle.lists.specs.Tests.{if_then_else_};
 ghost use Rattle.rules.specs.Shape.{slots};
-ghost use Rattle.rules.specs.Setters.{setWaiting};
-ghost use Rattle.rules.specs.Draws.{newOrder, draws, orderBounds};
+ghost use Rattle.rules.specs.Draws.{draws};
+ghost use Rattle.rules.specs.Levels.{filled, down};
+ghost use Rattle.rules.specs.Jobs.{joined as joinedOf, levelsOf, capacity, ordersBounds};
+ghost use Rattle.rules.specs.Request.{isSource};
 ghost use Rattle.rules.specs.Blocks.{holder, slotBytes};
-ghost use Rattle.rules.specs.Rebuild.{gathered, doRebuild};
+ghost use Rattle.rules.specs.Rebuild.{chosen as chosenOf, gathered as gatheredOf, fills, doRebuild};
 ghost use Rattle.rules.specs.Turn.{readForRequest as readForRequestOf, readForJob as readForJobOf, rebuild as rebuildOf, writeNext as writeNextOf};
 ghost use Rattle.rules.specs.Questions.{turn as turnOf};
 ghost use Rattle.rules.specs.Run.{numbersOf, takenOf};
@@ -20,18 +24,37 @@ ghost use Rattle.rules.specs.Laws.Draws.{Enough};
 ghost use Rattle.client.specs.View.{stateOf};
 ghost use Rattle.client.specs.Moves.{Room, Stands};
 ghost use Rattle.tape.specs.Tape.{wordsOf};
-ghost use Rattle.cache.specs.Longest.{LongestAt};
+ghost use Rattle.cache.specs.Longest.{waitsFor, Longest};
 ghost use Rattle.gather.specs.Gathered.{Gathers};
 ghost use Rattle.ready.specs.Usable.{Usable};
+ghost use Rattle.jobs.specs.Runs.{RunOf};
 ghost use Rattle.releasing.specs.Performs.{Performs};
-ghost use Rattle.sending.specs.Chosen.{PlaceBelow, Chosen, extraAt, leftBy};
+ghost use Rattle.sending.specs.Plans.{PlanOf};
 ghost use Rattle.sending.specs.Sent.{Due, Reads, Writes, passed};
 
-// Whether the front job has begun (1): a read of a source begins it.
-fn begun(c: Client, source: bool) -> usize
-    ensures { λ r. ⌜ r ≡ (if source then 1 else c .begun) ⌝ }
+// What a rebuild goes by: how many jobs run together, the highest level that they write, the counter after them; the place in the cache of the block that
+// has waited longest for their partition, and how many such blocks are taken at most.
+pub struct Plan {
+    pub joined: usize,
+    pub top: usize,
+    pub next: usize,
+    pub first: usize,
+    pub taken: usize,
+}
+
+// How many jobs the front one runs for once a request's read of level l of q is sent: that of a source begins it.
+fn begun(c: Client, m: &[u8], q: usize, l: usize) -> usize
+    requires { ⌜ Usable c (now m) × (q < c .shape .p) × (filled (stateOf c (now m) .counter q) l ≡ true) ⌝ }
+    ensures { λ r. ⌜ r ≡ (if isSource (stateOf c (now (m .entry))) q l then joinedOf (stateOf c (now (m .entry))) q else c .begun) ⌝ }
 {
-    if source { 1 } else { c.begun }
+    if c.begun != 0 {
+        return c.begun;
+    }
+    if reading::sources(c, m, q) <= l {
+        return c.begun;
+    }
+    let run = jobs::running(c, m, q);
+    run.joined
 }
 
 // The request goes on from the level above l, and awaits all that is outstanding once its read there is sent.
@@ -47,7 +70,7 @@ pub fn read_for_request(c: Client, m: &mut [u8], q: usize, l: usize, i: usize) -
     requires { ⌜ Due c (now m) (readForRequestOf q l i) ⌝ }
     ensures { λ r. ⌜ Reads c (now (m .entry)) r (now (m .exit)) ⌝ }
 {
-    let n = begun(c, l < reading::sources(c, m, q));
+    let n = begun(c, m, q, l);
     levels::mark_read(c, m, q, l, i);
     let d = pass_level(c.with_begun(n), l);
     let e = commands::send(d, m, READ, q, l, i);
@@ -59,8 +82,10 @@ pub fn read_for_job(c: Client, m: &mut [u8], q: usize, l: usize, i: usize) -> An
     requires { ⌜ Due c (now m) (readForJobOf q l i) ⌝ }
     ensures { λ r. ⌜ Reads c (now (m .entry)) r (now (m .exit)) ⌝ }
 {
+    let run = jobs::running(c, m, q);
     levels::mark_read(c, m, q, l, i);
-    let d = c.with_begun(1).with_cursor(bits::pow2(l + 1) - 2 + i + 1);
+    let d = c.with_begun(run.joined)
+        .with_cursor(bits::pow2(l + 1) - 2 + i + 1);
     let e = commands::send(d, m, READ, q, l, i);
     contract::sent(e, 0, READ, q, l, i)
 }
@@ -94,134 +119,112 @@ pub fn write_next(
     if buffer.len() != c.shape.b {
         return contract::refused(15, c);
     }
-    let d = c.with_sent(i + 1);
+    let d = c.with_sent(c.sent + 1);
     let e = commands::send(d, m, WRITE, q, t, i);
     put_bytes(e, m, q, t, i, buffer);
     contract::sent(e, 0, WRITE, q, t, i)
 }
 
-// The block at place j of the cache, which has waited longest for q, is chosen if q stores fewer than 2^(L-1) blocks.
-fn with_room(c: Client, m: &[u8], q: usize, j: usize) -> Found
-    requires { ⌜ Usable c (now m) × (q < c .shape .p) × LongestAt (stateOf c (now m)) q j ⌝ }
-    ensures { λ r. ⌜ Chosen (stateOf c (now (m .entry))) q r ⌝ }
+// How many blocks that wait for q are taken at most: as many as jobs run together, and while q stores fewer than 2^(L-1). Those are counted only where
+// a block waits; the first is at place `first`.
+fn most_taken(c: Client, m: &[u8], q: usize, first: usize, joined: usize) -> usize
+    requires { ⌜ Usable c (now m) × (q < c .shape .p) × Longest (stateOf c (now m)) q first × (joined ≡ joinedOf (stateOf c (now m)) q) ⌝ }
+    ensures { λ r. ⌜ (take r (keep (waitsFor (stateOf c (now (m .entry))) q) (stateOf c (now (m .entry)) .waiting)) ≡ chosenOf (stateOf c (now (m .entry))) q) × (r ≤ joined) ⌝ }
 {
-    if bits::pow2(c.shape.l - 1) <= levels::stored(c, m, q) {
-        return Found::Nothing;
+    if c.waiting <= first {
+        return 0;
     }
-    Found::At(j)
+    let half = bits::pow2(c.shape.l - 1);
+    let stored = levels::stored(c, m, q);
+    if half <= stored {
+        return 0;
+    }
+    let room = half - stored;
+    if room < joined { room } else { joined }
 }
 
-// The place in the cache of the block that has waited longest for q, if one waits and q stores fewer than 2^(L-1) blocks. Those are counted
-// only where a block waits.
-fn chosen(c: Client, m: &[u8], q: usize) -> Found
-    requires { ⌜ Usable c (now m) × (q < c .shape .p) ⌝ }
-    ensures { λ r. ⌜ Chosen (stateOf c (now (m .entry))) q r ⌝ }
+fn planned(c: Client, m: &[u8], q: usize, run: Run, next: usize) -> Plan
+    requires { ⌜ Usable c (now m) × (q < c .shape .p) × RunOf c (now m) q run × (levelsOf (stateOf c (now m)) q ≡ keep (filled next) (down (suc (run .top)))) ⌝ }
+    ensures { λ r. ⌜ PlanOf c (now (m .entry)) q r ⌝ }
 {
-    let x = cache::longest(c, m, q);
-    match x {
-        Found::At(j) => with_room(c, m, q, j),
-        Found::Nothing => Found::Nothing,
-    }
-}
-
-// That block as a number: 0 for none, b + 1 for block b.
-fn extra(c: Client, m: &[u8], x: Found) -> usize
-    requires { ⌜ Usable c (now m) × PlaceBelow (c .waiting) x ⌝ }
-    ensures { λ r. ⌜ (r ≡ extraAt (stateOf c (now (m .entry)) .waiting) x) × (r ≤ c .shape .n) ⌝ }
-{
-    match x {
-        Found::At(j) => memory::tables::waiting(c.shape, m, j) + 1,
-        Found::Nothing => 0,
+    let first = cache::longest(c, m, q);
+    let taken = most_taken(c, m, q, first, run.joined);
+    Plan {
+        joined: run.joined,
+        top: run.top,
+        next: next,
+        first: first,
+        taken: taken,
     }
 }
 
-// The list gets the blocks that a rebuild of q gathers; x is the place of the chosen one. The result is how many, or more than the limit.
-fn plan(c: Client, m: &[u8], q: usize, x: Found, limit: usize, list: &mut [usize]) -> usize
-    requires { ⌜ Usable c (now m) × (q < c .shape .p) × Chosen (stateOf c (now m)) q x × (1 ≤ limit) × (limit + 1 < length (now list)) ⌝ }
-    ensures { λ r. ⌜ Gathers (stateOf c (now (m .entry))) q limit r (now (list .exit)) ⌝ }
-{
-    let sources = bits::sources(memory::tables::counter(c.shape, m, q), c.shape.l);
-    let more = extra(c, m, x);
-    gather::gather(c, m, q, sources, more, limit, list)
-}
-
-// The chosen block waits no longer.
-fn leave(c: Client, m: &mut [u8], x: Found) -> Client
-    requires { ⌜ Room c (now m) × (c .waiting ≤ c .shape .n) × PlaceBelow (c .waiting) x ⌝ }
-    ensures { λ r. ⌜ (r .shape ≡ c .shape) × (r .out ≡ c .out) × Stands r (now (m .entry)) (now (m .exit)) (setWaiting (leftBy x (stateOf c (now (m .entry)) .waiting)) (stateOf c (now (m .entry)))) × (r .request ≡ c .request) ⌝ }
-{
-    match x {
-        Found::At(j) => cache::leave(c, m, j),
-        Found::Nothing => c,
-    }
-}
-
-// Rebuilds q into level t of the first k blocks of the list.
-fn write_level(
+// The list gets the blocks that the rebuild of q gathers. The result is how many, or more than the limit.
+fn gathered(
     c: Client,
-    m: &mut [u8],
+    m: &[u8],
     q: usize,
-    t: usize,
-    x: Found,
-    list: &[usize],
-    k: usize,
-    tape: &[u8],
-) -> Client
-    requires { ⌜ Usable c (now m) × (q < c .shape .p) × (t < c .shape .l) × Chosen (stateOf c (now m)) q x × (take k (now list) ≡ gathered (stateOf c (now m)) q) × (k ≤ 2 ^ t) × (k ≤ length (now list)) × Enough (orderBounds (slots t)) (wordsOf (now tape)) ⌝ }
-    ensures { λ r. ⌜ (r .shape ≡ c .shape) × (r .out ≡ c .out) × Stands r (now (m .entry)) (now (m .exit)) (doRebuild q t (newOrder (slots t) (numbersOf (draws (orderBounds (slots t)) (wordsOf (now (tape .entry)))))) (stateOf c (now (m .entry)))) × (r .request ≡ c .request) ⌝ }
+    counter: usize,
+    p: Plan,
+    limit: usize,
+    list: &mut [usize],
+) -> usize
+    requires { ⌜ Usable c (now m) × (q < c .shape .p) × (counter ≡ stateOf c (now m) .counter q) × PlanOf c (now m) q p × (p .joined ≤ limit) × (limit < length (now list)) ⌝ }
+    ensures { λ r. ⌜ Gathers (gatheredOf (stateOf c (now (m .entry))) q) limit r (now (list .exit)) ⌝ }
 {
-    let sources = bits::sources(memory::tables::counter(c.shape, m, q), c.shape.l);
-    rebuild::rebuild_tables(c, m, q, t, sources, list, k, tape);
-    leave(c, m, x).with_begun(1).with_sent(1)
+    let n = gather::gather_waiting(c, m, q, p.first, p.taken, list);
+    gather::gather(c, m, q, counter, p.top, limit, list, n)
 }
 
-// Rebuilds q into level t by an order that takes these words, and sends the first write.
+// Rebuilds q with the blocks of the list.
+fn write_levels(c: Client, m: &mut [u8], tape: &[u8], q: usize, p: Plan, list: &[usize]) -> Client
+    requires { ⌜ Usable c (now m) × (q < c .shape .p) × PlanOf c (now m) q p × (now list ≡ gatheredOf (stateOf c (now m)) q) × Enough (ordersBounds (levelsOf (stateOf c (now m)) q)) (wordsOf (now tape)) ⌝ }
+    ensures { λ r. ⌜ (r .shape ≡ c .shape) × (r .out ≡ c .out) × Stands r (now (m .entry)) (now (m .exit)) (doRebuild q (levelsOf (stateOf c (now (m .entry))) q) (fills (levelsOf (stateOf c (now (m .entry))) q) (numbersOf (draws (ordersBounds (levelsOf (stateOf c (now (m .entry))) q)) (wordsOf (now (tape .entry))))) (gatheredOf (stateOf c (now (m .entry))) q)) (stateOf c (now (m .entry)))) × (r .request ≡ c .request) ⌝ }
+{
+    rebuild::rebuild_tables(c, m, q, p.top, p.next, list, tape);
+    let d = cache::leave_first(c, m, q, p.first, p.taken);
+    d.with_begun(p.joined).with_sent(1)
+}
+
+// Rebuilds q by orders that take these words, and sends the first write, of its highest written level.
 fn send_rebuild(
     c: Client,
     m: &mut [u8],
     tape: &[u8],
     buffer: &mut [u8],
     q: usize,
-    t: usize,
-    x: Found,
+    p: Plan,
     list: &[usize],
-    k: usize,
     words: usize,
 ) -> Answer
-    requires { ⌜ Due c (now m) (rebuildOf q t) × Chosen (stateOf c (now m)) q x × (take k (now list) ≡ gathered (stateOf c (now m)) q) × (k ≤ 2 ^ t) × (k ≤ length (now list)) × Enough (orderBounds (slots t)) (wordsOf (now tape)) × (words ≡ takenOf (draws (orderBounds (slots t)) (wordsOf (now tape)))) × (length (now buffer) ≡ c .shape .b) ⌝ }
+    requires { ⌜ Due c (now m) (rebuildOf q (levelsOf (stateOf c (now m)) q)) × PlanOf c (now m) q p × (now list ≡ gatheredOf (stateOf c (now m)) q) × (length (now list) ≤ capacity (levelsOf (stateOf c (now m)) q)) × Enough (ordersBounds (levelsOf (stateOf c (now m)) q)) (wordsOf (now tape)) × (words ≡ takenOf (draws (ordersBounds (levelsOf (stateOf c (now m)) q)) (wordsOf (now tape)))) × (length (now buffer) ≡ c .shape .b) ⌝ }
     ensures { λ r. ⌜ Performs c (stateOf c (now (m .entry))) turnOf (now (m .entry)) (now (tape .entry)) (now (buffer .entry)) r (now (m .exit)) (now (buffer .exit)) ⌝ }
 {
-    let d = write_level(c, m, q, t, x, list, k, tape);
-    let e = commands::send(d, m, WRITE, q, t, 0);
-    put_bytes(e, m, q, t, 0, buffer);
-    contract::sent(e, words, WRITE, q, t, 0)
+    let d = write_levels(c, m, tape, q, p, list);
+    let e = commands::send(d, m, WRITE, q, p.top, 0);
+    put_bytes(e, m, q, p.top, 0, buffer);
+    contract::sent(e, words, WRITE, q, p.top, 0)
 }
 
-// The rebuild, if the words lent settle its order's draws and the target has room for what it gathers.
-pub fn rebuild(
-    c: Client,
-    m: &mut [u8],
-    tape: &[u8],
-    buffer: &mut [u8],
-    q: usize,
-    t: usize,
-) -> Answer
-    requires { ⌜ Due c (now m) (rebuildOf q t) ⌝ }
+// The rebuild, if the words lent settle the draws of its orders and the written levels have room for what it gathers. They hold fewer than 2^(L-1) + 64.
+pub fn rebuild(c: Client, m: &mut [u8], tape: &[u8], buffer: &mut [u8], q: usize) -> Answer
+    requires { ⌜ Due c (now m) (rebuildOf q (levelsOf (stateOf c (now m)) q)) ⌝ }
     ensures { λ r. ⌜ Performs c (stateOf c (now (m .entry))) turnOf (now (m .entry)) (now (tape .entry)) (now (buffer .entry)) r (now (m .exit)) (now (buffer .exit)) ⌝ }
 {
     if buffer.len() != c.shape.b {
         return contract::refused(15, c);
     }
-    let words = tape::order_words(tape, bits::pow2(t + 1));
+    let run = jobs::running(c, m, q);
+    let next = bits::grown(run.counter, run.joined, c.shape.l);
+    let words = tape::orders_words(tape, next, run.top);
     if tape::words(tape) < words {
         return contract::refused(3, c);
     }
-    let x = chosen(c, m, q);
-    let limit = bits::pow2(t);
-    let mut list = [0usize; 130];
-    let k = plan(c, m, q, x, limit, &mut list);
-    if limit < k {
+    let p = planned(c, m, q, run, next);
+    let limit = bits::filled_slots(next, run.top) / 2;
+    let mut list = [0usize; 192];
+    let n = gathered(c, m, q, run.counter, p, limit, &mut list);
+    if limit < n {
         return contract::refused(2, c);
     }
-    send_rebuild(c, m, tape, buffer, q, t, x, &list, k, words)
+    send_rebuild(c, m, tape, buffer, q, p, &list[..n], words)
 }

@@ -4,12 +4,13 @@ use mathlib.Core.Bool.{Bool, true, false, true≢false}
 use mathlib.Core.List.{List, []}
 use Prim.Native.Nat.{ℕ, _+_, _*_, _≤_, _<_}
 use native.Mathlib.Omega.{arith}
-use lib.ListN.{length, drop}
+use lib.ListN.{length, drop, getD}
 use lib.Dec.{eqb}
 use lib.Pow.{pow-pos}
 use borrow.Author.Tests.{eq-eqb, ne-eqb, eqb-true}
 use Rattle.lists.specs.Tests.{if_then_else_}
 use Rattle.lists.specs.Search.{below, count}
+use Rattle.lists.specs.All.{all-getD}
 use Rattle.rules.specs.Shape.{Shape, slots}
 use Rattle.rules.specs.State.{State, Command, cmd, read, write}
 use Rattle.rules.specs.Draws.{draws}
@@ -19,6 +20,8 @@ use Rattle.rules.specs.Run.{Outcome, step, accepted, handed, written, sentComma
 use Rattle.rules.specs.Laws.Answers.{opens, step-number, step-accepted, accepted-passed}
 use Rattle.rules.specs.Laws.Decided.{StepIn, decide-in}
 use Rattle.rules.specs.Laws.Kept.{given-in}
+use Rattle.rules.specs.Laws.Levels.{levels-pos}
+use Rattle.rules.specs.Laws.Range.{InRange}
 use Rattle.memory.specs.Fits.{shapeOf}
 use Rattle.memory.specs.Parts.{replaced}
 use Rattle.client.specs.declared.Client.{Client}
@@ -83,14 +86,14 @@ pub record Sent (h : Shape) (c : Command) : Type 0 where
   pub level : c .level < h .L
   pub slot : c .slot < slots (c .level)
 
-sent-in : (h : Shape) (x : Step) → StepIn h x → sends x ≡ true → (x ≡ noDummy → ⊥) → Sent h (command x)
+sent-in : (s : State) → InRange s → (x : Step) → StepIn s x → sends x ≡ true → (x ≡ noDummy → ⊥) → Sent (s .shape) (command x)
 unfolding sends command
-sent-in h idle f e n = absurd (true≢false (sym e))
-sent-in h noDummy f e n = absurd (n refl)
-sent-in h (readForRequest q ℓ i) f e n = record { some = omega arith; kind = omega arith; partition = f .0; level = f .1; slot = f .2 }
-sent-in h (readForJob q ℓ i) f e n = record { some = omega arith; kind = omega arith; partition = f .0; level = f .1; slot = f .2 }
-sent-in h (rebuild q t) f e n = record { some = omega arith; kind = omega arith; partition = f .0; level = f .1; slot = pow-pos (t + 1) }
-sent-in h (writeNext q t i) f e n = record { some = omega arith; kind = omega arith; partition = f .0; level = f .1; slot = f .2 }
+sent-in s g idle f e n = absurd (true≢false (sym e))
+sent-in s g noDummy f e n = absurd (n refl)
+sent-in s g (readForRequest q ℓ i) f e n = record { some = omega arith; kind = omega arith; partition = f .0; level = f .1; slot = f .2 }
+sent-in s g (readForJob q ℓ i) f e n = record { some = omega arith; kind = omega arith; partition = f .0; level = f .1; slot = f .2 }
+sent-in s g (rebuild q ls) f e n = record { some = omega arith; kind = omega arith; partition = f .0; level = all-getD 0 (f .1) (levels-pos (s .shape) (g .shape)); slot = pow-pos (getD ls 0 0 + 1) }
+sent-in s g (writeNext q t i) f e n = record { some = omega arith; kind = omega arith; partition = f .0; level = f .1; slot = f .2 }
 
 -- the step that an accepted turn takes is possible, so that it lacks no dummy
 possible-sends : (s : State) (x : Step) → possible s x ≡ true → x ≡ noDummy → ⊥
@@ -143,7 +146,8 @@ module _ (s : Session) (m tape host t : List ℕ) (f : Served s tape) (left : t 
     unfolding accepted sentCommand questions stateOf view
     turn-sent =
         let q = accepted-passed st asks yes in
-        let d = sent-in (st .shape) (decide st) (decide-in st (given-in st memoryRoom ready-now)) (q .1 .1 .0) (possible-sends st (decide st) (q .1 .1 .1 .1 .1 .0)) in
+        let g = given-in st memoryRoom ready-now in
+        let d = sent-in st g (decide st) (decide-in st g) (q .1 .1 .0) (possible-sends st (decide st) (q .1 .1 .1 .1 .1 .0)) in
         rw (command-is, step-accepted st asks yes) (rw shaped at d)
 
     pub turn-slot : Slot (shapeOf (r .client .shape)) (cmd 0 (r .partition) (r .level) (r .slot))

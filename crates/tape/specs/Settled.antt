@@ -1,15 +1,21 @@
 -- The words that settle draws, counted.
-use mathlib.Core.Path.{_≡_}
-use mathlib.Core.List.{List}
+use mathlib.Core.Path.{_≡_, subst}
+use mathlib.Core.Bool.{true, false}
+use mathlib.Core.List.{List, [], _∷_, _++_}
 use mathlib.Core.Option.{none}
-use Prim.Native.Nat.{ℕ, _+_, _-_, _≤_, _<_}
+use Prim.Native.Nat.{ℕ, zero, suc, _+_, _-_, _≤_, _<_}
 use native.Mathlib.Omega.{arith}
 use native.Mathlib.Decide.{ℕ-discrete, decLt}
 use native.Mathlib.Numerals.{add-one}
 use lib.ListN.{length, getD}
+use Rattle.lists.specs.Search.{keep, keep-yes, keep-no}
+use Rattle.rules.specs.Shape.{slots}
+use Rattle.rules.specs.Levels.{filled, down}
+use Rattle.rules.specs.Jobs.{ordersBounds}
 use Rattle.rules.specs.Draws.{limit, draws, orderBounds}
 use Rattle.rules.specs.Run.{takenOf}
 use Rattle.rules.specs.Laws.Draws.{Enough}
+use Rattle.rules.specs.Laws.Grown.{down-next}
 use Rattle.rules.specs.Laws.Orders.{bounds-next, bounds-none}
 use Rattle.rules.specs.Laws.Drawn.{SettledBy, draws-end, Reaches, reaches-start, reaches-next, reaches-none, reaches-end}
 
@@ -46,25 +52,80 @@ settled-lent {m = m} {ws = ws} {k = k} {r = r} x l = go (decLt k r)
     go (yes h) = omega (arith, x .passed (r - 1) (omega arith) (omega arith) .0)
     go (no h) = omega arith
 
--- ---- The draws of an order
+-- ---- The draws of an order, from word k on
 
--- the draws that are left are those below b, b − 1, .., 2
-pub record Counting (n : ℕ) (ws : List ℕ) (b k : ℕ) : Type 0 where
+-- they go to word r, and any draws behind them go on from there; or the words end before
+pub record OrderTo (n : ℕ) (ws : List ℕ) (k r : ℕ) : Type 0 where
+  pub settled : r ≤ length ws → (ms ns : List ℕ) → Reaches ms ws (orderBounds n ++ ns) k → Reaches ms ws ns r
+  pub ended : length ws < r → (ms ns : List ℕ) → Reaches ms ws (orderBounds n ++ ns) k → draws ms ws ≡ none
+
+-- those that are left are below b, b − 1, .., 2, from word i on
+pub record Counting (n : ℕ) (ws : List ℕ) (k b i : ℕ) : Type 0 where
+  pub lent : i ≤ length ws
+  pub left : (ms ns : List ℕ) → Reaches ms ws (orderBounds n ++ ns) k → Reaches ms ws (orderBounds b ++ ns) i
+
+module _ (n : ℕ) (ws : List ℕ) (k : ℕ) where
+  pub counting-start : k ≤ length ws → Counting n ws k n k
+  counting-start l = record { lent = l; left = λ ms ns x. x }
+
+  module _ (b i r : ℕ) (l : 1 < b) (x : Counting n ws k b i) (y : SettledBy b ws i r) where
+    first : (ms ns : List ℕ) → Reaches ms ws (orderBounds n ++ ns) k → Reaches ms ws (b ∷ (orderBounds (b - 1) ++ ns)) i
+    first ms ns z = subst (λ bs. Reaches ms ws (bs ++ ns) i) (bounds-next b l) (x .left ms ns z)
+
+    pub counting-next : r + 1 ≤ length ws → Counting n ws k (b - 1) (r + 1)
+    counting-next h = record { lent = h; left = λ ms ns z. rw (add-one r) (reaches-next ms ws b (orderBounds (b - 1) ++ ns) i r (first ms ns z) y (omega arith)) }
+
+    pub counting-ends : length ws < r + 1 → OrderTo n ws k (r + 1)
+    counting-ends h = record {
+      settled = λ l. absurd (omega arith);
+      ended = λ _ ms ns z. reaches-none ms ws (b ∷ (orderBounds (b - 1) ++ ns)) i (first ms ns z) (draws-end b (orderBounds (b - 1) ++ ns) ws i r y (omega arith));
+    }
+
+  pub counting-done : (b i : ℕ) → b ≤ 1 → Counting n ws k b i → OrderTo n ws k i
+  counting-done b i l x = record { settled = λ _ ms ns z. rw (bounds-none b l) at (x .left ms ns z); ended = λ h. absurd (omega (arith, x .lent)) }
+
+-- ---- The orders of levels, highest first
+
+-- those of level l, if it is filled in `next`, and of the levels behind it
+pub record LevelTo (next l : ℕ) (ws : List ℕ) (k r : ℕ) : Type 0 where
+  pub settled : r ≤ length ws → (ms ls : List ℕ) → Reaches ms ws (ordersBounds (keep (filled next) (l ∷ ls))) k → Reaches ms ws (ordersBounds (keep (filled next) ls)) r
+  pub ended : length ws < r → (ms ls : List ℕ) → Reaches ms ws (ordersBounds (keep (filled next) (l ∷ ls))) k → draws ms ws ≡ none
+
+module _ (next l : ℕ) (ws : List ℕ) (k : ℕ) where
+  pub level-empty : filled next l ≡ false → k ≤ length ws → LevelTo next l ws k k
+  level-empty e h = record { settled = λ _ ms ls z. rw (keep-no (filled next) l ls e) at z; ended = λ u. absurd (omega arith) }
+
+  pub level-filled : (r : ℕ) → filled next l ≡ true → OrderTo (slots l) ws k r → LevelTo next l ws k r
+  level-filled r e x = record { settled = λ h ms ls z. x .settled h ms (ordersBounds (keep (filled next) ls)) (first ms ls z); ended = λ h ms ls z. x .ended h ms (ordersBounds (keep (filled next) ls)) (first ms ls z) }
+    where
+      first : (ms ls : List ℕ) → Reaches ms ws (ordersBounds (keep (filled next) (l ∷ ls))) k → Reaches ms ws (orderBounds (slots l) ++ ordersBounds (keep (filled next) ls)) k
+      first ms ls z = unfold ordersBounds in (rw (keep-yes (filled next) l ls e) at z)
+
+-- the levels below l are left, from word k on
+pub record Levels (next top : ℕ) (ws : List ℕ) (l k : ℕ) : Type 0 where
   pub lent : k ≤ length ws
-  pub draws : Reaches (orderBounds n) ws (orderBounds b) k
+  pub left : Reaches (ordersBounds (keep (filled next) (down (suc top)))) ws (ordersBounds (keep (filled next) (down l))) k
 
-module _ (n : ℕ) (ws : List ℕ) where
-  pub counting-start : Counting n ws n 0
-  counting-start = record { lent = omega arith; draws = reaches-start (orderBounds n) ws }
+module _ (next top : ℕ) (ws : List ℕ) where
+  abbrev bounds : List ℕ
+  bounds = ordersBounds (keep (filled next) (down (suc top)))
 
-  module _ (b k r : ℕ) (l : 1 < b) (x : Counting n ws b k) (y : SettledBy b ws k r) where
-    pub counting-next : r + 1 ≤ length ws → Counting n ws (b - 1) (r + 1)
-    counting-next h = record { lent = h; draws = rw (add-one r) (reaches-next (orderBounds n) ws b (orderBounds (b - 1)) k r (rw (← bounds-next b l) (x .draws)) y (omega arith)) }
+  pub levels-start : Levels next top ws (top + 1) 0
+  levels-start = record { lent = omega arith; left = rw (add-one top) (reaches-start bounds ws) }
 
-    pub counting-ends : length ws < r + 1 → Counts (orderBounds n) ws (r + 1)
-    counting-ends h =
-        let e = draws-end b (orderBounds (b - 1)) ws k r y (omega arith) in
-        record { settled = λ l. absurd (omega arith); ended = λ _. reaches-none (orderBounds n) ws (orderBounds b) k (x .draws) (rw (bounds-next b l) e) }
+  module _ (l k r : ℕ) (p : 0 < l) (x : Levels next top ws l k) (y : LevelTo next (l - 1) ws k r) where
+    highest : Reaches bounds ws (ordersBounds (keep (filled next) ((l - 1) ∷ down (l - 1)))) k
+    highest = subst (λ ls. Reaches bounds ws (ordersBounds (keep (filled next) ls)) k) (down-next l p) (x .left)
 
-  pub counting-done : (b k : ℕ) → b ≤ 1 → Counting n ws b k → Counts (orderBounds n) ws k
-  counting-done b k l x = record { settled = λ _. reaches-end (orderBounds n) ws k (rw (← bounds-none b l) (x .draws)); ended = λ h. absurd (omega (arith, x .lent)) }
+    pub levels-next : r ≤ length ws → Levels next top ws (l - 1) r
+    levels-next h = record { lent = h; left = y .settled h bounds (down (l - 1)) highest }
+
+    pub levels-end : length ws < r → Counts bounds ws r
+    levels-end h = record { settled = λ l. absurd (omega arith); ended = λ _. y .ended h bounds (down (l - 1)) highest }
+
+  pub levels-done : (l k : ℕ) → l ≤ 0 → Levels next top ws l k → Counts bounds ws k
+  levels-done l k h x = record { settled = λ _. reaches-end bounds ws k (none l h (x .left)); ended = λ u. absurd (omega (arith, x .lent)) }
+    where
+      none : (l : ℕ) → l ≤ 0 → Reaches bounds ws (ordersBounds (keep (filled next) (down l))) k → Reaches bounds ws [] k
+      none zero h z = unfold down keep ordersBounds in z
+      none (suc l) h z = absurd (omega arith)

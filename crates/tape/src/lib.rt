@@ -1,12 +1,15 @@
 // The tape: 16-bit words as pairs of bytes, low byte first. An odd last byte is no word.
 ghost use mathlib.Core.Path.{_≡_};
-ghost use Prim.Native.Nat.{_%_, _<_, _≤_};
+ghost use Prim.Native.Nat.{suc, _%_, _<_, _≤_};
 ghost use lib.ListN.{length, getD};
 ghost use lib.Dec.{leb};
-ghost use Rattle.rules.specs.Draws.{limit, orderBounds};
+ghost use Rattle.lists.specs.Search.{keep};
+ghost use Rattle.rules.specs.Draws.{limit};
+ghost use Rattle.rules.specs.Levels.{filled, down};
+ghost use Rattle.rules.specs.Jobs.{ordersBounds};
 ghost use Rattle.rules.specs.Laws.Drawn.{SettledBy};
 ghost use Rattle.tape.specs.Tape.{wordsOf};
-ghost use Rattle.tape.specs.Settled.{Counts};
+ghost use Rattle.tape.specs.Settled.{Counts, OrderTo, LevelTo};
 
 // How many words there are.
 pub fn words(t: &[u8]) -> usize
@@ -50,12 +53,13 @@ pub fn draw(t: &[u8], k: usize, bound: usize) -> usize
     memory::word(t, k) % bound
 }
 
-// How many words the draws of an order of n slots take, passed ones counted; or more than there are, if they end before the last draw is settled.
-pub fn order_words(t: &[u8], n: usize) -> usize
-    requires { ⌜ n ≤ 65536 ⌝ }
-    ensures { λ r. ⌜ Counts (orderBounds n) (wordsOf (now (t .entry))) r ⌝ }
+// The word behind the last that the draws of an order of n slots take, from word `from` on, passed ones counted; or more than there are, if they
+// end before the last draw is settled.
+fn order_end(t: &[u8], from: usize, n: usize) -> usize
+    requires { ⌜ (from ≤ length (wordsOf (now t))) × (n ≤ 65536) ⌝ }
+    ensures { λ r. ⌜ OrderTo n (wordsOf (now (t .entry))) from r ⌝ }
 {
-    let mut k = 0;
+    let mut k = from;
     let mut bound = n;
     while 1 < bound {
         k = settle(t, k, bound) + 1;
@@ -63,6 +67,34 @@ pub fn order_words(t: &[u8], n: usize) -> usize
             return k;
         }
         bound -= 1;
+    }
+    k
+}
+
+// The same of level l, whose order is drawn if it is filled in `next`.
+fn level_end(t: &[u8], from: usize, next: usize, l: usize) -> usize
+    requires { ⌜ (from ≤ length (wordsOf (now t))) × (l < 16) ⌝ }
+    ensures { λ r. ⌜ LevelTo next l (wordsOf (now (t .entry))) from r ⌝ }
+{
+    if !bits::filled(next, l) {
+        return from;
+    }
+    order_end(t, from, bits::pow2(l + 1))
+}
+
+// How many words the orders of the levels up to `top` take that are filled in `next`, highest first; or more than there are.
+pub fn orders_words(t: &[u8], next: usize, top: usize) -> usize
+    requires { ⌜ top < 16 ⌝ }
+    ensures { λ r. ⌜ Counts (ordersBounds (keep (filled next) (down (suc top)))) (wordsOf (now (t .entry))) r ⌝ }
+{
+    let mut k = 0;
+    let mut l = top + 1;
+    while 0 < l {
+        l -= 1;
+        k = level_end(t, k, next, l);
+        if words(t) < k {
+            return k;
+        }
     }
     k
 }

@@ -26,7 +26,7 @@ pub fn perform(c: Client, m: &mut [u8], tape: &[u8], buffer: &mut [u8]) -> Answe
         Step::NoDummy => contract::refused(2, c),
         Step::ReadForRequest(q, l, i) => sending::read_for_request(c, m, q, l, i),
         Step::ReadForJob(q, l, i) => sending::read_for_job(c, m, q, l, i),
-        Step::Rebuild(q, t) => sending::rebuild(c, m, tape, buffer, q, t),
+        Step::Rebuild(q) => sending::rebuild(c, m, tape, buffer, q),
         Step::WriteNext(q, t, i) => sending::write_next(c, m, buffer, q, t, i),
     }
 }

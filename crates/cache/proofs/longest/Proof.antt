@@ -7,7 +7,6 @@ use borrow.Author.Count.{below-none, below-more}
 use borrow.Author.Tests.{eq-eqb, ne-eqb}
 use Rattle.memory.specs.Fits.{fit-lt}
 use Rattle.client.specs.View.{stateOf}
-use Rattle.client.specs.Rows.{find-miss}
 use Rattle.cache.specs.Longest.{longest-at}
 use Rattle.cache.specs.Waiting.{blocksIn, waiting-is, partition-is}
 use Rattle.cache.proofs.longest.Statement.{statement}
@@ -34,7 +33,7 @@ partition-requires c κs =
 returns : tie.Need-returns Inv-loop μ-loop
 returns c =
     let l = c .before .before .before .before .loop in
-    longest-at _ _ _ _ (l .i) (waiting-is _ _) (omega arith) (eq-eqb _ _ (partition-is _ _ (l .i) _ _ (c .before .before .waiting .ensures) (c .before .partition .ensures) ∙ c .if1 .taken)) (l .inv .1)
+    longest-at _ _ _ _ (l .i) (waiting-is _ _) (omega arith) (l .inv .1) (λ _. eq-eqb _ _ (partition-is _ _ (l .i) _ _ (c .before .before .waiting .ensures) (c .before .partition .ensures) ∙ c .if1 .taken))
 
 add-i : tie.Need-add-i Inv-loop μ-loop
 add-i c = omega arith
@@ -48,7 +47,7 @@ loop-again c =
     (omega arith, below-more _ _ (l .inv .1) (ne-eqb _ _ (λ e. c .if1 .left (sym (partition-is _ _ (l .i) _ _ (c .before .before .waiting .ensures) (c .before .partition .ensures)) ∙ e))))
 
 returns-2 : tie.Need-returns-2 Inv-loop μ-loop
-returns-2 c = rw waiting-is (find-miss _ _ _ (λ x h. c .before .loop .inv .1 x (omega arith)))
+returns-2 c = longest-at _ _ _ _ _ (waiting-is _ _) (omega arith) (λ x h. c .before .loop .inv .1 x (omega arith)) (λ h. absurd (omega arith))
 
 pub longest-spec : {M : Type 1} → statement M
 longest-spec =

@@ -29,17 +29,17 @@ inside : (c : tie.After-partition) → c .partition .result < c .before .before 
 inside c =
     let s = c .before .before .before .before in
     let h = s .args .c .shape in
-    omega (arith, c .partition .ensures, fit-lt (h .p) (tablesOf (shapeOf h) (s .args .m .now) .partition (s .args .c .request .block)) (s .pre .room .somePartitions))
+    omega (arith, c .partition .ensures, fit-lt (h .p) (tablesOf (shapeOf h) (s .args .m .now) .partition (s .args .c .request .block)) (s .pre .0 .room .somePartitions))
 
 -- it is not held
 unheld : (c : tie.After-partition) → let a = c .before .before .before .before .args in held (handOf (a .c) (a .m .now)) ≡ false
 unheld c = let a = c .before .before .before .before .args in hand-released (a .c) (a .m .now) (c .before .if1 .left)
 
 sources-requires : tie.Need-sources-requires
-sources-requires c κs = let p = c .before .before .before .before .pre in (p .room, omega (arith, p .jobs), inside c)
+sources-requires c κs = let p = c .before .before .before .before .pre in (p .0 .room, omega (arith, p .0 .jobs), inside c, p .1)
 
 next-level-requires : tie.Need-next-level-requires
-next-level-requires c κs = let p = c .before .before .before .before .before .pre in (p .room, inside (c .before), p .asked .level, c .sources .ensures)
+next-level-requires c κs = let p = c .before .before .before .before .before .pre in (p .0 .room, inside (c .before), p .0 .asked .level, c .sources .ensures)
 
 returns-2 : tie.Need-returns-2
 unfolding stateOf view
@@ -53,7 +53,7 @@ awaited-requires : tie.Need-awaited-requires
 awaited-requires c κs = tt
 
 is-busy-requires : tie.Need-is-busy-requires
-is-busy-requires c κs = let p = c .before .before .before .before .before .before .before .before .before .pre in (p .room, p .out, c .awaited .ensures .0)
+is-busy-requires c κs = let p = c .before .before .before .before .before .before .before .before .before .pre in (p .0 .room, p .0 .out, c .awaited .ensures .0)
 
 returns-3 : tie.Need-returns-3
 unfolding stateOf view

@@ -8,6 +8,7 @@ use Rattle.rules.specs.Questions.{ready, questions, firstNo, number}
 use Rattle.client.specs.View.{stateOf}
 use Rattle.ready.specs.Usable.{usable}
 use Rattle.client.specs.Readings.{handOf}
+use Rattle.jobs.specs.Runs.{begun-in}
 use Rattle.collecting.specs.Collecting.{asked-none, asked-some, asked-finished, hand, size-is}
 use Rattle.collecting.proofs.number.Statement.{statement}
 use Rattle.collecting.proofs.number.Tie as tie
@@ -37,7 +38,8 @@ is-finished-requires : tie.Need-is-finished-requires
 is-finished-requires c κs =
     let d = c .before .before in
     let a = d .before .before .before .args in
-    hand (a .c) (a .m .now) (usable (a .c) (a .m .now) (begun d)) (c .if2 .left)
+    let u = usable (a .c) (a .m .now) (begun d) in
+    (hand (a .c) (a .m .now) u (c .if2 .left), begun-in (a .c) (a .m .now) (u .range))
 
 returns-3 : tie.Need-returns-3
 unfolding number questions firstNo

@@ -9,7 +9,7 @@ use Rattle.client.specs.Moves.{withRequest, withOut, Stands}
 use Rattle.client.specs.Rows.{dropAt}
 use Rattle.client.specs.View.{stateOf}
 use Rattle.completing.specs.Awaited.{lessened}
-use Rattle.completing.specs.Completing.{read-done, write-done}
+use Rattle.completing.specs.Completing.{begun-left, read-done, write-done}
 use Rattle.completing.proofs.complete.Statement.{statement}
 use Rattle.completing.proofs.complete.Tie as tie
 use Rattle.completing.proofs.await_less.Reads as await-less-reads
@@ -50,7 +50,13 @@ returns c =
     (ap (λ (x : Client). x .request) (client-is k), read-done (a .c) (k .complete .result) (a .m .now) _ _ (a .bytes .now) (a .j) (s .pre) (stands k) _ (c .before .before .before .before .if1 .taken) (c .before .before .store-read .ensures))
 
 finish-job-requires : tie.Need-finish-job-requires
-finish-job-requires c κs = let p = c .before .before .before .before .before .before .before .before .before .pre in rw (client-is (c .before .before .before .before)) (omega (arith, p .room, p .out, p .jobs, p .place))
+finish-job-requires c κs =
+    let k = c .before .before .before .before in
+    let s = k .before .before .before .before .before in
+    let a = s .args in
+    let e = client-is k in
+    let begun = begun-left (a .c) (k .complete .result) (a .m .now) _ _ (a .bytes .now) (a .j) (s .pre) (stands k) (ap (λ (x : Client). x .shape) e) (ap (λ (x : Client). x .begun) e) in
+    (rw e (omega (arith, s .pre .room)), rw e (omega (arith, s .pre .out, s .pre .place)), rw e (s .pre .jobs), begun)
 
 same-length-2 : tie.Need-same-length-2
 same-length-2 c = omega arith

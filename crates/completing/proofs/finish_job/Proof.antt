@@ -1,6 +1,7 @@
 use mathlib.Core.Path.{refl, sym, _∙_}
 use native.Mathlib.Omega.{arith}
 use borrow.Author.Tests.{not-true, not-false}
+use Rattle.jobs.specs.Runs.{Runs}
 use Rattle.completing.specs.Completing.{finish-none, finish-later, finish-now}
 use Rattle.completing.proofs.finish_job.Statement.{statement}
 use Rattle.completing.proofs.finish_job.Tie as tie
@@ -16,8 +17,14 @@ returns c =
 front-requires : tie.Need-front-requires
 front-requires c κs = omega arith
 
+-- what the front job goes by
+runs : (c : tie.After-front) → Runs (c .before .before .before .before .before .args .c) (c .before .before .before .before .before .args .m .now) (c .front .result)
+runs c =
+    let p = c .before .before .before .before .before .pre in
+    record { room = p .0; jobs = p .2; partition = c .front .ensures .1; front = c .front .ensures .0; begun = p .3 }
+
 is-done-requires : tie.Need-is-done-requires
-is-done-requires c κs = omega arith
+is-done-requires c κs = (runs (c .before), c .before .before .before .before .before .before .pre .1)
 
 returns-2 : tie.Need-returns-2
 returns-2 c =
@@ -26,7 +33,7 @@ returns-2 c =
     (refl, finish-later (a .c) (a .m .now) (q .result) (q .ensures .0) (sym (c .before .is-done .ensures) ∙ not-true _ (c .if2 .taken)), refl)
 
 end-job-requires : tie.Need-end-job-requires
-end-job-requires c κs = omega arith
+end-job-requires c κs = runs (c .before .before .before .before)
 
 same-length-2 : tie.Need-same-length-2
 same-length-2 c = omega arith

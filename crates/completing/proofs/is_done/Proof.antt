@@ -1,44 +1,48 @@
-use mathlib.Core.Path.{sym}
+use mathlib.Core.Path.{refl, sym}
+use mathlib.Core.Bool.{not}
 use native.Mathlib.Omega.{arith}
-use borrow.Author.Tests.{not-true}
+use lib.Dec.{eqb}
+use borrow.Author.Tests.{eqb-true, not-true}
+use Rattle.lists.specs.Tests.{and-l, and-r}
+use Rattle.memory.specs.Fits.{shapeOf}
+use Rattle.jobs.specs.Runs.{run-together}
 use Rattle.completing.specs.Completing.{not-done, done-is}
 use Rattle.completing.proofs.is_done.Statement.{statement}
 use Rattle.completing.proofs.is_done.Tie as tie
+use Rattle.jobs.proofs.running.Reads as running-reads
 
 one-bit-requires : tie.Need-one-bit-requires
 one-bit-requires c κs = tt
 
 returns : tie.Need-returns
 returns c =
-    let s = c .before .before .before in
+    let s = c .before .before .before .before in
     let a = s .args in
-    sym (not-done (a .c) (a .m .now) (a .q) (c .before .one-bit .result) (s .pre .0) (c .before .one-bit .ensures) (not-true _ (c .if1 .taken)))
+    let o = c .before .one-bit in
+    let one = eqb-true (a .c .begun) 1 (and-l (eqb (a .c .begun) 1) (not (o .result)) (c .if1 .taken)) in
+    sym (not-done (a .c) (a .m .now) (a .q) (o .result) (s .pre .0 .room) one (o .ensures) (not-true _ (and-r (eqb (a .c .begun) 1) (not (o .result)) (c .if1 .taken))))
 
-counter-requires : tie.Need-counter-requires
-counter-requires c κs = omega arith
+running-requires : tie.Need-running-requires
+running-requires c κs = c .before .before .before .before .pre .0
 
-sources-requires : tie.Need-sources-requires
-sources-requires c κs = omega arith
+grown-requires : tie.Need-grown-requires
+grown-requires c κs =
+    let s = c .before .before .before .before .before in
+    (s .pre .0 .room .someLevels, s .pre .0 .room .levels, run-together (s .args .c) (s .args .m .now) (s .args .q) _ (c .running .ensures))
 
-target-requires : tie.Need-target-requires
-target-requires c κs = omega arith
-
-add-pow2 : tie.Need-add-pow2
-add-pow2 c = omega arith
-
-pow2-requires : tie.Need-pow2-requires
-pow2-requires c κs = omega arith
+filled-slots-requires : tie.Need-filled-slots-requires
+filled-slots-requires c κs = omega (arith, c .before .running .ensures .level, c .before .before .before .before .before .before .pre .0 .room .levels)
 
 is-writing-requires : tie.Need-is-writing-requires
-is-writing-requires c κs = omega arith
+is-writing-requires c κs = let p = c .before .before .before .before .before .before .before .before .pre in (p .0 .room, p .1)
 
 returns-2 : tie.Need-returns-2
 returns-2 c =
-    let t = c .before .before .before in
-    let n = t .before .before in
-    let a = n .before .before .before .before .args in
-    done-is (a .c) (a .m .now) (a .q) (n .counter .result) (t .before .sources .result) (t .target .result) (c .before .before .pow2 .result) (c .is-writing .result)
-    (n .counter .ensures) (t .before .sources .ensures .0) (t .target .ensures .0) (c .before .before .pow2 .ensures .0) (c .is-writing .ensures)
+    let w = c .before .before in
+    let g = w .before .grown in
+    let r = w .before .before .running in
+    let a = w .before .before .before .before .before .before .before .args in
+    done-is (a .c) (a .m .now) (a .q) (g .result) (w .filled-slots .result) (r .result) (c .is-writing .result) (r .ensures) (g .ensures .0 (shapeOf (a .c .shape)) refl) (w .filled-slots .ensures) (c .is-writing .ensures)
 
 pub is-done-spec : {M : Type 1} → statement M
 is-done-spec =
@@ -46,10 +50,8 @@ is-done-spec =
     (tie.spec
     one-bit-requires
     returns
-    counter-requires
-    sources-requires
-    target-requires
-    add-pow2
-    pow2-requires
+    running-requires
+    grown-requires
+    filled-slots-requires
     is-writing-requires
     returns-2)

@@ -1,23 +1,20 @@
 use mathlib.Core.Path.{_≡_, ap, sym, _∙_}
 use mathlib.Core.Option.{none}
 use native.Mathlib.Omega.{arith}
-use Rattle.rules.specs.Laws.Levels.{sources-le}
-use Rattle.memory.specs.Fits.{shapeOf}
-use Rattle.client.specs.View.{stateOf, view}
+use Rattle.client.specs.View.{stateOf}
 use Rattle.levels.specs.Next.{foundSpot}
 use Rattle.lists.specs.Search.{any}
 use Rattle.rules.specs.Rebuild.{unread}
 use Rattle.commands.specs.Outstanding.{ofPartition}
 use Rattle.commands.specs.Commands.{all-taken}
-use Rattle.deciding.specs.Steps.{gather-read, gather-waits, gather-stays, gather-rebuilds, target-is}
+use Rattle.deciding.specs.Steps.{gather-read, gather-waits, gather-stays, gather-rebuilds}
 use Rattle.deciding.proofs.gather_step.Statement.{statement}
 use Rattle.deciding.proofs.gather_step.Tie as tie
 
 unread-requires : tie.Need-unread-requires
 unread-requires c κs =
-    let a = c .before in
-    let p = a .pre in
-    (p .0 .room, p .1, p .2, omega (arith, p .2, sources-le (shapeOf (a .args .c .shape)) (stateOf (a .args .c) (a .args .m .now) .counter (a .args .q))), omega (arith, p .0 .counts .cursor, p .0 .room .stride))
+    let p = c .before .pre in
+    (p .0 .room, p .1, p .2 .counter, p .2 .top, p .2 .level, omega (arith, p .0 .counts .cursor, p .0 .room .stride))
 
 enum-known-spot : tie.Need-enum-known-spot
 enum-known-spot c = omega arith
@@ -56,17 +53,11 @@ returns-3 c =
     let b = c .before .before in
     gather-stays (stateOf (a .c) (a .m .now)) (a .q) (done (b .before .before)) (busy (b .before) ∙ b .if1 .left) (sym (c .before .is-released-for .ensures) ∙ c .if2 .taken)
 
-target-requires : tie.Need-target-requires
-target-requires c κs = c .before .before .before .before .before .before .before .before .pre .0 .room .someLevels
-
 returns-4 : tie.Need-returns-4
-unfolding stateOf view
 returns-4 c =
-    let s = c .before .before .before .before .before .before .before .before .before in
-    let a = s .args in
-    let b = c .before .before .before in
-    gather-rebuilds (stateOf (a .c) (a .m .now)) (a .q) (c .target .result) (done (b .before .before)) (busy (b .before) ∙ b .if1 .left) (sym (c .before .before .is-released-for .ensures) ∙ c .before .if2 .left)
-    (target-is (shapeOf (a .c .shape)) (stateOf (a .c) (a .m .now) .counter (a .q)) (a .sources) (c .target .result) (s .pre .2) (c .target .ensures .0))
+    let a = c .before .before .before .before .before .before .before .before .args in
+    let b = c .before .before in
+    gather-rebuilds (stateOf (a .c) (a .m .now)) (a .q) (done (b .before .before)) (busy (b .before) ∙ b .if1 .left) (sym (c .before .is-released-for .ensures) ∙ c .if2 .left)
 
 pub gather-step-spec : {M : Type 1} → statement M
 gather-step-spec =
@@ -80,5 +71,4 @@ gather-step-spec =
     returns-2
     is-released-for-requires
     returns-3
-    target-requires
     returns-4)

@@ -59,7 +59,7 @@ returns-3 c =
     let p = c .before in
     let e = p .before .before in
     let a = e .before .before .before .before in
-    has-unread (stateOf (a .args .c) (a .args .m .now)) (a .args .q) (a .args .l) (marked a) (full (e .before)) (beneath _ _ _ _ (a .args .l) (a .pre .4) (e .if2 .left)) (omega (arith, p .before .reads .ensures .0, p .pow2 .ensures .0, c .if3 .taken))
+    has-unread (stateOf (a .args .c) (a .args .m .now)) (a .args .q) (a .args .l) (marked a) (full (e .before)) (beneath _ _ _ _ (a .args .l) (a .pre .4) (full (e .before)) (e .if2 .left)) (omega (arith, p .before .reads .ensures .0, p .pow2 .ensures .0, c .if3 .taken))
 
 returns-4 : tie.Need-returns-4
 unfolding stateOf view
@@ -67,7 +67,7 @@ returns-4 c =
     let p = c .before in
     let e = p .before .before in
     let a = e .before .before .before .before in
-    all-read (stateOf (a .args .c) (a .args .m .now)) (a .args .q) (a .args .l) (marked a) (full (e .before)) (beneath _ _ _ _ (a .args .l) (a .pre .4) (e .if2 .left)) (omega (arith, p .before .reads .ensures .0, p .pow2 .ensures .0, c .if3 .left))
+    all-read (stateOf (a .args .c) (a .args .m .now)) (a .args .q) (a .args .l) (marked a) (full (e .before)) (beneath _ _ _ _ (a .args .l) (a .pre .4) (full (e .before)) (e .if2 .left)) (omega (arith, p .before .reads .ensures .0, p .pow2 .ensures .0, c .if3 .left))
 
 pub condition-of-spec : {M : Type 1} → statement M
 condition-of-spec =

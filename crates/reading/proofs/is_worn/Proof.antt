@@ -27,7 +27,7 @@ sources-requires c κs = c .before .before .pre
 
 -- the sources are not worn
 gathered : (c : tie.After-sources Inv-loop μ-loop) → let a = c .before .before .before .args in (x : ℕ) → x < c .sources .result → worn (stateOf (a .c) (a .m .now)) (a .q) x ≡ false
-gathered c x l = let a = c .before .before .before .args in worn-source (stateOf (a .c) (a .m .now)) (a .q) x (beneath _ _ _ _ x (c .sources .ensures) l)
+gathered c x l = let a = c .before .before .before .args in worn-source (stateOf (a .c) (a .m .now)) (a .q) x (λ f. beneath _ _ _ _ x (c .sources .ensures) f l)
 
 loop-holds : tie.Need-loop-holds Inv-loop μ-loop
 loop-holds c = (omega arith, c .sources .ensures .end, gathered c)

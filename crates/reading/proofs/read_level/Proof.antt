@@ -5,7 +5,8 @@ use lib.Dec.{ltb}
 use Rattle.rules.specs.Reader.{levelOf, slotOf, isLevel}
 use Rattle.client.specs.Readings.{place-as}
 use Rattle.client.specs.View.{stateOf, view, foundOf, placeOf}
-use Rattle.reading.specs.Conditions.{ReadAs, read-as}
+use Rattle.reading.specs.Conditions.{ReadAs, costs-filled, read-as}
+use Rattle.reading.specs.Sources.{marked}
 use Rattle.reading.specs.Slots.{reads-lt, placed-lt, SlotIn, slot-in, level-real, level-fake}
 use Rattle.reading.proofs.read_level.Statement.{statement}
 use Rattle.reading.proofs.read_level.Tie as tie
@@ -26,7 +27,7 @@ found a =
 
 -- the level is read by its mark
 by-mark : (a : tie.Start) → ReadAs (stateOf (a .args .c) (a .args .m .now)) (a .args .q) (a .args .l) (ltb (a .args .l) (a .args .sources))
-by-mark a = read-as (stateOf (a .args .c) (a .args .m .now)) (a .args .q) (a .args .l) (ltb (a .args .l) (a .args .sources)) (a .pre .6 .source (a .args .l)) (a .pre .3)
+by-mark a = read-as (stateOf (a .args .c) (a .args .m .now)) (a .args .q) (a .args .l) (ltb (a .args .l) (a .args .sources)) (marked _ _ _ _ (a .args .l) (a .pre .6) (costs-filled (stateOf (a .args .c) (a .args .m .now)) (a .args .q) (a .args .l) (a .pre .3))) (a .pre .3)
 
 -- the block's slot, where it is this one
 own : (c : tie.Then1) → let a = c .before .before .before .args in SlotIn (a .c .shape .l) (a .l) (a .x)

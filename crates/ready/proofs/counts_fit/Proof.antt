@@ -15,12 +15,9 @@ pow2-requires c κs = omega arith
 sub-slots : tie.Need-sub-slots
 sub-slots c = omega (arith, pow-mono {i = 1} {j = c .before .before .args .c .shape .l + 1} (omega arith), c .pow2 .ensures .0)
 
-pow2-requires-2 : tie.Need-pow2-requires-2
-pow2-requires-2 c κs = omega arith
-
 returns : tie.Need-returns
 unfolding countsFit
-returns c = rw (c .before .before .before .before .before .before .pow2 .ensures .0, c .before .before .before .before .before .pow22 .ensures .0)
+returns c = rw (c .before .before .before .before .pow2 .ensures .0)
 
 pub counts-fit-spec : {M : Type 1} → statement M
-counts-fit-spec = tie.close (tie.spec add-pow2 pow2-requires sub-slots pow2-requires-2 returns)
+counts-fit-spec = tie.close (tie.spec add-pow2 pow2-requires sub-slots returns)

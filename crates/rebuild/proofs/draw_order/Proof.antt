@@ -1,7 +1,7 @@
 use mathlib.Core.Path.{_≡_, refl}
 use Prim.Native.Nat.{ℕ, _+_, _^_, _<_}
 use native.Mathlib.Omega.{arith}
-use lib.ListN.{length}
+use lib.ListN.{length, drop}
 use Rattle.lists.specs.Search.{below}
 use Rattle.rules.specs.Draws.{orderBounds}
 use Rattle.rules.specs.Laws.Draws.{Enough}
@@ -11,7 +11,7 @@ use Rattle.client.specs.Moves.{Stands}
 use Rattle.tape.specs.Tape.{wordsOf, length-words}
 use Rattle.rebuild.specs.Target.{Within, within-level}
 use Rattle.rebuild.specs.Steps.{ordered}
-use Rattle.rebuild.specs.Shuffle.{Drawing, drawing-start, drawing-step, drawing-done, drawn-word}
+use Rattle.rebuild.specs.Shuffle.{Drawing, drawing-start, drawing-step, drawing-done, drawing-taken, drawn-word}
 use Rattle.rebuild.proofs.draw_order.Statement.{statement}
 use Rattle.rebuild.proofs.draw_order.Tie as tie
 use Rattle.bits.proofs.pow2.Reads as pow2-reads
@@ -22,10 +22,10 @@ use Rattle.tape.proofs.draw.Reads as draw-reads
 use Rattle.tape.proofs.settle.Reads as settle-reads
 
 abbrev Inv-loop : tie.InvT-loop
-Inv-loop c m₀ q t tape n base k₀ i₀ m k i = (i < n) × (length m ≡ length m₀) × Drawing c m₀ m base n i k (wordsOf tape)
+Inv-loop c m₀ q t tape from n base k₀ i₀ m k i = (i < n) × (length m ≡ length m₀) × Drawing c m₀ m base n from i k (wordsOf tape)
 
 abbrev μ-loop : tie.MeasureT-loop
-μ-loop c m₀ q t tape n base k₀ i₀ m k i = i
+μ-loop c m₀ q t tape from n base k₀ i₀ m k i = i
 
 started : (c : tie.After-level-start Inv-loop μ-loop) →
     let d = c .before .before .before .before in
@@ -59,8 +59,8 @@ loop-holds : tie.Need-loop-holds Inv-loop μ-loop
 loop-holds c =
     let a = c .before .before .before .before .before .before .before .before in
     let n = c .before .pow2 in
-    let e : Enough (orderBounds (n .result)) (wordsOf (a .args .tape .now)) = rw (n .ensures .0) (a .pre .3) in
-    (omega arith, refl, drawing-start (a .args .c) (a .args .m .now) _ (c .level-start .result) (n .result) (wordsOf (a .args .tape .now)) (started c) (omega arith) e)
+    let e : Enough (orderBounds (n .result)) (drop (a .args .from) (wordsOf (a .args .tape .now))) = rw (n .ensures .0) (a .pre .3) in
+    (omega arith, refl, drawing-start (a .args .c) (a .args .m .now) _ (c .level-start .result) (n .result) (a .args .from) (wordsOf (a .args .tape .now)) (started c) (omega arith) e)
 
 add-settle : tie.Need-add-settle Inv-loop μ-loop
 add-settle c = omega arith
@@ -73,7 +73,7 @@ word-lent : (c : tie.After-settle Inv-loop μ-loop) → c .settle .result < leng
 word-lent c =
     let l = c .before .before .loop in
     let a = c .before .before .before .before .before .before .before .before .before .before .before .args in
-    drawn-word (a .c) _ (l .m) _ _ (l .i) (l .k) (wordsOf (a .tape .now)) (omega arith) (l .inv .2) (c .settle .result) (c .settle .ensures)
+    drawn-word (a .c) _ (l .m) _ _ _ (l .i) (l .k) (wordsOf (a .tape .now)) (omega arith) (l .inv .2) (c .settle .result) (c .settle .ensures)
 
 add-draw : tie.Need-add-draw Inv-loop μ-loop
 add-draw c = omega arith
@@ -120,7 +120,7 @@ loop-again c =
     let s = l .before in
     let n = s .before .pow2 .result in
     let a = s .before .before .before .before .before .before .before .before in
-    let x = drawing-step (a .args .c) _ (l .loop .m) (s .level-start .result) n (l .loop .i) (l .loop .k) (wordsOf (a .args .tape .now)) (omega arith) (l .loop .inv .2) (r .settle .result) (r .settle .ensures)
+    let x = drawing-step (a .args .c) _ (l .loop .m) (s .level-start .result) n (a .args .from) (l .loop .i) (l .loop .k) (wordsOf (a .args .tape .now)) (omega arith) (l .loop .inv .2) (r .settle .result) (r .settle .ensures)
     (d .exchange .last .1 .0) (w .draw .result) (omega arith) (omega arith) (w .draw .ensures .0) (d .exchange .ensures) in
     (omega arith, omega arith, x)
 
@@ -132,8 +132,11 @@ returns c =
     let l = c .before in
     let s = l .before in
     let a = s .before .before .before .before .before .before .before .before in
-    rw (← s .level-start .ensures, ← s .before .pow2 .ensures .0)
-    (drawing-done (a .args .c) (a .args .m .now) _ (s .level-start .result) (s .before .pow2 .result) (wordsOf (a .args .tape .now)) (started s) (l .loop .m) (l .loop .i) (l .loop .k) (omega arith) (l .loop .inv .2))
+    let ws = wordsOf (a .args .tape .now) in (
+      rw (← s .level-start .ensures, ← s .before .pow2 .ensures .0)
+          (drawing-done (a .args .c) (a .args .m .now) _ (s .level-start .result) (s .before .pow2 .result) (a .args .from) ws (started s) (l .loop .m) (l .loop .i) (l .loop .k) (omega arith) (l .loop .inv .2)),
+      rw (← s .before .pow2 .ensures .0) (drawing-taken (a .args .c) (a .args .m .now) _ (s .level-start .result) (s .before .pow2 .result) (a .args .from) ws (started s) (l .loop .m) (l .loop .i) (l .loop .k) (omega arith) (l .loop .inv .2)),
+    )
 
 pub draw-order-spec : {M : Type 1} → statement M
 draw-order-spec =

@@ -26,7 +26,7 @@ is-held-for-requires : tie.Need-is-held-for-requires
 is-held-for-requires c κs =
     let s = c .before .before .before .before .before .before .before in
     let h = s .args .c .shape in
-    (s .pre .room, s .pre .jobs, omega (arith, c .partition .ensures, fit-lt (h .p) (tablesOf (shapeOf h) (s .args .m .now) .partition (s .args .c .request .block)) (s .pre .room .somePartitions)))
+    (s .pre .room, s .pre .jobs, omega (arith, c .partition .ensures, fit-lt (h .p) (tablesOf (shapeOf h) (s .args .m .now) .partition (s .args .c .request .block)) (s .pre .room .somePartitions)), s .pre .begun)
 
 -- whether jobs hold it
 queued : (c : tie.After-is-held-for) → let a = c .before .before .before .before .before .before .before .before .args in let s = stateOf (a .c) (a .m .now) in

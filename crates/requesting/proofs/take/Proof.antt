@@ -1,4 +1,8 @@
+use mathlib.Core.Path.{refl}
 use native.Mathlib.Omega.{arith}
+use Rattle.rules.specs.Request.{accept}
+use Rattle.client.specs.Moves.{Stands}
+use Rattle.jobs.specs.Runs.{begun-moved}
 use Rattle.releasing.specs.Released.{released-stands}
 use Rattle.requesting.specs.Requesting.{Taken, taken-stands}
 use Rattle.requesting.proofs.take.Statement.{statement}
@@ -16,23 +20,34 @@ keep-requires c κs = let p = c .before .before .before .before .before .before 
 with-request-requires : tie.Need-with-request-requires
 with-request-requires c κs = omega arith
 
+-- the request is in hand
+taken : (c : tie.After-with-request) → let d = c .before .before .before .before .before in let a = d .before .before .before .before .before .args in
+    Stands (c .with-request .result) (a .m .now) (c .before .before .before .keep .last .1 .0) (Taken (a .c) (a .m .now) (a .kind) (a .block) (a .contents .now) (a .tape .now))
+taken c =
+    let d = c .before .before .before .before .before in
+    let s = d .before .before .before .before .before in
+    let a = s .args in
+    rw (c .with-request .ensures)
+    (taken-stands (a .c) (a .m .now) _ (a .kind) (a .block) (a .contents .now) (a .tape .now) _ _ (c .before .before .before .keep .ensures) (s .pre .5) (s .pre .6) (s .pre .7) (s .pre .8) (d .before .draw .ensures .0) (d .draw2 .ensures .0))
+
 release-requires : tie.Need-release-requires
+unfolding accept
 release-requires c κs =
     let w = c .before .with-request in
-    let p = c .before .before .before .before .before .before .before .before .before .before .before .pre in
-    rw (w .ensures) (record { room = omega (arith, p .0); jobs = p .1; waiting = p .2; out = p .3; block = λ z. p .4 })
+    let s = c .before .before .before .before .before .before .before .before .before .before .before in
+    let p = s .pre in
+    let a = s .args in
+    let begun = begun-moved (a .c) (w .result) (a .m .now) _ (Taken (a .c) (a .m .now) (a .kind) (a .block) (a .contents .now) (a .tape .now)) (taken (c .before) .state) refl refl (rw (w .ensures)) (rw (w .ensures)) (p .9) in
+    record { room = rw (w .ensures) (omega (arith, p .0)); jobs = rw (w .ensures) (p .1); begun = begun; waiting = rw (w .ensures) (p .2); out = rw (w .ensures) (p .3); block = λ z. rw (w .ensures) (p .4) }
 
 same-length : tie.Need-same-length
 same-length c = omega arith
 
 returns : tie.Need-returns
 returns c =
-    let w = c .before .before .with-request in
-    let d = c .before .before .before .before .before .before .before in
-    let s = d .before .before .before .before .before in
-    let a = s .args in
-    let stands = taken-stands (a .c) (a .m .now) _ (a .kind) (a .block) (a .contents .now) (a .tape .now) _ _ (c .before .before .before .before .before .keep .ensures) (s .pre .5) (s .pre .6) (s .pre .7) (s .pre .8) (d .before .draw .ensures .0) (d .draw2 .ensures .0) in
-    released-stands {s = Taken (a .c) (a .m .now) (a .kind) (a .block) (a .contents .now) (a .tape .now)} (rw (w .ensures) stands) (c .release .ensures)
+    let t = c .before .before in
+    let a = t .before .before .before .before .before .before .before .before .before .before .args in
+    released-stands {s = Taken (a .c) (a .m .now) (a .kind) (a .block) (a .contents .now) (a .tape .now)} (taken t) (c .release .ensures)
 
 pub take-spec : {M : Type 1} → statement M
 take-spec =

@@ -14,13 +14,6 @@ use native.Mathlib.Omega.{arith}
 use lib.ListN.{length}
 use Rattle.sending.proofs.write_next.Statement.{statement}
 use Rattle.sending.proofs.write_next.Tie as tie
-use Rattle.sending.proofs.write_next.Reads as reads
-use Rattle.sending.proofs.write_next.Lts as lts
-use Rattle.client.proofs.Client.with_sent.Reads as with-sent-reads
-use Rattle.commands.proofs.send.Reads as send-reads
-use Rattle.contract.proofs.refused.Reads as refused-reads
-use Rattle.sending.proofs.put_bytes.Reads as put-bytes-reads
-use Rattle.contract.proofs.sent.Reads as sent-reads
 
 refused-requires : tie.Need-refused-requires
 refused-requires c κs = omega arith
@@ -34,10 +27,10 @@ returns c =
 
 add-with-sent : tie.Need-add-with-sent
 add-with-sent c =
-    let a = c .before .before .before .before in
-    let t = a .args .t in
-    let p : slots t ≤ slots 8 = pow-mono {i = t + 1} {j = 9} (omega (arith, a .pre .inside .1, a .pre .usable .room .levels)) in
-    omega (arith, a .pre .inside .2)
+    let a = c .before .before .before .before .before in
+    let l = a .args .c .shape .l in
+    let p : slots l ≤ slots 8 = pow-mono {i = l + 1} {j = 9} (omega (arith, a .pre .usable .room .levels)) in
+    omega (arith, a .pre .inside .3)
 
 with-sent-requires : tie.Need-with-sent-requires
 with-sent-requires c κs = omega arith
@@ -49,15 +42,16 @@ put-bytes-requires : tie.Need-put-bytes-requires
 put-bytes-requires c κs =
     let s = c .before .before .before .before .send in
     let d = c .before .before .before .before .before .before .with-sent in
-    let f = c .before .before .before .before .before .before .before in
-    let p = f .before .before .before .before .pre in
-    let h : s .result .shape ≡ f .before .before .before .before .args .c .shape = ap (λ (x : Client). x .shape) (s .ensures .0) ∙ ap (λ (x : Client). x .shape) (d .ensures) in
+    let f = c .before .before .before .before .before .before .before .before in
+    let a = c .before .before .before .before .before .before .before .before .before .before .before .before in
+    let p = a .pre in
+    let h : s .result .shape ≡ a .args .c .shape = ap (λ (x : Client). x .shape) (s .ensures .0) ∙ ap (λ (x : Client). x .shape) (d .ensures) in
     rw h (omega (arith, p .usable .room), p .inside .0, p .inside .1, p .inside .2, omega (arith, f .if1 .left))
 
 sent-requires : tie.Need-sent-requires
 sent-requires c κs = omega arith
 
-sent-length : (c : tie.After-send) → length (c .send .last .1 .0) ≡ length (c .before .before .before .before .before .before .before .args .m .now)
+sent-length : (c : tie.After-send) → length (c .send .last .1 .0) ≡ length (c .before .before .before .before .before .before .before .before .args .m .now)
 sent-length c = omega arith
 
 same-length : tie.Need-same-length
@@ -72,10 +66,9 @@ returns-2 c =
     let o = c .before .before .before .put-bytes in
     let s = c .before .before .before .before .before .before .before .before .send in
     let p = c .before .before .before .before .before .before .before .before .before .before .with-sent in
-    let f = c .before .before .before .before .before .before .before .before .before .before .before in
-    let a = f .before .before .before .before in
+    let a = c .before .before .before .before .before .before .before .before .before .before .before .before .before .before .before .before in
     let r = a .args in
-    rw (c .sent .ensures) (λ tape. write-performs (r .c) (r .m .now) tape (r .buffer .now) (writeNext (r .q) (r .t) (r .i)) (a .pre) (r .q) (r .t) (r .i) refl refl _ _ _ 0 refl (f .if1 .left) refl refl (sent-length (c .before .before .before .before .before .before .before .before))
+    rw (c .sent .ensures) (λ tape. write-performs (r .c) (r .m .now) tape (r .buffer .now) (writeNext (r .q) (r .t) (r .i)) (a .pre) (r .q) (r .t) (r .i) refl refl _ _ _ 0 refl (c .before .before .before .before .before .before .before .before .before .before .before .before .if1 .left) refl refl (sent-length (c .before .before .before .before .before .before .before .before))
     (write-sent (r .c) (p .result) (s .result) (r .m .now) (s .last .1 .0) [] (r .q) (r .t) (r .i) (p .ensures) (s .ensures .0) (s .ensures .1) _) (omega arith) (o .ensures))
 
 pub write-next-spec : {M : Type 1} → statement M

@@ -58,7 +58,7 @@ decide-requires : tie.Need-decide-requires
 decide-requires c κs = let a = c .before .before .before .before .before .before .before .before .before .before .before .args in usable (a .c) (a .m .now) (begun (c .before .before .before))
 
 -- the step that is decided
-decided : (c : tie.After-decide) (x : Step) → stepOf (c .decide .result) ≡ x → Due (c .before .before .before .before .before .before .before .before .before .before .before .before .args .c) (c .before .before .before .before .before .before .before .before .before .before .before .before .args .m .now) x
+decided : (c : tie.After-decide) (x : Step) → stepOf (stateOf (c .before .before .before .before .before .before .before .before .before .before .before .before .args .c) (c .before .before .before .before .before .before .before .before .before .before .before .before .args .m .now)) (c .decide .result) ≡ x → Due (c .before .before .before .before .before .before .before .before .before .before .before .before .args .c) (c .before .before .before .before .before .before .before .before .before .before .before .before .args .m .now) x
 decided c x e =
     let y = begun (c .before .before .before .before) in
     let a = c .before .before .before .before .before .before .before .before .before .before .before .before .args in
@@ -80,32 +80,32 @@ enum-known-step : tie.Need-enum-known-step
 enum-known-step c = omega arith
 
 read-for-request-requires : tie.Need-read-for-request-requires
-read-for-request-requires c κs = decided (c .before .before .before .before) _ (ap stepOf (c .before .before .step .given .1))
+read-for-request-requires c κs = decided (c .before .before .before .before) _ (ap (stepOf _) (c .before .before .step .given .1))
 
 enum-known-step-2 : tie.Need-enum-known-step-2
 enum-known-step-2 c = omega arith
 
 read-for-job-requires : tie.Need-read-for-job-requires
-read-for-job-requires c κs = decided (c .before .before .before .before) _ (ap stepOf (c .before .before .step2 .given .1))
+read-for-job-requires c κs = decided (c .before .before .before .before) _ (ap (stepOf _) (c .before .before .step2 .given .1))
 
 enum-known-step-3 : tie.Need-enum-known-step-3
 enum-known-step-3 c = omega arith
 
 rebuild-requires : tie.Need-rebuild-requires
-rebuild-requires c κs = decided (c .before .before .before .before .before) _ (ap stepOf (c .before .before .before .step3 .given .1))
+rebuild-requires c κs = decided (c .before .before .before .before .before) _ (ap (stepOf _) (c .before .before .before .step3 .given .1))
 
 enum-known-step-4 : tie.Need-enum-known-step-4
 enum-known-step-4 c = omega arith
 
 write-next-requires : tie.Need-write-next-requires
-write-next-requires c κs = decided (c .before .before .before .before .before) _ (ap stepOf (c .before .before .before .step4 .given .1))
+write-next-requires c κs = decided (c .before .before .before .before .before) _ (ap (stepOf _) (c .before .before .before .step4 .given .1))
 
 same-length-3 : tie.Need-same-length-3
 same-length-3 c = omega arith
 
 returns-4 : tie.Need-returns-4
 returns-4 c =
-    let d = decided (c .before .before .before) idle (ap stepOf (c .before .enum-told .given .1)) in
+    let d = decided (c .before .before .before) idle (ap (stepOf _) (c .before .enum-told .given .1)) in
     let a = c .before .before .before .before .before .before .before .before .before .before .before .before .before .before .before .args in
     rw (c .refused4 .ensures) (refuses (a .c) (a .m .now) (a .tape .now) (a .buffer .now) idle d 10 (idle-number (a .c) (a .m .now) (a .tape .now) (a .buffer .now) idle d refl) (λ e. omega arith))
 
@@ -114,7 +114,7 @@ same-length-4 c = omega arith
 
 returns-5 : tie.Need-returns-5
 returns-5 c =
-    let d = decided (c .before .before .before) noDummy (ap stepOf (c .before .enum-told2 .given .1)) in
+    let d = decided (c .before .before .before) noDummy (ap (stepOf _) (c .before .enum-told2 .given .1)) in
     let a = c .before .before .before .before .before .before .before .before .before .before .before .before .before .before .before .args in
     rw (c .refused5 .ensures) (refuses (a .c) (a .m .now) (a .tape .now) (a .buffer .now) noDummy d 2 (lacks-number (a .c) (a .m .now) (a .tape .now) (a .buffer .now) noDummy d refl) (λ e. omega arith))
 
