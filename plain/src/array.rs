@@ -73,22 +73,25 @@ pub fn check_saving(
 }
 
 /// Whether a request for this partition may be looked up: there is no job for
-/// it, or only one, at the front, that is not writing yet, and above its
-/// sources each filled level has fewer than 2^l slots read.
+/// it, or only one, or those that run together, at the front and not writing
+/// yet, and above the levels that they change each filled one has fewer than
+/// 2^l slots read.
 fn looks_up(state: &State, p: usize) -> bool {
-    let jobs = (0..state.queue.len()).filter(|at| state.queue[*at] == p);
-    match jobs.collect::<Vec<usize>>()[..] {
-        [] => true,
-        [0] if state.writing.is_none() => {
-            let lowest_empty = (state.counter[p] as u32).trailing_ones() as usize;
-            let above = lowest_empty..state.shape.levels;
-            let marks = |level: usize| state.levels[p][level].read.iter();
-            above
-                .filter(|level| state.counter[p] & 1 << level != 0)
-                .all(|level| marks(level).filter(|read| **read).count() < 1 << level)
-        }
-        _ => false,
+    let jobs: Vec<usize> = (0..state.queue.len())
+        .filter(|at| state.queue[*at] == p)
+        .collect();
+    let Some(first) = jobs.first() else {
+        return true;
+    };
+    let together = state.begun.max(1);
+    if *first > 0 || state.writing.is_some() || jobs.len() > together {
+        return false;
     }
+    let (before, after) = (state.counter[p], state.counter[p] + together);
+    let kept = |level: &usize| before >> level == after >> level && before & 1 << level != 0;
+    let marks = |level: usize| state.levels[p][level].read.iter();
+    { (0..state.shape.levels).filter(kept) }
+        .all(|level| marks(level).filter(|read| **read).count() < 1 << level)
 }
 
 /// Where a block is by the tables of its partition's levels.
@@ -189,8 +192,8 @@ impl Check {
     }
 
     fn turn(&mut self) -> Result<u8, String> {
-        // More than twice the draws of the largest order: 3 never comes.
-        let outcome = self.make(Ask::Turn, 2 << self.shape.levels)?;
+        // About twice the draws of all orders of a run: 3 never comes.
+        let outcome = self.make(Ask::Turn, 4 << self.shape.levels)?;
         if outcome.number == 0 {
             self.host.send(outcome.command, outcome.bytes);
         }

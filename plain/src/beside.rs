@@ -24,25 +24,37 @@ impl Level {
 }
 
 impl State {
-    /// Whether the front job is for this partition and has its order still to
+    /// Whether the front job is for this partition and has its orders still to
     /// draw.
     pub fn is_undrawn(&self, partition: usize) -> bool {
         self.queue.front() == Some(&partition) && self.writing.is_none()
     }
 
     /// Whether the front job reads this level of this partition. A request
-    /// that is not held finds the job's order undrawn.
+    /// that is not held finds the job's orders undrawn.
     pub fn is_source(&self, partition: usize, level: usize) -> bool {
-        self.queue.front() == Some(&partition) && level < self.sources(partition)
+        self.queue.front() == Some(&partition) && self.source_levels(partition).contains(&level)
+    }
+
+    /// How many jobs for this partition are one job: "The run counts as one job
+    /// for look-ups during a rebuild".
+    fn one_job(&self, partition: usize) -> usize {
+        let at_front = self.queue.front() == Some(&partition);
+        match self.mistake {
+            Mistake::RunHolds => 1,
+            _ if at_front => self.begun.max(1),
+            _ => 1,
+        }
     }
 
     /// What holds a request for this partition: a job for it, unless it is the
     /// only one, at the front and undrawn, and the levels that it does not
     /// read have a dummy to spare.
     pub fn holds(&self, partition: usize) -> bool {
-        let jobs = self.queue.iter().filter(|q| **q == partition).count();
+        let jobs = self.jobs(partition);
         let at_front = self.queue.front() == Some(&partition);
-        let (only, undrawn) = (jobs == 1, self.is_undrawn(partition));
+        let only = jobs <= self.one_job(partition);
+        let undrawn = self.is_undrawn(partition);
         let passes = match self.mistake {
             Mistake::ReleasedAtOnce => return false,
             Mistake::HeldByEveryJob => false,

@@ -247,12 +247,12 @@ impl State {
             request.awaits.retain(|awaited| *awaited != command);
         }
         let q = command.partition;
-        let level = &self.levels[q][command.level];
         if reads {
+            let level = &self.levels[q][command.level];
             if let Some(block) = level.block_at[command.slot] {
                 self.contents[block] = bytes.to_vec();
             }
-        } else if self.writing == Some(level.slots()) && !self.busy(q) {
+        } else if self.writing == Some(self.writes(q).count()) && !self.busy(q) {
             self.end_job();
         }
         Ok(())

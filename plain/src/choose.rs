@@ -20,6 +20,8 @@ pub enum Kind {
     Any,
     /// Requests are to be made while their partition is rebuilt.
     Beside,
+    /// Jobs of one partition are to run together.
+    Together,
     /// The store is to be saved and loaded.
     Saving,
 }
@@ -77,6 +79,7 @@ impl Group {
         let script = match self.kind {
             Kind::Any => Script::new(*shape, *second, seed, *length),
             Kind::Beside => Script::beside(*shape, seed, *length),
+            Kind::Together => Script::together(*shape, seed, *length),
             Kind::Saving => Script::saving(*shape, forms, seed, *length),
         };
         Session::new(*shape, script, &self.mistakes)

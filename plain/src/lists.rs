@@ -7,10 +7,12 @@
 mod made;
 mod rebuilt;
 mod reloaded;
+mod together;
 
 pub use made::{drawn_again, layered, lent_again, two_stored};
 pub use rebuilt::{above_sources, source_read, source_spent, source_unread};
 pub use reloaded::{reloaded_marks, reloaded_queue, reloading};
+pub use together::{released_by_run, several_levels, waiting_or_not};
 
 use crate::calls::{Ask, Call, Store};
 use crate::mistakes::Mistake;

@@ -148,12 +148,12 @@ pub struct Tape {
     at: usize,
 }
 
-/// The words made at a time, and those that each call is lent: the 255 draws
-/// of the largest order, and more to be passed over than ever are. So many
-/// zeros stand behind the words that are made, so that as many of these are
-/// drawn from as if none were passed over.
+/// The words made at a time, and those that each call is lent: the 502 draws
+/// of the orders of all levels, and more to be passed over than ever are. So
+/// many zeros stand behind the words that are made, so that as many of these
+/// are drawn from as if none were passed over.
 const TAPE: usize = 1 << 12;
-const DRAWS: usize = 255;
+const DRAWS: usize = 502;
 const SPARE: usize = 65;
 /// The places that an answer tells: nowhere, the cache and eight levels.
 const PLACES: usize = 10;

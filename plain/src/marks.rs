@@ -1,5 +1,6 @@
 //! What may occur in a session: numbers, where blocks are found, which words
-//! draws pass over, look-ups while a partition is rebuilt, and saves and loads.
+//! draws pass over, look-ups while a partition is rebuilt, jobs that run
+//! together, and saves and loads.
 
 use crate::calls::{Ask, Call, Outcome, Store};
 use crate::draws::{WIDTH, limit};
@@ -24,7 +25,7 @@ pub enum Mark {
     LastWord,
     /// A turn lent as many words as it makes draws, or more, was answered 3.
     Unsettled,
-    /// A look-up while a partition is rebuilt.
+    /// A look-up while a partition is rebuilt, or jobs that run together.
     Met(Situation),
     /// A save or a load.
     Saved(Saved),

@@ -104,6 +104,40 @@ pub enum Mistake {
     JobStandsStill,
     /// A block whose slot the job has read is told to be in the cache.
     ReadCountsAsCache,
+    /// Each job runs alone, as before jobs of one partition ran together.
+    JobsNotJoined,
+    /// Jobs are joined only if a block waits for their partition.
+    JoinsIfWaiting,
+    /// Only those jobs are joined that stand right behind the front one.
+    JoinsNeighbours,
+    /// Jobs that are queued after the front one has begun are joined until it
+    /// draws.
+    JoinsUntilDrawn,
+    /// The jobs of a run may be 2^L − counter, and the counter then falls as a
+    /// full one does.
+    CutLater,
+    /// The job of a full partition takes others with it.
+    FullJoins,
+    /// The jobs that a run takes with it hold requests.
+    RunHolds,
+    /// The sources of a run end below the lowest empty level.
+    SourcesFromBelow,
+    /// A run takes one waiting block.
+    TakesOne,
+    /// A run takes as many blocks as it has jobs if there is room for one.
+    RoomAskedOnce,
+    /// A run writes its lowest level first, in all respects.
+    LowestLevelFirst,
+    /// The order of the lowest level is drawn first.
+    LowestDrawnFirst,
+    /// Blocks go into the lowest level first.
+    LowestFilledFirst,
+    /// All levels of a run are ordered by the numbers drawn for the first; the
+    /// others take their words and ignore them.
+    OrderShared,
+    /// The counter grows by all jobs of a run, but only the front one leaves
+    /// the queue.
+    OnlyFrontLeaves,
     /// A block's sum leaves out the block's number.
     SumWithoutNumber,
     /// A mark is 1 for a slot that has not been read.
@@ -147,11 +181,12 @@ pub enum Mistake {
 }
 
 impl Mistake {
-    pub const ALL: [Mistake; 73] = joined(&[
+    pub const ALL: [Mistake; 88] = joined(&[
         &Mistake::BASE,
         &Mistake::FOUND,
         &Mistake::DRAWS,
         &Mistake::BESIDE,
+        &Mistake::TOGETHER,
         &Mistake::SAVED,
     ]);
 
@@ -230,6 +265,25 @@ impl Mistake {
         Mistake::DrawsWithRequest,
         Mistake::JobStandsStill,
         Mistake::ReadCountsAsCache,
+    ];
+
+    /// Those in jobs of one partition together (document 02, P7).
+    pub const TOGETHER: [Mistake; 15] = [
+        Mistake::JobsNotJoined,
+        Mistake::JoinsIfWaiting,
+        Mistake::JoinsNeighbours,
+        Mistake::JoinsUntilDrawn,
+        Mistake::CutLater,
+        Mistake::FullJoins,
+        Mistake::RunHolds,
+        Mistake::SourcesFromBelow,
+        Mistake::TakesOne,
+        Mistake::RoomAskedOnce,
+        Mistake::LowestLevelFirst,
+        Mistake::LowestDrawnFirst,
+        Mistake::LowestFilledFirst,
+        Mistake::OrderShared,
+        Mistake::OnlyFrontLeaves,
     ];
 
     /// Those in saving the client (document 02, P5). No session saves.

@@ -110,7 +110,12 @@ impl Maker {
 
     fn small(&mut self) -> Shape {
         let (p, l) = (1 << self.rng.below(3), 1 + self.rng.below(3));
-        let n = 1 + self.rng.below((p << (l - 1)).min(8));
+        let most = (p << (l - 1)).min(8);
+        // With as many blocks as may be, partitions are full now and then.
+        let n = match self.rng.chance(40) {
+            true => most,
+            false => 1 + self.rng.below(most),
+        };
         let (b, w) = (1 + self.rng.below(4), 1 + self.rng.below(3));
         Shape::new(n, p, l, b, 1 + self.rng.below(n), w)
     }

@@ -37,13 +37,26 @@ pub fn level_of(state: &State, block: usize) -> Option<usize> {
     }
 }
 
-/// ReadPartition, 2): the condition of a level. The sources of a job are the
-/// levels below the lowest empty one, or all.
-pub fn condition(state: &State, partition: usize, level: usize) -> Condition {
+/// Whether the front job shuffles the levels up to this one: the counter ends
+/// with other bits from there on once its jobs have run (document 02, P7), or
+/// all levels are filled.
+fn is_shuffled(state: &State, partition: usize, level: usize) -> bool {
     let counter = state.counter[partition];
-    let filled = counter & 1 << level != 0;
-    let shuffled = state.queue.front() == Some(&partition);
-    let marked = shuffled && level < counter.trailing_ones() as usize;
+    let left = (1 << state.shape.levels) - 1 - counter;
+    let queued = state.queue.iter().filter(|q| **q == partition);
+    let jobs = match state.begun {
+        0 => left.min(queued.count()),
+        begun => begun,
+    };
+    let at_front = state.queue.front() == Some(&partition);
+    at_front && (left == 0 || (counter + jobs) >> level != counter >> level)
+}
+
+/// ReadPartition, 2): the condition of a level. The sources of a job are the
+/// filled levels that it shuffles.
+pub fn condition(state: &State, partition: usize, level: usize) -> Condition {
+    let filled = state.counter[partition] & 1 << level != 0;
+    let marked = is_shuffled(state, partition, level);
     let unread = state.levels[partition][level].read.contains(&false);
     match (filled, marked, unread) {
         (false, _, _) => Condition::Empty,

@@ -162,7 +162,7 @@ impl Watch {
     /// Notes by what the front job begins.
     fn begin(&mut self, before: Option<&State>, call: &Call, outcome: &Outcome) {
         let step = before.and_then(State::step);
-        let begins = before.is_some_and(|state| !state.begun);
+        let begins = before.is_some_and(|state| state.begun == 0);
         if begins && call.ask == Ask::Turn && outcome.number == 0 {
             self.by_request = matches!(step, Some(Step::RequestRead(_)));
         }
@@ -186,7 +186,7 @@ impl Watch {
     /// The reason of a 16.
     fn reason(&self, state: &State) -> Option<Saved> {
         let outstanding = !state.outstanding.is_empty();
-        match (state.request.is_some(), outstanding, state.begun) {
+        match (state.request.is_some(), outstanding, state.begun > 0) {
             (true, false, false) => Some(Saved::InHand),
             (_, true, _) => Some(Saved::Outstanding),
             (false, false, true) if self.by_request => Some(Saved::BegunByRequest),

@@ -51,14 +51,14 @@ impl Store {
 impl State {
     /// Whether no request is in hand, no command outstanding and no job begun.
     pub fn is_at_rest(&self) -> bool {
-        self.request.is_none() && self.outstanding.is_empty() && !self.begun
+        self.request.is_none() && self.outstanding.is_empty() && self.begun == 0
     }
 
     fn may_be_saved(&self) -> bool {
         let idle = self.outstanding.is_empty();
         match self.mistake {
-            Mistake::SavesInHand if self.request.is_some() => idle && !self.begun,
-            Mistake::SavesBegun if self.begun => idle && self.request.is_none(),
+            Mistake::SavesInHand if self.request.is_some() => idle && self.begun == 0,
+            Mistake::SavesBegun if self.begun > 0 => idle && self.request.is_none(),
             Mistake::SavesOutstanding if !idle => true,
             _ => self.is_at_rest(),
         }

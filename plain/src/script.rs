@@ -23,6 +23,8 @@ pub struct Script {
     /// If requests are mostly made while their partition is rebuilt, how much
     /// one counts that comes before the rebuild is under way.
     beside: Option<usize>,
+    /// How many jobs are mostly left alone, so that some of them run together.
+    hoards: usize,
     /// Whether the store is saved and loaded, too.
     saves: bool,
     /// The last form that was saved.
@@ -66,6 +68,18 @@ impl Script {
         Script::steered(shape, seed, length, 0)
     }
 
+    /// A session of so many calls in which jobs of one partition run together,
+    /// with look-ups beside them.
+    pub fn together(shape: Shape, seed: u64, length: usize) -> Script {
+        let mut script = Script::fresh(shape, seed);
+        script.hoards = 3 + seed as usize % 8;
+        script.open(false);
+        while script.calls.len() < length {
+            script.step();
+        }
+        script
+    }
+
     fn steered(shape: Shape, seed: u64, length: usize, early: usize) -> Script {
         let mut script = Script::fresh(shape, seed);
         script.beside = Some(early);
@@ -84,6 +98,7 @@ impl Script {
             host: Host::default(),
             recent: 0,
             beside: None,
+            hoards: 0,
             saves: false,
             last: None,
             calls: Vec::new(),
@@ -193,6 +208,7 @@ impl Script {
             _ => 5,
         };
         let turns = match sends {
+            true if self.leaves_alone(state) => 1,
             true => 5,
             false if self.beside.is_some() && state.is_beside() => 1,
             false => 0,
@@ -211,11 +227,19 @@ impl Script {
         }
     }
 
+    /// Whether the front job is left alone for more to be queued, unless a
+    /// request waits for it.
+    fn leaves_alone(&self, state: &State) -> bool {
+        let held = state.request.as_ref().is_some_and(|r| r.is_held());
+        state.begun == 0 && !held && state.queue.len() < self.hoards
+    }
+
     fn request(&mut self) {
-        let rebuilt = self.rebuilt();
-        let block = match self.rng.chance(35) {
+        let liked = self.liked();
+        let again = if self.hoards > 0 { 5 } else { 35 };
+        let block = match self.rng.chance(again) {
             true => self.recent.min(self.shape.blocks - 1),
-            false if !rebuilt.is_empty() => rebuilt[self.rng.below(rebuilt.len())],
+            false if !liked.is_empty() => liked[self.rng.below(liked.len())],
             false => self.rng.below(self.shape.blocks),
         };
         let more = self.rng.below(2);
@@ -223,11 +247,14 @@ impl Script {
         self.make(ask, 2 + more, 0);
     }
 
-    /// The blocks of the partition that is rebuilt, if requests are to be made
-    /// for these.
-    fn rebuilt(&self) -> Vec<usize> {
-        let state = self.store.state.as_ref().filter(|_| self.beside.is_some());
-        state.map_or(Vec::new(), State::rebuilt)
+    /// The blocks for which requests are to be made, if it matters: those of
+    /// the partition that is rebuilt, or those that no job would hold.
+    fn liked(&self) -> Vec<usize> {
+        match &self.store.state {
+            Some(state) if self.beside.is_some() => state.rebuilt(),
+            Some(state) if self.hoards > 0 => state.unheld(),
+            _ => Vec::new(),
+        }
     }
 
     fn ask_for(&mut self, block: usize) -> Ask {

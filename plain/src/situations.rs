@@ -1,5 +1,10 @@
-//! What may be met in look-ups while a partition is rebuilt (document 02, P4),
-//! so that sessions, tests and tapes can say that they have it.
+//! What may be met in look-ups while a partition is rebuilt (document 02, P4)
+//! and when jobs of one partition run together (P7), so that sessions, tests
+//! and tapes can say that they have it.
+
+mod together;
+
+pub use together::Before;
 
 use crate::calls::{Ask, Call, Outcome, Store};
 use crate::joined::joined;
@@ -43,10 +48,63 @@ pub enum Situation {
     CollectedFirst,
     /// The job chooses the collected block from the cache.
     ChosenAgain,
+    /// A run of two jobs begins, or one of more.
+    Two,
+    Three,
+    /// Other jobs stand between those of the run.
+    Apart,
+    /// More jobs are queued than bring the counter to 2^L − 1.
+    Cut,
+    /// All levels are filled, and the job begins alone though others are
+    /// queued.
+    Alone,
+    /// A run of several jobs draws. It writes several levels, or stores blocks
+    /// in several.
+    SeveralWritten,
+    SeveralStored,
+    /// It has a source above a level that is not filled.
+    SourceAbove,
+    /// It takes several waiting blocks, or fewer than its jobs as there is no
+    /// room for more that wait.
+    SeveralTaken,
+    RoomEnds,
+    /// It ends, and a job of its partition that was queued later stays.
+    LeftBehind,
+    /// A held request is released as the run begins.
+    ReleasedByRun,
+    /// A request is released beside a run that has begun, and is collected
+    /// while it reads.
+    BesideRun,
+    CollectedBesideRun,
+    /// The run begins with its draw, so the request that its jobs hold stays
+    /// held.
+    HeldByDraw,
 }
 
 impl Situation {
-    pub const ALL: [Situation; 17] = joined(&[&Situation::AT_RELEASE, &Situation::OTHER]);
+    pub const ALL: [Situation; 32] = joined(&[&Situation::BESIDE, &Situation::TOGETHER]);
+
+    /// In look-ups while a partition is rebuilt.
+    pub const BESIDE: [Situation; 17] = joined(&[&Situation::AT_RELEASE, &Situation::OTHER]);
+
+    /// When jobs run together.
+    pub const TOGETHER: [Situation; 15] = [
+        Situation::Two,
+        Situation::Three,
+        Situation::Apart,
+        Situation::Cut,
+        Situation::Alone,
+        Situation::SeveralWritten,
+        Situation::SeveralStored,
+        Situation::SourceAbove,
+        Situation::SeveralTaken,
+        Situation::RoomEnds,
+        Situation::LeftBehind,
+        Situation::ReleasedByRun,
+        Situation::BesideRun,
+        Situation::CollectedBesideRun,
+        Situation::HeldByDraw,
+    ];
 
     /// At the release beside an undrawn job.
     pub const AT_RELEASE: [Situation; 8] = [
@@ -94,10 +152,18 @@ impl State {
             .collect()
     }
 
+    /// The blocks for which a request would not be held.
+    pub fn unheld(&self) -> Vec<usize> {
+        let all = 0..self.shape.blocks;
+        all.filter(|block| !self.holds(self.partition[*block]))
+            .collect()
+    }
+
     /// Whether a request for that partition would not be held, and the job has
     /// begun or reads nothing: then most is to be met.
     pub fn is_ripe(&self) -> bool {
-        let ripe = |q: &usize| (self.begun || self.sources(*q) == 0) && !self.holds(*q);
+        let starts = |q: &usize| self.begun > 0 || self.source_levels(*q).is_empty();
+        let ripe = |q: &usize| starts(q) && !self.holds(*q);
         self.queue.front().is_some_and(ripe)
     }
 
@@ -108,17 +174,20 @@ impl State {
             return Vec::new();
         };
         let mut met = vec![self.own_situation(request.block)];
-        let sources = &self.levels[q][..self.sources(q)];
-        if sources.iter().any(|level| level.is_spent()) {
+        let (sources, tables) = (self.source_levels(q), &self.levels[q]);
+        if sources.iter().any(|level| tables[*level].is_spent()) {
             met.push(Situation::SpentSource);
         }
-        let reads_other = |level: usize| {
-            let slot = self.slot_to_read(request.block, level);
-            let read = slot.and_then(|slot| sources[level].block_at[slot]);
+        let reads_other = |level: &usize| {
+            let slot = self.slot_to_read(request.block, *level);
+            let read = slot.and_then(|slot| tables[*level].block_at[slot]);
             read.is_some_and(|block| block != request.block)
         };
-        if (0..sources.len()).any(reads_other) {
+        if sources.iter().any(reads_other) {
             met.push(Situation::OtherBlock);
+        }
+        if self.begun > 1 {
+            met.push(Situation::BesideRun);
         }
         met
     }
@@ -188,6 +257,8 @@ impl Watch {
 
     fn accepted(&mut self, before: &State, call: &Call, after: &State) {
         let released = |s: &State| s.request.as_ref().is_some_and(|r| !r.is_held());
+        let look = Before::look(before, &call.ask);
+        self.met.extend(look.met(&call.ask, after));
         match call.ask {
             Ask::Request { block, .. } => self.request(after, block),
             Ask::Turn => self.turn(before, after),
@@ -211,8 +282,8 @@ impl Watch {
 
     fn request(&mut self, after: &State, block: usize) {
         let p = after.partition[block];
-        let jobs = after.queue.iter().filter(|q| **q == p).count();
-        if after.is_undrawn(p) && jobs > 1 {
+        let held = after.request.as_ref().is_some_and(|r| r.is_held());
+        if held && after.is_undrawn(p) && after.jobs(p) > 1 {
             self.met.push(Situation::HeldByTwo);
         }
     }
@@ -233,7 +304,7 @@ impl Watch {
             }
             (Some(Step::FirstWrite), _, _) => {
                 let chosen = before.chosen(before.queue[0]);
-                if chosen.is_some() && chosen == self.collected {
+                if self.collected.is_some_and(|block| chosen.contains(&block)) {
                     self.met.push(Situation::ChosenAgain);
                 }
             }
@@ -242,7 +313,7 @@ impl Watch {
     }
 
     fn begins(&mut self, before: &State, after: &State) {
-        if after.begun && !before.begun {
+        if after.begun > 0 && before.begun == 0 {
             self.met.push(Situation::BeginsJob);
         }
     }

@@ -120,11 +120,12 @@ pub struct State {
     /// By partition, then by level.
     pub levels: Vec<Vec<Level>>,
     pub queue: VecDeque<usize>,
-    /// Whether a command of the front job has been sent. A request's read of a
-    /// slot that the job would read is one.
-    pub begun: bool,
+    /// How many jobs the front one runs for, itself among them, or 0 until one
+    /// of its commands is sent. A request's read of a slot that it would read
+    /// is one.
+    pub begun: usize,
     pub request: Option<Request>,
-    /// The next slot the front job writes, once it has drawn its order.
+    /// How many writes the front job has sent, once it has drawn its orders.
     pub writing: Option<usize>,
     pub outstanding: Vec<Command>,
     /// The age number of the next block that enters the cache.
@@ -138,10 +139,11 @@ pub enum Step {
     RequestRead(usize),
     /// The front job's read of a level's slot.
     JobRead(usize, usize),
-    /// The front job chooses a block, draws an order and writes slot 0.
+    /// The front job chooses blocks, draws its orders and sends its first
+    /// write.
     FirstWrite,
-    /// The front job's write of this slot.
-    Write(usize),
+    /// The front job's write of a level's slot.
+    Write(usize, usize),
 }
 
 impl State {
@@ -155,7 +157,7 @@ impl State {
             counter: vec![0; shape.partitions],
             levels: vec![(0..shape.levels).map(Level::empty).collect(); shape.partitions],
             queue: VecDeque::new(),
-            begun: false,
+            begun: 0,
             request: None,
             writing: None,
             outstanding: Vec::new(),
@@ -165,18 +167,6 @@ impl State {
 
     pub fn filled(&self, partition: usize, level: usize) -> bool {
         self.counter[partition] >> level & 1 == 1
-    }
-
-    /// The level a rebuild writes: the lowest empty one, or the last one.
-    pub fn target(&self, partition: usize) -> usize {
-        let empty = (!self.counter[partition]).trailing_zeros() as usize;
-        empty.min(self.shape.levels - 1)
-    }
-
-    /// How many levels, from 0 on, a rebuild reads: the trailing ones of the
-    /// counter. These include the target only if all levels are filled.
-    pub fn sources(&self, partition: usize) -> usize {
-        (!self.counter[partition]).trailing_zeros() as usize
     }
 
     pub fn is_waiting(&self, block: usize) -> bool {
@@ -233,49 +223,21 @@ impl State {
             return Some(Step::RequestRead(level));
         }
         let q = *self.queue.front()?;
-        if let Some(slot) = self.writing {
-            let slots = self.levels[q][self.target(q)].slots();
-            return (slot < slots).then_some(Step::Write(slot));
+        if let Some(sent) = self.writing {
+            let next = self.writes(q).nth(sent);
+            return next.map(|(level, slot)| Step::Write(level, slot));
         }
         let in_hand = self.released_for(q).is_some();
         if in_hand && self.mistake == Mistake::JobStandsStill {
             return None;
         }
-        for level in 0..self.sources(q) {
+        for level in self.source_levels(q) {
             if let Some(slot) = self.levels[q][level].read.iter().position(|read| !read) {
                 return Some(Step::JobRead(level, slot));
             }
         }
-        // The order is drawn only after the request is collected.
+        // Orders are drawn only after the request is collected.
         let waits = in_hand && self.mistake != Mistake::DrawsWithRequest;
         (!waits && !self.busy(q)).then_some(Step::FirstWrite)
-    }
-
-    /// The blocks a partition's levels name, below a level.
-    pub fn stored(&self, partition: usize, below: usize) -> impl Iterator<Item = usize> {
-        let levels = &self.levels[partition][..below];
-        levels
-            .iter()
-            .flat_map(|l| l.block_at.iter().flatten().copied())
-    }
-
-    /// The waiting block the front job takes: the one that has waited longest
-    /// for q, if q has room.
-    pub fn chosen(&self, q: usize) -> Option<usize> {
-        let counted = match self.mistake {
-            Mistake::OnlySourcesCounted => self.sources(q),
-            _ => self.shape.levels,
-        };
-        let room = self.stored(q, counted).count() < self.shape.capacity();
-        if !room && self.mistake != Mistake::FullPartitionTakesBlock {
-            return None;
-        }
-        (0..self.shape.blocks)
-            .filter_map(|b| match self.place[b] {
-                Place::Waiting(age) if self.partition[b] == q => Some((age, b)),
-                _ => None,
-            })
-            .min()
-            .map(|(_, b)| b)
     }
 }

@@ -10,26 +10,27 @@ use crate::state::{State, Step};
 /// The level and slot of each read of one request.
 pub type Reads = Vec<(usize, usize)>;
 
-/// Those of each release in turn, or nothing if a released request is not
-/// collected.
+/// Those of each release in turn, or nothing if a released request has a read
+/// that is never sent.
 pub fn reads(calls: &[Call]) -> Option<Vec<Reads>> {
     let mut store = Store::new(Mistake::None);
     let mut all: Vec<Reads> = Vec::new();
-    let mut collected = 0;
     for call in calls {
         let released = is_released(&store);
         let step = store.state.as_ref().and_then(State::step);
+        let due = matches!(step, Some(Step::RequestRead(_)));
         let outcome = store.call(call);
-        match (&call.ask, outcome.number, step, all.last_mut()) {
-            (Ask::Turn, 0, Some(Step::RequestRead(_)), Some(reads)) => {
+        match (&call.ask, outcome.number, all.last_mut()) {
+            (Ask::Turn, 0, Some(reads)) if due => {
                 reads.push((outcome.command.level, outcome.command.slot));
             }
-            (Ask::Collect, 0, _, _) => collected += 1,
+            (Ask::Open(_) | Ask::Load(_) | Ask::Reload, _, _) if due => return None,
             _ => {}
         }
         if is_released(&store) && !released {
             all.push(Reads::new());
         }
     }
-    (collected == all.len()).then_some(all)
+    let left = store.state.as_ref().and_then(State::request_read);
+    left.is_none().then_some(all)
 }

@@ -33,7 +33,7 @@ pub struct Transcripts {
     /// words as it makes draws.
     pub unsettled: bool,
     /// What was met with some tape when a request was released while its
-    /// partition is rebuilt.
+    /// partition is rebuilt, and when jobs ran together.
     pub met: BTreeSet<Situation>,
     /// Whether with some tape such a request was collected.
     pub collected: bool,

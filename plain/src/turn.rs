@@ -1,4 +1,4 @@
-//! The turn: a request's reads, and the reads, the order and the writes of a
+//! The turn: a request's reads, and the reads, the orders and the writes of a
 //! rebuild.
 
 use crate::calls::{Draws, ask};
@@ -17,10 +17,20 @@ pub fn order_bounds(n: usize, mistake: Mistake) -> impl Iterator<Item = usize> {
 /// An order of n slots: the slot of each item. The words lent have to settle
 /// its draws.
 pub fn order(n: usize, mistake: Mistake, draws: &mut Draws) -> Vec<usize> {
+    ordered(&order_numbers(n, mistake, draws))
+}
+
+fn order_numbers(n: usize, mistake: Mistake, draws: &mut Draws) -> Vec<usize> {
+    let bounds = order_bounds(n, mistake);
+    bounds.map(|bound| draws.below(bound)).collect()
+}
+
+/// The order of as many slots as need these numbers.
+fn ordered(drawn: &[usize]) -> Vec<usize> {
+    let n = drawn.len() + 1;
     let mut slot_of: Vec<usize> = (0..n).collect();
-    for (i, bound) in (1..n).rev().zip(order_bounds(n, mistake)) {
-        let j = draws.below(bound);
-        slot_of.swap(i, j);
+    for (i, j) in (1..n).rev().zip(drawn) {
+        slot_of.swap(i, *j);
     }
     slot_of
 }
@@ -31,32 +41,42 @@ impl State {
         if self.step() != Some(Step::FirstWrite) {
             return Vec::new();
         }
-        let q = self.queue[0];
-        let old = &self.levels[q][self.target(q)];
-        if self.mistake == Mistake::OrderNotTaken && old.drawn {
-            return Vec::new();
+        let levels = self.drawn_levels(self.queue[0]).into_iter();
+        let orders = levels.map(|level| order_bounds(2 << level, self.mistake));
+        orders.flatten().collect()
+    }
+
+    /// The levels whose orders the front job draws, in turn: "each with its own
+    /// order, all drawn, highest first, in the turn of the first write".
+    fn drawn_levels(&self, q: usize) -> Vec<usize> {
+        let mut levels = self.written_levels(q);
+        match self.mistake {
+            Mistake::LowestDrawnFirst => levels.reverse(),
+            Mistake::OrderNotTaken => levels.retain(|level| !self.levels[q][*level].drawn),
+            _ => {}
         }
-        order_bounds(old.slots(), self.mistake).collect()
+        levels
     }
 
     /// The command sent, and the bytes of a write.
     pub fn turn(&mut self, buffer: usize, draws: &mut Draws) -> Result<(Command, Vec<u8>), u8> {
         ask(self.outstanding.len() < self.shape.window, 9)?;
         let step = self.step().ok_or(10)?;
-        let writes = matches!(step, Step::FirstWrite | Step::Write(_));
+        let writes = matches!(step, Step::FirstWrite | Step::Write(..));
         ask(!writes || buffer == self.shape.bytes, 15)?;
         match step {
             Step::RequestRead(level) => self.send_request_read(level),
             Step::JobRead(level, slot) => {
-                self.begun = true;
-                Ok(self.send_read(self.queue[0], level, slot))
+                let q = self.queue[0];
+                self.begin(q);
+                Ok(self.send_read(q, level, slot))
             }
             Step::FirstWrite => {
                 ask(draws.settle(self.turn_bounds()), 3)?;
-                self.rebuild(draws)?;
-                Ok(self.send_write(0))
+                let (level, slot) = self.rebuild(draws)?;
+                Ok(self.send_write(level, slot))
             }
-            Step::Write(slot) => Ok(self.send_write(slot)),
+            Step::Write(level, slot) => Ok(self.send_write(level, slot)),
         }
     }
 
@@ -72,7 +92,9 @@ impl State {
         if of_job && self.mistake == Mistake::SourceReadUnmarked {
             self.levels[p][level].read[slot] = was_read;
         }
-        self.begun |= of_job && self.mistake != Mistake::SharedReadBeginsNothing;
+        if of_job && self.mistake != Mistake::SharedReadBeginsNothing {
+            self.begin(p);
+        }
         let request = self.request.as_mut().ok_or(2)?;
         request.level = level + 1;
         request.awaits.push(sent.0);
@@ -91,9 +113,8 @@ impl State {
         (command, Vec::new())
     }
 
-    fn send_write(&mut self, slot: usize) -> (Command, Vec<u8>) {
+    fn send_write(&mut self, level: usize, slot: usize) -> (Command, Vec<u8>) {
         let partition = self.queue[0];
-        let level = self.target(partition);
         // What is written is the host's to keep.
         let zeros = vec![0; self.shape.bytes];
         let bytes = match self.levels[partition][level].block_at[slot] {
@@ -106,66 +127,69 @@ impl State {
             level,
             slot,
         };
-        self.begun = true;
-        self.writing = Some(slot + 1);
+        self.writing = Some(self.writing.unwrap_or(0) + 1);
         self.outstanding.push(command);
         (command, bytes)
     }
 
-    /// Gathers the source levels' blocks and the chosen waiting block, draws
-    /// the target's order and gives the blocks their new place.
-    fn rebuild(&mut self, draws: &mut Draws) -> Result<(), u8> {
+    /// Gathers the source levels' blocks and the chosen waiting ones, draws the
+    /// orders of the levels to be written and gives the blocks their new place.
+    /// Hands back the level and the slot of the first write.
+    fn rebuild(&mut self, draws: &mut Draws) -> Result<(usize, usize), u8> {
         let q = self.queue[0];
-        let (target, sources) = (self.target(q), self.sources(q));
-        let mut gathered: Vec<usize> = self.stored(q, sources).chain(self.chosen(q)).collect();
+        let (sources, written) = (self.source_levels(q), self.written_levels(q));
+        let mut gathered = [self.sourced(q), self.chosen(q)].concat();
         gathered.sort();
         gathered.dedup();
-        ask(gathered.len() <= 1 << target, 2)?;
-        let slot_of = self.new_order(q, target, draws);
+        let room: usize = written.iter().map(|level| 1 << level).sum();
+        ask(gathered.len() <= room, 2)?;
+        let first = self.writes(q).next().ok_or(2)?;
+        self.draw_orders(q, draws);
+        self.begin(q);
         if self.mistake != Mistake::SourcesKept {
-            for level in &mut self.levels[q][..sources] {
-                level.block_at.fill(None);
+            for level in sources {
+                self.levels[q][level].block_at.fill(None);
             }
         }
-        let level = &mut self.levels[q][target];
-        level.drawn = true;
-        level.read.fill(false);
-        level.block_at.fill(None);
-        for (item, block) in gathered.into_iter().enumerate() {
-            level.block_at[slot_of[item]] = Some(block);
-            self.place[block] = Place::Stored {
-                level: target,
-                item,
-            };
-        }
-        level.slot_of = slot_of;
-        Ok(())
+        self.place(q, &written, gathered);
+        Ok(first)
     }
 
-    fn new_order(&self, q: usize, target: usize, draws: &mut Draws) -> Vec<usize> {
-        let old = &self.levels[q][target];
-        match self.mistake {
-            Mistake::OrderNotTaken if old.drawn => old.slot_of.clone(),
-            Mistake::OrderDrawnOnce if old.drawn => {
-                order(old.slots(), self.mistake, draws);
-                old.slot_of.clone()
+    fn draw_orders(&mut self, q: usize, draws: &mut Draws) {
+        let mut first = Vec::new();
+        for level in self.drawn_levels(q) {
+            let mut drawn = order_numbers(2 << level, self.mistake, draws);
+            if self.mistake == Mistake::OrderShared && !first.is_empty() {
+                // Those of the first order that are below the same bounds.
+                drawn = first[first.len() - drawn.len()..].to_vec();
             }
-            _ => order(old.slots(), self.mistake, draws),
+            let table = &mut self.levels[q][level];
+            if self.mistake != Mistake::OrderDrawnOnce || !table.drawn {
+                table.slot_of = ordered(&drawn);
+            }
+            if first.is_empty() {
+                first = drawn;
+            }
         }
     }
 
-    /// The front job's last write has completed.
-    pub fn end_job(&mut self) {
-        let Some(q) = self.queue.pop_front() else {
-            return;
-        };
-        self.begun = false;
-        self.writing = None;
-        let full = (1 << self.shape.levels) - 1;
-        self.counter[q] = match self.counter[q] {
-            c if c < full => c + 1,
-            _ if self.mistake == Mistake::FullCounterGrows => 0,
-            _ => self.shape.capacity(),
-        };
+    /// "Blocks go by ascending number into the highest of these levels until it
+    /// has 2^ℓ, then the next."
+    fn place(&mut self, q: usize, written: &[usize], gathered: Vec<usize>) {
+        let mut blocks = gathered.into_iter();
+        let mut levels = written.to_vec();
+        if self.mistake == Mistake::LowestFilledFirst {
+            levels.reverse();
+        }
+        for level in levels {
+            let table = &mut self.levels[q][level];
+            table.drawn = true;
+            table.read.fill(false);
+            table.block_at.fill(None);
+            for (item, block) in blocks.by_ref().take(1 << level).enumerate() {
+                table.block_at[table.slot_of[item]] = Some(block);
+                self.place[block] = Place::Stored { level, item };
+            }
+        }
     }
 }

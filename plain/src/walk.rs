@@ -10,7 +10,7 @@ use crate::calls::{Ask, Call, Store};
 use crate::lists::Pair;
 use crate::mistakes::Mistake;
 use crate::mixer::Mixer;
-use crate::situations::is_released;
+use crate::situations::{Before, is_released};
 use crate::state::{READ, State};
 use crate::transcripts::Transcripts;
 use crate::words::{Caller, Way, Words};
@@ -145,18 +145,21 @@ impl Walk<'_> {
 
     fn make(&mut self, run: &mut Run, call: &Call) -> u8 {
         let released = is_released(&run.store);
-        let beside = released && run.store.state.as_ref().is_some_and(State::is_beside);
+        let before = run.store.state.as_ref();
+        let beside = released && before.is_some_and(State::is_beside);
+        let look = before.map(|state| Before::look(state, &call.ask));
         let outcome = run.store.call(call);
         run.node = self.found.after(run.node, &outcome);
         self.found.collected |= beside && call.ask == Ask::Collect && outcome.number == 0;
         run.reloaded |= call.ask == Ask::Reload && outcome.number == 0;
         self.found.reloaded |= run.reloaded;
         self.found.read_after |= run.reloaded && outcome.command.kind == READ;
-        if let Some(state) = run.store.state.as_ref()
-            && !released
-            && is_released(&run.store)
-        {
-            self.found.met.extend(state.met_at_release());
+        if let Some(state) = run.store.state.as_ref().filter(|_| outcome.number == 0) {
+            if !released && is_released(&run.store) {
+                self.found.met.extend(state.met_at_release());
+            }
+            let together = look.map(|before| before.met(&call.ask, state));
+            self.found.met.extend(together.into_iter().flatten());
         }
         outcome.number
     }
@@ -208,9 +211,10 @@ fn forget(state: &mut State) {
     }
     for partition in 0..state.shape.partitions {
         let writes = state.writing.is_some() && state.queue.front() == Some(&partition);
-        let written = writes.then(|| state.target(partition));
+        let written = writes.then(|| state.written_levels(partition));
+        let written = written.unwrap_or_default();
         for level in 0..state.shape.levels {
-            if !state.filled(partition, level) && written != Some(level) {
+            if !state.filled(partition, level) && !written.contains(&level) {
                 state.levels[partition][level].forget_order();
             }
         }

@@ -1,6 +1,5 @@
 //! Look-ups while a partition is rebuilt (document 02, P4), sentence by
-//! sentence. Most stores here have one partition: a look-up then queues two
-//! jobs for it, and when the first has ended the second is the only one.
+//! sentence. The jobs here run alone; tests/together.rs has those that do not.
 
 #[path = "common/run.rs"]
 mod run;
@@ -62,13 +61,18 @@ fn fields(command: Command) -> [usize; 4] {
 
 const NOT_YET: (u8, Vec<u8>, Found) = (14, Vec::new(), Found::Nowhere);
 
-/// Block 0 is stored in level 0, at this slot, and the next job is at the
-/// front: level 0 is its source. Block 1 is nowhere.
+/// Block 0 is stored in level 0 of partition 0, at this slot, and the only job
+/// is for this partition: level 0 is its source. Block 1 is nowhere there. The
+/// look-up of block 2 in partition 1 has queued the job.
 fn stored_at(slot: u16) -> Run {
-    let mut run = Run::new(Shape::new(2, 1, 2, 1, 2, 3), &[0, 0]);
-    run.serve(write(0, &[7]), [0, 0]);
+    let mut run = Run::new(Shape::new(3, 2, 2, 1, 3, 3), &[0, 0, 1]);
+    run.serve(write(0, &[7]), [0, 1]);
     run.job(&[1 - slot]);
-    assert_eq!((run.queued(), run.state().begun), (1, false));
+    run.job(&[1]);
+    run.serve(read(2), [1, 0]);
+    run.job(&[3, 2, 1]);
+    assert_eq!((run.queued(), run.state().begun), (1, 0));
+    assert_eq!((run.state().queue[0], run.state().counter[0]), (0, 1));
     run
 }
 
@@ -78,7 +82,6 @@ fn stored_at(slot: u16) -> Run {
 fn level_above() -> Run {
     let mut run = Run::new(Shape::new(2, 2, 2, 1, 2, 3), &[0, 0]);
     run.serve(write(0, &[7]), [0, 0]);
-    run.job(&[1]);
     run.job(&[5, 1, 2]);
     run.serve(write(1, &[9]), [0, 1]);
     assert_eq!(run.state().queue, [0, 1]);
@@ -89,15 +92,17 @@ fn level_above() -> Run {
 /// longer held."
 #[test]
 fn the_only_job_at_the_front_holds_nothing() {
+    assert!(!stored_at(0).is_held(read(0), [0, 0]));
     let mut run = Run::new(Shape::new(1, 1, 2, 1, 1, 1), &[0]);
     run.serve(write(0, &[7]), [0, 0]);
-    // Two jobs, so it waits for the end of the first.
+    // Two jobs, which begin with their draw, so it waits for their end.
     assert!(run.is_held(read(0), [0, 0]));
-    assert_eq!(run.t(&[1]).number, 0);
-    assert!(run.request().is_held());
+    for _ in 0..3 {
+        assert_eq!(run.t(&[3, 2, 1]).number, 0);
+        assert!(run.request().is_held());
+    }
     assert_eq!(run.t(&[]).number, 0);
     assert!(!run.request().is_held());
-    assert!(!stored_at(0).is_held(read(0), [0, 0]));
 }
 
 /// The only job for partition 1 is behind one for partition 0.
@@ -167,9 +172,9 @@ fn a_slot_that_the_job_has_read_is_not_read_again() {
 fn the_read_is_the_jobs_first_command() {
     let mut run = stored_at(1);
     assert!(!run.is_held(read(0), [0, 0]));
-    assert!(!run.state().begun);
+    assert_eq!(run.state().begun, 0);
     assert_eq!(run.send(), [1, 0, 0, 1]);
-    assert!(run.state().begun);
+    assert_eq!(run.state().begun, 1);
     // The job goes on with the other slot, and has nothing more to read.
     assert_eq!(run.send(), [1, 0, 0, 0]);
     assert_eq!(run.number(Ask::Turn, &[0; 7]), 10);
@@ -181,7 +186,7 @@ fn a_read_above_the_sources_does_not_begin_the_job() {
     let mut run = level_above();
     assert!(!run.is_held(read(0), [0, 0]));
     assert_eq!(run.send(), [1, 0, 1, 2]);
-    assert!(!run.state().begun);
+    assert_eq!(run.state().begun, 0);
 }
 
 /// "A source level with none unread costs nothing."
@@ -242,13 +247,11 @@ fn its_own_read_does_not_hold_it() {
 /// level that it writes has none. The block waits for partition 1.
 #[test]
 fn the_wanted_block_leaves_the_job() {
-    let mut run = Run::new(Shape::new(1, 2, 2, 1, 1, 1), &[0]);
-    run.serve(write(0, &[7]), [0, 0]);
-    run.job(&[1]);
+    let mut run = stored_at(0);
     assert_eq!(run.serve(read(0), [1, 1]).found, Found::Level(0));
     run.job(&[3, 2, 1]);
-    assert_eq!(run.state().counter, [2, 0]);
-    assert_eq!(run.state().stored(0, 2).count(), 0);
+    assert_eq!(run.state().counter[0], 2);
+    assert_eq!(run.state().stored(0), []);
     assert!(run.state().is_waiting(0));
 }
 

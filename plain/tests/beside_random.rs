@@ -15,16 +15,19 @@ use std::collections::{BTreeMap, HashSet};
 use std::io::sink;
 use std::panic::catch_unwind;
 
-const SHAPES: [Shape; 6] = [
+const SHAPES: [Shape; 8] = [
     Shape::new(2, 1, 2, 1, 2, 2),
     Shape::new(2, 2, 2, 1, 2, 2),
     Shape::new(4, 1, 3, 1, 4, 3),
     Shape::new(4, 2, 3, 1, 3, 3),
     Shape::new(8, 2, 4, 1, 8, 4),
     Shape::new(8, 4, 2, 1, 8, 3),
+    Shape::new(4, 2, 2, 1, 4, 2),
+    Shape::new(8, 2, 3, 1, 8, 3),
 ];
 
-/// Two thirds of them are steered towards look-ups beside rebuilds.
+/// Half of them are steered towards look-ups beside rebuilds, a quarter towards
+/// jobs that run together.
 fn scripts() -> impl Iterator<Item = Script> {
     SHAPES.into_iter().flat_map(|shape| {
         (0..100).flat_map(move |seed| {
@@ -32,6 +35,7 @@ fn scripts() -> impl Iterator<Item = Script> {
                 Script::new(shape, None, seed, 300),
                 Script::beside(shape, seed, 300),
                 Script::amid(shape, seed, 300),
+                Script::together(shape, seed, 300),
             ]
         })
     })
@@ -85,7 +89,8 @@ fn texts() -> impl Iterator<Item = Vec<u8>> {
     short.chain((201..=220).map(|seed| random_session::text(seed, 2000)))
 }
 
-/// All but those with commands outstanding, as in a session none stays so.
+/// All but those with commands that stay outstanding, as none does in a
+/// session.
 #[test]
 fn random_sessions_meet_every_situation() {
     let mut times = Times::new();
@@ -96,13 +101,12 @@ fn random_sessions_meet_every_situation() {
         count(&mut times, &session.watch.unwrap().met);
     }
     println!("random sessions: {times:?}");
-    let outstanding = [
-        Situation::OwnOutstanding,
-        Situation::AwaitsJob,
-        Situation::CollectedFirst,
-    ];
-    assert_eq!(seldom(&times, 20), outstanding);
-    assert!(outstanding.iter().all(|never| !times.contains_key(never)));
+    // As a run begins, its first read is outstanding until the turn's end.
+    let seldom = |fewest| seldom(&times, fewest);
+    let outstanding = [Situation::AwaitsJob, Situation::CollectedFirst];
+    let rare = [Situation::SeveralStored, Situation::RoomEnds];
+    let few = [&[Situation::OwnOutstanding], &outstanding[..], &rare].concat();
+    assert_eq!((seldom(1), seldom(20)), (outstanding.to_vec(), few));
 }
 
 #[test]
@@ -179,12 +183,12 @@ impl Follow {
     }
 }
 
-/// A level that no rebuild reads next is read at most once for each job done
-/// since it was written, once for each job queued, and once by the request in
-/// hand: never 2^l times before a request passes it.
+/// A level that the front job does not read is read at most once for each job
+/// done since it was written, once for each job queued, and once by the request
+/// in hand: never 2^l times before a request passes it.
 fn is_spared(state: &State, p: usize, level: usize) -> bool {
     let done = state.counter[p] % (1 << level);
-    let queued = state.queue.iter().filter(|q| **q == p).count();
+    let queued = state.jobs(p);
     let passed = |r: &Request| state.partition[r.block] == p && r.level > level;
     let in_hand = state.request.as_ref().is_some_and(passed);
     state.levels[p][level].reads() <= done + queued + usize::from(in_hand)
@@ -200,9 +204,9 @@ fn no_level_is_read_too_often() {
                 continue;
             };
             for p in 0..state.shape.partitions {
-                let above = state.sources(p)..state.shape.levels;
-                let mut filled = above.filter(|level| state.filled(p, *level));
-                assert!(filled.all(|level| is_spared(state, p, level)));
+                let filled = (0..state.shape.levels).filter(|level| state.filled(p, *level));
+                let mut others = filled.filter(|level| !state.is_source(p, *level));
+                assert!(others.all(|level| is_spared(state, p, level)));
             }
         }
     }
@@ -228,10 +232,10 @@ fn no_slot_is_read_twice_and_a_found_block_stays() {
 #[test]
 fn the_array_tells_wrong_contents() {
     for (seed, shape) in SHAPES.into_iter().enumerate() {
-        let check = |mistake| array::check(shape, mistake, seed as u64, 200_000);
-        assert!(check(Mistake::None).is_ok());
+        let check = |mistake, calls| array::check(shape, mistake, seed as u64, calls);
+        assert!(check(Mistake::None, 200_000).is_ok());
         for mistake in [Mistake::JobReadsNotAwaited, Mistake::ReadCountsAsCache] {
-            assert!(check(mistake).is_err(), "{shape:?}: {mistake:?}");
+            assert!(check(mistake, 2_000_000).is_err(), "{shape:?}: {mistake:?}");
         }
     }
 }

@@ -149,19 +149,14 @@ fn orders_pass_words_over() {
     assert_eq!(ordered(8, &eight), (vec![2, 0, 3, 5, 6, 4, 1, 7], 12));
 }
 
-/// A store of one block whose next turn draws an order of four slots.
+/// A store of one block whose next turn draws an order of four slots, for two
+/// jobs together.
 fn before_an_order() -> Run {
     let mut run = Run::new(Shape::new(1, 1, 2, 1, 1, 1), &[0]);
     run.serve(write(0, &[7]), [0, 0]);
-    for _ in 0..2 {
-        assert_eq!(run.t(&[1]).number, 0);
-    }
-    for _ in 0..2 {
-        assert_eq!(run.t(&[]).number, 0);
-    }
     assert_eq!(
         (run.queued(), run.state().turn_bounds()),
-        (1, vec![4, 3, 2])
+        (2, vec![4, 3, 2])
     );
     run
 }

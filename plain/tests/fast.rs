@@ -5,13 +5,14 @@
 #[path = "fast/counts.rs"]
 mod counts;
 
-use counts::{ALL_MET, Before, Counts};
+use counts::{ALL_MET, Before, Counts, Met};
 use plain::calls::{Ask, Call, Outcome, Store as Model};
 use plain::fast::{self, Answer, Store};
 use plain::host::Host;
 use plain::mistakes::Mistake;
 use plain::rng::Rng;
 use plain::shape::Shape;
+use plain::situations::Situation;
 use plain::state::{Command, READ, State, Step, WRITE};
 
 /// When requests are made.
@@ -44,14 +45,14 @@ fn narrow(command: Command) -> fast::Command {
     }
 }
 
-/// Whether no job is queued, or the front one has begun, has not drawn and is
-/// the only one of its partition.
+/// Whether no job is queued, or the front one has begun, has not drawn and runs
+/// with all others of its partition.
 fn reads_alone(state: &State) -> bool {
     let Some(q) = state.queue.front() else {
         return true;
     };
     let jobs = state.queue.iter().filter(|p| *p == q).count();
-    jobs == 1 && state.begun && state.is_undrawn(*q)
+    state.begun > 0 && jobs <= state.begun && state.is_undrawn(*q)
 }
 
 impl Pair {
@@ -98,7 +99,7 @@ impl Pair {
             words,
             buffer,
         };
-        let before = Before::look(self.state());
+        let before = Before::look(self.state(), &call.ask);
         let outcome = self.model.call(&call);
         if !outcome.bytes.is_empty() {
             after.copy_from_slice(&outcome.bytes);
@@ -109,7 +110,7 @@ impl Pair {
         assert_eq!(answer.command, narrow(outcome.command));
         assert_eq!(usize::from(answer.found), outcome.found.number());
         let state = self.model.state.as_ref().expect("the store is open");
-        self.counts.call(&before, &call.ask, &outcome, state);
+        self.counts.call(before, &call.ask, &outcome, state);
         outcome
     }
 
@@ -195,8 +196,7 @@ impl Pair {
         }
         if step == Some(Step::FirstWrite) && self.host.pending.len() < self.shape.window {
             let q = state.queue[0];
-            let stored = state.stored(q, self.shape.levels).count();
-            let wraps = state.sources(q) == self.shape.levels;
+            let (stored, wraps) = (state.stored(q).len(), state.is_full(q));
             self.counts.full += usize::from(stored == self.shape.capacity());
             self.counts.wraps += usize::from(wraps);
         }
@@ -338,8 +338,9 @@ fn random_calls_answer_as_the_model_does() {
     assert!(counts.most_jobs == 64 && counts.full > 100 && counts.wraps > 100);
     assert!(counts.passed > 1000 && counts.unsettled > 100);
     assert!(counts.found.iter().all(|times| *times > 50) && counts.moved > 100);
-    for met in ALL_MET {
-        assert!(counts.met[&met] > 100, "{met:?} is met too rarely");
+    let together = Situation::TOGETHER.map(Met::Told);
+    for met in ALL_MET.into_iter().chain(together) {
+        assert!(counts.met[&met] > 50, "{met:?} is met too rarely");
     }
 }
 

@@ -58,9 +58,14 @@ fn waiting() -> Run {
     run
 }
 
-/// The first job has put it into slot 1 of level 0.
+/// Both jobs have put it into slot 1 of level 1, a look-up has read it from
+/// there, and the first of the two jobs after that into slot 1 of level 0.
 fn stored() -> Run {
     let mut run = waiting();
+    for _ in 0..4 {
+        run.t(&[0, 0, 0]);
+    }
+    run.serve(read(0), [0, 0]);
     run.t(&[0]);
     run.t(&[]);
     run
@@ -84,17 +89,20 @@ fn fresh_and_waiting_states_have_these_bytes() {
 #[test]
 fn levels_have_orders_and_marks() {
     let mut run = stored();
-    let unread = [
-        1, 2, 0, 1, 0, 2, 0, 1, 0, 2, 0, 1, 0, 1, 0, 1, 0, 0, 0, 0, 0, 0, 1, 0, 0, 255, 1, 0, 0, 0,
+    let all_levels = [
+        1, 2, 0, 1, 0, 2, 0, 1, 0, 2, 0, 1, 0, 3, 0, 1, 0, 0, 0, 0, 0, 0, 1, 0, 0, 255, 1, 0, 0, 0,
+        1, 2, 3, 0, 0, 1, 0, 0,
     ];
-    assert_eq!(run.save().bytes, block(&unread, 0));
-    // The job is begun by the read of block 1's request, which is a dummy's.
+    assert_eq!(run.save().bytes, block(&all_levels, 0));
+    // The job is begun by the reads of block 1's request: block 0's slot, and
+    // that of item 1 of level 1, whose item 0 has been read.
     assert_eq!(run.number(read(1), &[0, 0]), 0);
     assert_eq!(run.save().number, 16);
     assert_eq!(run.t(&[]).command.slot, 1);
     assert_eq!(run.save().number, 16);
+    assert_eq!(run.t(&[]).command.slot, 2);
     assert_eq!(run.call(Ask::Collect, &[]).number, 0);
-    assert!(run.state().begun && run.save().number == 16);
+    assert_eq!((run.state().begun, run.save().number), (1, 16));
 }
 
 /// Partition 1 has levels 0 and 1, with items at slots 3, 2, 0 and 1 of the
@@ -239,7 +247,7 @@ fn questions_of_a_load_are_in_their_order() {
         assert_eq!(run.load(&form), 0);
         assert!(run.state().is_at_rest());
         assert_eq!(run.t(&[]).number, 0);
-        assert!(run.state().begun);
+        assert_eq!(run.state().begun, 1);
         let outcome = run.lend(Ask::Load(bytes.to_vec()), memory, 0);
         assert_eq!(outcome.number, number);
         assert_eq!(run.store.state, None);
@@ -258,7 +266,7 @@ fn a_load_forgets_what_is_in_hand() {
     assert_eq!(run.call(Ask::Turn, &[]).number, 0);
     assert_eq!(run.load(&form), 0);
     let state = run.state();
-    assert!(state.request.is_none() && state.outstanding.is_empty() && !state.begun);
+    assert!(state.request.is_none() && state.outstanding.is_empty() && state.begun == 0);
     assert_eq!((state.form(), state.writing), (before, None));
     assert_eq!(run.number(Ask::Collect, &[]), 13);
 }

@@ -82,49 +82,55 @@ fn each_case_without_a_job() {
     assert_eq!(run.serve(read(0), [1, 0]).found, Found::Nowhere);
     // It waits for partition 1, and both jobs are for partition 0.
     assert_eq!(run.serve(read(0), [1, 0]).found, Found::Cache);
-    run.job();
-    run.job();
+    // Three jobs for partition 0 together, then one for partition 1.
     run.job();
     run.job();
     assert_eq!(run.serve(read(0), [1, 1]).found, Found::Level(0));
     run.job();
-    run.job();
     assert_eq!(run.serve(read(0), [1, 1]).found, Found::Level(1));
 }
 
-/// Both jobs hold the request, and with the first one's end the second does no
-/// longer: it is the only one and has drawn no order.
+/// Level 1 is filled, so that the second of two jobs is not joined. Both hold
+/// the request, and with the first one's end the second does no longer: it is
+/// the only one and has drawn no order.
 #[test]
 fn a_job_moves_a_block_from_the_cache_to_a_level() {
     let mut run = Run::new(Shape::new(1, 1, 2, 1, 1, 1), &[0]);
     run.serve(write(0, &[5]), [0, 0]);
+    run.job();
+    run.serve(read(0), [0, 0]);
     run.held(read(0), Found::Cache);
     run.wait(1);
-    assert_eq!(run.collect(1), (vec![5], Found::Level(0)));
+    assert_eq!(run.collect(2), (vec![5], Found::Level(0)));
 }
 
-/// The jobs are for partitions 0, 0, 1 and 0. The first puts block 0 in level
-/// 0, the second in level 1, and the third keeps the last from the front.
+/// The jobs are for partitions 0, 0, 1 and 0. Those for partition 0 fill both
+/// levels, and block 0 goes into the higher one.
 #[test]
 fn jobs_move_a_block_from_the_cache_to_a_higher_level() {
     let mut run = Run::new(Shape::new(2, 2, 2, 1, 2, 1), &[0, 1]);
     run.serve(write(0, &[5]), [0, 0]);
     run.serve(read(1), [1, 0]);
     run.held(read(0), Found::Cache);
-    run.wait(3);
-    assert_eq!(run.collect(1), (vec![5], Found::Level(1)));
+    run.wait(1);
+    assert_eq!(run.collect(2), (vec![5], Found::Level(1)));
 }
 
-/// The same jobs, but the request comes after the first of them.
+/// Block 0 is in level 0, and jobs for partitions 1, 0, 2, 0, 3 and 0 are
+/// queued. Two of those for partition 0 fill both levels, and the last is behind
+/// two others.
 #[test]
 fn a_job_moves_a_block_from_a_level_to_another() {
-    let mut run = Run::new(Shape::new(2, 2, 2, 1, 2, 1), &[0, 1]);
-    run.serve(write(0, &[5]), [0, 0]);
-    run.serve(read(1), [1, 0]);
+    let mut run = Run::new(Shape::new(4, 4, 2, 1, 4, 1), &[0, 1, 2, 3]);
+    run.serve(write(0, &[5]), [0, 1]);
     run.job();
+    run.job();
+    for block in 1..4 {
+        run.serve(read(block), [block as u16, 0]);
+    }
     run.held(write(0, &[6]), Found::Level(0));
-    run.wait(2);
-    assert_eq!(run.collect(1), (vec![5], Found::Level(1)));
+    run.wait(4);
+    assert_eq!(run.collect(2), (vec![5], Found::Level(1)));
 }
 
 /// The job for partition 0, which is full, takes a dummy.
@@ -161,7 +167,7 @@ fn jobs_of_other_partitions_hold_nothing() {
     assert_eq!(run.request().found, Some(Found::Level(0)));
     assert_eq!(run.t(&[]).command.partition, 0);
     run.job();
-    run.job();
+    assert_eq!(run.queued(), 0);
     assert_eq!(run.request().found, Some(Found::Level(0)));
     assert_eq!(run.collect(0), (vec![5], Found::Level(0)));
 }
@@ -209,11 +215,12 @@ fn scripts() -> impl Iterator<Item = Script> {
     any.chain(SHAPES.into_iter().flat_map(beside))
 }
 
-/// Whether the only job for a partition is at the front and draws later. No
-/// level that it does not read is ever read too often.
+/// Whether the only job for a partition, or those that run together, are at the
+/// front and draw later. No level that they do not read is ever read too often.
 fn is_let_pass(state: &State, p: usize) -> bool {
     let mut jobs = state.queue.iter();
-    jobs.next() == Some(&p) && !jobs.any(|q| *q == p) && state.writing.is_none()
+    let at_front = jobs.next() == Some(&p) && state.writing.is_none();
+    at_front && jobs.filter(|q| **q == p).count() < state.begun.max(1)
 }
 
 /// After every call a request that was never released is held exactly while a

@@ -54,7 +54,7 @@ fn check(state: &State) {
     assert_eq!(lines.len(), state.shape.partitions);
     let mut sums = [0; 3];
     for (partition, (name, row)) in lines.into_iter().enumerate() {
-        let in_levels = state.stored(partition, state.shape.levels).count();
+        let in_levels = state.stored(partition).len();
         let queued = state.queue.iter().filter(|q| **q == partition).count();
         assert_eq!(name, format!("{partition:4}"));
         assert_eq!(row.len(), 4);
@@ -111,12 +111,13 @@ fn pages_of_the_worked_session() {
     }
 }
 
-/// Two blocks wait for partition 0. Its second job gathers the first of them
-/// from level 0 and, with the turn that draws the order, takes the other.
+/// Partition 0 stores a block in level 0 and another waits for it. Its next job
+/// gathers the first and, with the turn that draws the order, takes the other.
 #[test]
 fn pages_of_a_rebuild() {
-    let calls = "O 2 4 2 1 2 1\nW 0 0a\nC\nW 1 0b\nC\n";
-    let lines = format!("T 1 2 0 0 0 0 1 1 1 3 2 1\n{calls}{}", "t\n".repeat(8));
+    let first = format!("O 2 4 2 1 2 1\nW 0 0a\nC\n{}", "t\n".repeat(4));
+    let second = format!("W 1 0b\nC\n{}", "t\n".repeat(4));
+    let lines = format!("T 1 2 0 0 1 1 0 0 1 3 2 1\n{first}{second}");
     let before = [
         "   0     1     1     1     1",
         "   1     1     0     0     0",
@@ -146,20 +147,20 @@ fn a_counter_of_three_digits() {
     assert_eq!(page_after(&lines), wanted);
 }
 
-/// Look-ups of 64 blocks, each at first in a partition of its own. The eight
-/// commands of its two jobs go before the next look-up.
+/// Look-ups of 64 blocks, each at first in a partition of its own. The four
+/// commands of its two jobs, which run together, go before the next look-up.
 fn sixty_four_look_ups(next: fn(usize) -> usize) -> String {
     let opening = (0..64).map(|block| format!(" {block}"));
-    let later = (0..64).map(|block| format!(" {} {block} 0 0 0 0", next(block)));
+    let later = (0..64).map(|block| format!(" {} {block} 0 0 0", next(block)));
     let tape: String = opening.chain(later).collect();
     let look_ups: Vec<String> = (0..64).map(|block| format!("R {block}\nC\n")).collect();
-    let look_ups = look_ups.join(&"t\n".repeat(8));
+    let look_ups = look_ups.join(&"t\n".repeat(4));
     format!("T{tape}\nO 64 64 2 1 64 1\n{look_ups}")
 }
 
 #[test]
 fn sixty_four_blocks_stored() {
-    let lines = sixty_four_look_ups(|block| block) + &"t\n".repeat(8);
+    let lines = sixty_four_look_ups(|block| block) + &"t\n".repeat(4);
     let rows: String = (0..64)
         .map(|q| format!("{q:4}     2     1     0     0\n"))
         .collect();

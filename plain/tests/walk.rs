@@ -5,6 +5,7 @@ use plain::calls::{Ask, Call, Store};
 use plain::lists::{Pair, pair};
 use plain::lists::{above_sources, source_read, source_spent, source_unread};
 use plain::lists::{drawn_again, layered, lent_again, two_stored};
+use plain::lists::{released_by_run, several_levels, waiting_or_not};
 use plain::mistakes::Mistake;
 use plain::shape::Shape;
 use plain::situations::Situation;
@@ -98,21 +99,30 @@ fn compare(pair: &Pair, mistake: Mistake) -> usize {
 /// Up to the turn that draws an order of four slots, and a little further.
 #[test]
 fn made_pairs_have_the_tapes_that_are_counted() {
-    assert_eq!(lent_again().sides[0][11].words.len(), 4);
-    assert_eq!(layered(2).sides[0][11].words.len(), 3);
+    assert_eq!(lent_again().sides[0][3].words.len(), 4);
+    assert_eq!(layered(2).sides[0][3].words.len(), 3);
     for mistake in [Mistake::None, Mistake::NothingPassed] {
-        assert!(compare(&cut(lent_again(), 13), mistake) > 1);
-        assert!(compare(&cut(layered(2), 15), mistake) > 1);
+        assert!(compare(&cut(lent_again(), 5), mistake) > 1);
+        assert!(compare(&cut(layered(2), 7), mistake) > 1);
     }
 }
 
-/// Up to the collect; with the right rules one slot is all that is read of the
-/// second pair.
+/// Up to the second collect.
 #[test]
 fn tapes_are_counted_beside_a_rebuild() {
-    assert_eq!(compare(&cut(source_unread(2), 12), Mistake::None), 2);
-    assert_eq!(compare(&cut(source_read(2), 15), Mistake::None), 1);
-    assert!(compare(&cut(source_read(2), 15), Mistake::OwnJobReadAwaited) > 1);
+    for mistake in [Mistake::None, Mistake::OwnJobReadAwaited] {
+        assert!(compare(&cut(source_read(2), 15), mistake) > 1);
+        assert!(compare(&cut(source_spent(2), 15), mistake) > 1);
+    }
+}
+
+/// Up to the first writes: four draws of two levels, or fewer.
+#[test]
+fn tapes_are_counted_when_jobs_run_together() {
+    assert_eq!(waiting_or_not(2).sides[0][5].words.len(), 4);
+    for mistake in [Mistake::None, Mistake::JoinsIfWaiting] {
+        assert!(compare(&cut(waiting_or_not(2), 6), mistake) > 1);
+    }
 }
 
 #[test]
@@ -188,6 +198,34 @@ fn made_pairs_tell_wrong_look_ups_beside_a_rebuild() {
         assert_eq!(found.places, pair.sides[0].len());
         let told = |mistake: &Mistake| !walked(pair, *mistake, Caller::MovesOn).equal();
         let told: Vec<Mistake> = Mistake::BESIDE.into_iter().filter(told).collect();
+        assert_eq!(told, *wanted);
+    }
+}
+
+/// The wrong rules of jobs that run together that each of these pairs tells, and
+/// what is met there.
+#[test]
+fn made_pairs_tell_wrong_runs() {
+    use Mistake::{JoinsIfWaiting, LowestFilledFirst, OrderShared, TakesOne};
+    use Situation::{Apart, ReleasedByRun, SeveralWritten, Two};
+    let all: [(Pair, &[Mistake], &[Situation]); 3] = [
+        (
+            several_levels(2),
+            &[JoinsIfWaiting, OrderShared],
+            &[SeveralWritten, Apart],
+        ),
+        (waiting_or_not(2), &[JoinsIfWaiting], &[Two]),
+        (released_by_run(2), &[], &[ReleasedByRun]),
+    ];
+    for (pair, wanted, met) in &all {
+        let found = walked(pair, Mistake::None, Caller::MovesOn);
+        assert!(pair.is_compared() && found.equal() && found.equally_long);
+        assert!(met.iter().all(|situation| found.met.contains(situation)));
+        assert_eq!(found.places, pair.sides[0].len());
+        let told = |mistake: &Mistake| !walked(pair, *mistake, Caller::MovesOn).equal();
+        // Two that show in nothing that the host must not learn are among them.
+        let some = [JoinsIfWaiting, OrderShared, LowestFilledFirst, TakesOne];
+        let told: Vec<Mistake> = some.into_iter().filter(told).collect();
         assert_eq!(told, *wanted);
     }
 }

@@ -112,15 +112,15 @@ fn edges_of_the_shape() {
 
 #[test]
 fn edges_of_the_counter() {
-    // One partition: each request queues two jobs for it.
-    let mut run = Run::new(Shape::new(1, 1, 3, 1, 1, 1), &[0]);
-    for before in [0, 2, 4, 6, 4] {
-        run.serve(read(0), [0, 0]);
-        for before in [before, before + 1] {
+    // Each request queues a job for both partitions.
+    let mut run = Run::new(Shape::new(1, 2, 3, 1, 1, 1), &[0]);
+    for before in [0, 1, 2, 3, 4, 5, 6, 7, 4] {
+        run.serve(read(0), [0, 1]);
+        for q in 0..2 {
             let job = run.job();
             let target = (before as u32).trailing_ones().min(2) as usize;
             let slots: Vec<Command> = job.writes.iter().map(|(c, _)| *c).collect();
-            let wanted: Vec<Command> = (0..2 << target).map(|s| cmd(2, 0, target, s)).collect();
+            let wanted: Vec<Command> = (0..2 << target).map(|s| cmd(2, q, target, s)).collect();
             assert_eq!(job.before, before);
             assert_eq!(slots, wanted);
             assert_eq!(job.after, if before == 7 { 4 } else { before + 1 });
@@ -199,13 +199,12 @@ fn held_request_waits_for_its_partition() {
     run.serve(write(0, &[5]), [0, 0]);
     assert_eq!(run.number(read(0), &[0, 0]), 0);
     assert_eq!(run.number(Ask::Collect, &[]), 14);
-    assert_eq!(run.job().before, 0);
-    // The first job put the block in level 0, and the second, which is the
-    // only one now, has not drawn its order: the block's slot is read there.
+    let job = run.job();
+    assert_eq!((job.before, job.after), (0, 2));
+    // Both jobs ran together and put the block in level 1.
     assert_eq!(run.number(Ask::Collect, &[]), 14);
-    assert_eq!(run.t(&[]).command.level, 0);
+    assert_eq!(run.t(&[]).command.level, 1);
     assert_eq!(run.call(Ask::Collect, &[]).bytes, [5]);
-    assert_eq!(run.job().before, 1);
 }
 
 #[test]
@@ -213,7 +212,7 @@ fn refusals() {
     let shape = Shape::new(1, 1, 2, 2, 1, 1);
     let mut run = Run::new(shape, &[0]);
     run.bytes = 1;
-    let zeros = cmd(2, 0, 0, 0);
+    let zeros = cmd(2, 0, 1, 0);
     let done = |command, length| Ask::Completion {
         command,
         bytes: vec![0; length],
@@ -237,8 +236,8 @@ fn refusals() {
     run.bytes = 1;
     assert_eq!(run.number(Ask::Turn, &[]), 15);
     run.bytes = 2;
-    assert_eq!(run.number(Ask::Turn, &[]), 3);
-    assert_eq!(run.number(Ask::Turn, &[0]), 0);
+    assert_eq!(run.number(Ask::Turn, &[0, 0]), 3);
+    assert_eq!(run.number(Ask::Turn, &[0, 0, 0]), 0);
     assert_eq!(run.number(Ask::Turn, &[0]), 9);
     assert_eq!(run.number(done(cmd(0, 0, 0, 0), 0), &[]), 2);
     assert_eq!(run.number(done(cmd(1, 0, 0, 0), 9), &[]), 11);
@@ -268,7 +267,7 @@ fn plain_array() {
         assert!(collected > 200, "{shape:?}: {collected} {numbers:?}");
         let contents = [Mistake::ZerosForever, Mistake::NewContentsHandedOut];
         for mistake in contents.into_iter().chain(Mistake::FOUND) {
-            let told = array::check(shape, mistake, seed as u64, 30_000);
+            let told = array::check(shape, mistake, seed as u64, 200_000);
             assert!(told.is_err(), "{shape:?}: {mistake:?}");
         }
     }

@@ -27,7 +27,7 @@ const PLANS: [Plan; 3] = [
     ),
 ];
 
-const SEEDS: u64 = 6000;
+const SEEDS: u64 = 12_000;
 
 fn sessions() -> Result<Vec<Session>, String> {
     let group = Group {

@@ -2,8 +2,9 @@
 //! directory named by the first argument. Among many seeds it chooses those
 //! whose sessions tell the planted mistakes from the right rules: first by the
 //! rules of document 01, then by where blocks are found (document 02, P2), by
-//! which words draws pass over (P3) and by look-ups while a partition is
-//! rebuilt (P4). Of some it also writes the reads told for each request (P6).
+//! which words draws pass over (P3), by look-ups while a partition is rebuilt
+//! (P4) and by jobs of one partition that run together (P7). Of some it also
+//! writes the reads told for each request (P6).
 
 use plain::antt::{self, reads};
 use plain::calls::Store;
@@ -31,10 +32,12 @@ const PLANS: [Plan; 7] = [
     (Shape::new(8, 4, 2, 1, 8, 3), None, 70),
 ];
 
-/// Those of the sessions for where blocks are found.
+/// Those of the sessions for where blocks are found. Jobs that hold a request
+/// and move its block to other levels are more than may be joined, which comes
+/// late.
 const FOUND_PLANS: [Plan; 2] = [
-    (Shape::new(2, 2, 2, 1, 2, 2), None, 60),
     (Shape::new(1, 2, 3, 1, 1, 3), None, 68),
+    (Shape::new(3, 2, 2, 1, 3, 2), None, 74),
 ];
 
 /// That of the session for draws: its orders have up to eight slots.
@@ -44,8 +47,15 @@ const DRAW_PLANS: [Plan; 1] = [(Shape::new(1, 1, 3, 1, 1, 3), None, 56)];
 /// sources there is a higher level only if there are three.
 const BESIDE_PLANS: [Plan; 3] = [
     (Shape::new(4, 1, 3, 1, 4, 3), None, 84),
-    (Shape::new(4, 2, 2, 1, 4, 3), None, 74),
+    (Shape::new(4, 2, 2, 1, 4, 3), None, 70),
     (Shape::new(2, 2, 2, 1, 2, 2), None, 56),
+];
+
+/// Those of the sessions for jobs that run together. Several levels with blocks
+/// need three levels; a full partition needs as many blocks as there may be.
+const TOGETHER_PLANS: [Plan; 2] = [
+    (Shape::new(4, 2, 2, 1, 4, 2), None, 76),
+    (Shape::new(8, 2, 3, 1, 8, 3), None, 92),
 ];
 
 const SEEDS: u64 = 3000;
@@ -74,16 +84,12 @@ const CASES: [(Case, &str); 8] = [
 /// The numbers that have to occur; 7 needs 63 jobs queued.
 const NUMBERS: [u8; 15] = [0, 1, 2, 3, 4, 5, 6, 8, 9, 10, 11, 12, 13, 14, 15];
 
-fn groups() -> [Group; 4] {
-    let later = [&Mistake::FOUND[..], &Mistake::DRAWS, &Mistake::BESIDE];
-    let later = [later.concat(), Mistake::SAVED.to_vec()].concat();
-    let of_document_01 = |mistake: &Mistake| !later.contains(mistake);
-    let mistakes = Mistake::ALL.into_iter().filter(of_document_01);
+fn groups() -> [Group; 5] {
     let first = Group {
         plans: &PLANS,
         kind: Kind::Any,
         seeds: SEEDS,
-        mistakes: mistakes.collect(),
+        mistakes: Mistake::BASE.to_vec(),
         marks: NUMBERS.map(Mark::Number).to_vec(),
     };
     let found = Group {
@@ -105,9 +111,16 @@ fn groups() -> [Group; 4] {
         kind: Kind::Beside,
         seeds: MOST_SEEDS,
         mistakes: Mistake::BESIDE.to_vec(),
-        marks: Situation::ALL.map(Mark::Met).to_vec(),
+        marks: Situation::BESIDE.map(Mark::Met).to_vec(),
     };
-    [first, found, draws, beside]
+    let together = Group {
+        plans: &TOGETHER_PLANS,
+        kind: Kind::Together,
+        seeds: MOST_SEEDS,
+        mistakes: Mistake::TOGETHER.to_vec(),
+        marks: Situation::TOGETHER.map(Mark::Met).to_vec(),
+    };
+    [first, found, draws, beside, together]
 }
 
 /// The sessions of all groups, one after the other.
@@ -161,8 +174,8 @@ fn cases(session: &Session) -> Vec<(Case, &'static str)> {
     CASES.into_iter().filter(met).collect()
 }
 
-/// The reads of some sessions in which every released request is collected:
-/// one after the other that in which most is met that was not before.
+/// The reads of some sessions in which those of every released request are
+/// sent: one after the other that in which most is met that was not before.
 fn read(sessions: &[Session], file_of: &[usize]) -> Result<Vec<reads::Told>, String> {
     let told = |number: usize| Some((number, told::reads(&sessions[number].calls)?));
     let mut left: Vec<_> = (0..sessions.len()).filter_map(told).collect();

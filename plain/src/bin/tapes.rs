@@ -1,13 +1,14 @@
 //! Runs pairs of compared lists with every tape of words, for words of few
 //! bits, and compares the transcripts: with the right rules each occurs equally
-//! often in both lists, look-ups while a partition is rebuilt among them. With
-//! each of some planted mistakes some pair differs, and so it does for a caller
+//! often in both lists, look-ups while a partition is rebuilt and runs of joined
+//! jobs among them. With each of some planted mistakes some pair differs, and so it does for a caller
 //! who lends words again. Then pairs in which the client is saved and loaded are
 //! compared so, each run with its own forms.
 
 use plain::lists::{Pair, pair};
 use plain::lists::{above_sources, source_read, source_spent, source_unread};
 use plain::lists::{drawn_again, layered, lent_again, two_stored};
+use plain::lists::{released_by_run, several_levels, waiting_or_not};
 use plain::lists::{reloaded_marks, reloaded_queue, reloading};
 use plain::mistakes::Mistake;
 use plain::shape::Shape;
@@ -35,7 +36,7 @@ const SHAPES: [Shape; 12] = [
 
 const PAIRS: usize = 600;
 /// Those in which the client is saved and loaded.
-const RELOADING: usize = 240;
+const RELOADING: usize = 264;
 /// The bits of the largest words.
 const WIDEST: u32 = 3;
 /// In so many pairs at least a word has to be passed over, and in so many a
@@ -43,6 +44,10 @@ const WIDEST: u32 = 3;
 const FEWEST: usize = 100;
 /// In so many a request has to be released while its partition is rebuilt.
 const FEWEST_BESIDE: usize = 300;
+/// In so many jobs have to run together, and in so many of these write several
+/// levels.
+const FEWEST_TOGETHER: usize = 200;
+const FEWEST_LEVELS: usize = 30;
 /// In so many the client has to be loaded and then send a read.
 const FEWEST_RELOADED: usize = 100;
 
@@ -51,9 +56,9 @@ const FEWEST_RELOADED: usize = 100;
 /// slot of the third item of an order of four is then told from the others'. A
 /// word passed over that does not count is followed by words that were drawn
 /// from and are lent again, as the caller goes by the count. Of the mistakes in
-/// look-ups while a partition is rebuilt, these depend on what the host must
-/// not learn.
-const TOLD: [Mistake; 16] = [
+/// look-ups while a partition is rebuilt and in jobs that run together, these
+/// depend on what the host must not learn, or draw too little.
+const TOLD: [Mistake; 18] = [
     Mistake::LowestDummySlot,
     Mistake::WaitingSendsNothing,
     Mistake::FinishedEarly,
@@ -70,31 +75,57 @@ const TOLD: [Mistake; 16] = [
     Mistake::WaitingSkipsRebuild,
     Mistake::FinishedByOwnRead,
     Mistake::OwnJobReadAwaited,
+    Mistake::JoinsIfWaiting,
+    Mistake::OrderShared,
 ];
 
 /// The mistakes that make a load change what the host sees by what it must not
 /// learn.
 const TOLD_BY_RELOADS: [Mistake; 2] = [Mistake::LoadClearsMarks, Mistake::LoadPrefersWaiting];
 
+/// What has to be met in jobs that run together. An order of eight slots, which
+/// a source above a level that is not filled would need, has too many tapes. To
+/// have more blocks than the highest level holds, or too many for the partition,
+/// lists would have to be longer.
+const TOGETHER: [Situation; 12] = [
+    Situation::Two,
+    Situation::Three,
+    Situation::Apart,
+    Situation::Cut,
+    Situation::Alone,
+    Situation::SeveralWritten,
+    Situation::SeveralTaken,
+    Situation::LeftBehind,
+    Situation::ReleasedByRun,
+    Situation::BesideRun,
+    Situation::CollectedBesideRun,
+    Situation::HeldByDraw,
+];
+
 /// A pair, and at how many different runs its lists end.
 type Limited = (Pair, usize);
 
-/// Pairs made for some of these, then random ones of all shapes in turn, with
-/// words of all widths in which the largest bound can be drawn. An order of
-/// four slots makes many runs, so lists for two levels have more of them.
+/// Pairs made for some of these, those with few runs first, then random ones of
+/// all shapes in turn, with words of all widths in which the largest bound can
+/// be drawn. An order of four slots makes many runs, so lists for two levels
+/// have more of them.
 fn pairs() -> impl Iterator<Item = Limited> {
     let made = [
         layered(2),
-        two_stored(2),
-        lent_again(),
-        drawn_again(),
-        two_stored(3),
-        layered(3),
-        source_unread(2),
         source_read(2),
         source_spent(2),
+        source_unread(2),
+        waiting_or_not(2),
+        released_by_run(2),
         above_sources(2),
         above_sources(3),
+        layered(3),
+        drawn_again(),
+        lent_again(),
+        several_levels(2),
+        two_stored(2),
+        several_levels(3),
+        two_stored(3),
     ];
     let made = made.map(|pair| (pair, usize::MAX));
     made.into_iter().chain(random(pair))
@@ -106,7 +137,7 @@ fn random(make: fn(Shape, u32, u64) -> Pair) -> impl Iterator<Item = Limited> {
         let (shape, round) = (SHAPES[seed % SHAPES.len()], seed / SHAPES.len());
         let least = shape.levels as u32;
         let width = least + round as u32 % (WIDEST + 1 - least);
-        let most = if shape.levels == 1 { 1_000 } else { 12_000 };
+        let most = if shape.levels == 1 { 1_000 } else { 8_000 };
         (make(shape, width, seed as u64), most)
     })
 }
@@ -173,7 +204,8 @@ impl Met {
         self.longest = self.longest.max(longest);
         self.passed += usize::from(found.passed);
         self.unsettled += usize::from(found.unsettled);
-        self.beside += usize::from(!found.met.is_empty());
+        let beside = |met: &Situation| Situation::BESIDE.contains(met);
+        self.beside += usize::from(found.met.iter().any(beside));
         self.collected += usize::from(found.collected);
         self.reloaded += usize::from(found.reloaded);
         self.read_after += usize::from(found.read_after);
@@ -203,7 +235,11 @@ impl Met {
         println!("None: a request is released beside a rebuild in {beside} pairs");
         println!("None: such a request is collected in {collected} pairs");
         for (situation, pairs) in &self.situations {
-            println!("None: beside a rebuild, {situation:?} in {pairs} pairs");
+            let where_ = match Situation::BESIDE.contains(situation) {
+                true => "beside a rebuild",
+                false => "jobs together",
+            };
+            println!("None: {where_}, {situation:?} in {pairs} pairs");
         }
         let Met {
             reloaded,
@@ -223,9 +259,13 @@ impl Met {
         if self.beside.min(self.collected) < FEWEST_BESIDE {
             return Err(format!("None: fewer than {FEWEST_BESIDE} beside a rebuild"));
         }
-        let missing = Situation::AT_RELEASE
-            .iter()
-            .filter(|s| !self.situations.contains_key(s));
+        let times = |situation| self.situations.get(&situation).copied().unwrap_or(0);
+        let (two, several) = (times(Situation::Two), times(Situation::SeveralWritten));
+        if two < FEWEST_TOGETHER || several < FEWEST_LEVELS {
+            return Err(format!("None: jobs together only in {two} and {several}"));
+        }
+        let wanted = Situation::AT_RELEASE.into_iter().chain(TOGETHER);
+        let missing = wanted.filter(|situation| times(*situation) == 0);
         match missing.collect::<Vec<_>>()[..] {
             [] => Ok(()),
             ref missing => Err(format!("None: no pair has {missing:?}")),

@@ -17,9 +17,9 @@ impl Store {
     /// Prepares the reads of a request that is released beside the front job.
     ///
     /// Document 02 holds a request back if a level that is no source was read
-    /// 2^l times. This needs no question: since such a level was written at
-    /// most 2^l - 2 jobs have ended and one is queued, and each look-up has
-    /// queued one.
+    /// 2^l times. This needs no question: each look-up has queued a job, and
+    /// with those that run the jobs since such a level was written are fewer
+    /// than 2^l.
     #[inline(never)]
     pub(super) fn go_beside(&mut self) {
         let next = self.job.next();
@@ -54,6 +54,7 @@ impl Store {
             self.job.unread &= !(1 << (index % 64));
             self.next_word();
         }
+        self.job.begun = true;
         self.send_request_read(level, index, room)
     }
 

@@ -60,8 +60,9 @@ impl Store {
     }
 
     /// Lets a held request go if its partition has no job, or only one that
-    /// is at the front and has not drawn. This may become so at acceptance and
-    /// when a job ends, also one of another partition.
+    /// is at the front and has not drawn; jobs that run together are one. This
+    /// may become so at acceptance, when a job begins and when one ends, also
+    /// one of another partition.
     #[inline(always)]
     pub(super) fn release(&mut self) {
         let Request {
@@ -70,13 +71,12 @@ impl Store {
         if found != HELD {
             return;
         }
-        match self.partitions[partition].jobs {
-            0 => self.look_up(),
-            1 if self.job.partition == partition && !self.job.has_drawn() => {
-                self.look_up();
-                self.go_beside();
-            }
-            _ => {}
+        let (jobs, job) = (self.partitions[partition].jobs, &self.job);
+        if jobs == 0 {
+            self.look_up();
+        } else if job.partition == partition && jobs <= job.one() && !job.has_drawn() {
+            self.look_up();
+            self.go_beside();
         }
     }
 
@@ -142,7 +142,7 @@ impl Store {
             self.partitions[partition].jobs += 1;
             self.queue.push(partition);
         }
-        if self.job.phase == Phase::Idle {
+        if !self.job.begun {
             self.next_job();
         }
         Answer::collected(request.found)

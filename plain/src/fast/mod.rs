@@ -1,8 +1,9 @@
 //! A fast plain implementation of document 01's block store, for benchmarks,
-//! with where a block was found, even draws and look-ups while a partition is
-//! rebuilt (document 02, P2 to P4). It answers the documents' numbers. It owns
-//! its memory, so the questions about the length of lent memory are left out,
-//! and as a refused open hands back no store, so is the closed state.
+//! with where a block was found, even draws, look-ups while a partition is
+//! rebuilt and jobs of one partition together (document 02, P2 to P4 and P7).
+//! It answers the documents' numbers. It owns its memory, so the questions about
+//! the length of lent memory are left out, and as a refused open hands back no
+//! store, so is the closed state.
 //!
 //! A slot has an index in its partition like a node in a heap: slot s of
 //! level l is at 2^(l+1) + s. A rebuild's reads, levels ascending and slots
@@ -16,7 +17,7 @@ mod rebuild;
 mod turn;
 
 use crate::shape::Shape;
-use parts::{Block, IDLE, Job, Partition, Queue, Request, Sent};
+use parts::{Block, IDLE, JOBS, Job, Partition, Queue, Request, Sent};
 
 pub const READ: u8 = 1;
 pub const WRITE: u8 = 2;
@@ -105,8 +106,12 @@ pub struct Store {
     /// The blocks of a rebuild, each with its room in the lower half, and GONE
     /// in place of one that has left.
     gathered: [u32; SLOTS],
-    /// By slot of the level being written: where its contents lie.
-    outgoing: [u32; SLOTS],
+    /// By index in the partition of a slot to be written: where its contents
+    /// lie.
+    outgoing: [u32; 2 * SLOTS],
+    /// The rooms of the blocks that a job has taken from the cache, which are
+    /// free once it has ended.
+    waited: [u16; JOBS],
     /// By m: 2^32 / m, rounded up, to draw below m without a division.
     inverse: [u32; SLOTS + 1],
     /// Rooms of B bytes, after a gap of `start` bytes that puts them on a
@@ -146,7 +151,8 @@ impl Store {
             room_of: vec![ZEROS; n],
             free: (first as u16..rooms as u16).rev().collect(),
             gathered: [0; SLOTS],
-            outgoing: [0; SLOTS],
+            outgoing: [0; 2 * SLOTS],
+            waited: [ZEROS; JOBS],
             inverse: std::array::from_fn(|m| inverse(m as u32)),
             start: contents.as_ptr().align_offset(LINE).min(LINE),
             contents,

@@ -42,8 +42,8 @@ impl Block {
 
 #[derive(Clone, Copy)]
 pub struct Partition {
-    /// The slots that no request has read since their level was written. The
-    /// bits of an empty level mean nothing.
+    /// The slots that no request has read since their level was written. An
+    /// empty level has none, nor has a source once the job has drawn.
     pub unread: [u64; WORDS],
     /// By level, the lowest-numbered unread dummy item. That of a job's source
     /// means nothing once one of its slots was read beside the job.
@@ -100,44 +100,53 @@ pub enum Phase {
     Idle,
     /// Slots of the sources are yet to be read.
     Read,
-    /// All reads are sent.
+    /// All reads are sent, or there are none.
     Gather,
-    /// Slots of the target are yet to be written.
+    /// Slots are yet to be written.
     Write,
     /// All writes are sent.
     Written,
 }
 
-/// The front job.
+/// The front job, with those that run together with it.
 #[derive(Clone, Copy)]
 pub struct Job {
     pub phase: Phase,
     /// Without a job, a number that no partition has.
     pub partition: usize,
+    /// Whether it has begun, how many jobs run, or would if they began now, and
+    /// the counter once they have run.
+    pub begun: bool,
+    pub jobs: u16,
+    pub after: u16,
     /// The index in the store of the partition's first slot.
     pub base: usize,
-    /// The index in the partition at which the sources end, and the target.
+    /// The index in the partition at which the sources end: they are the filled
+    /// levels below. Then the levels yet to be written, as bits.
     pub end: usize,
-    pub target: usize,
+    pub targets: u32,
     /// A word of the sources' slots that are yet to be read, and which it is.
     pub unread: u64,
     pub word: usize,
     /// The blocks gathered so far, and how many of them have left since.
     pub count: usize,
     pub gone: usize,
-    /// The next write, and how many are left.
+    /// The next write, and how many are left of its level.
     pub write: Command,
     pub left: usize,
-    /// The room of the block that waited, or ZEROS.
-    pub room: u16,
+    /// The blocks that were taken from the cache.
+    pub taken: usize,
 }
 
 pub const IDLE: Job = Job {
     phase: Phase::Idle,
     partition: usize::MAX,
+    begun: false,
+    jobs: 0,
+    after: 0,
     base: 0,
     end: 0,
-    target: 0,
+    targets: 0,
     unread: 0,
     word: 0,
     count: 0,
@@ -149,12 +158,17 @@ pub const IDLE: Job = Job {
         slot: 0,
     },
     left: 0,
-    room: 0,
+    taken: 0,
 };
 
 impl Job {
     pub fn has_drawn(&self) -> bool {
         matches!(self.phase, Phase::Write | Phase::Written)
+    }
+
+    /// How many jobs of its partition are one job for look-ups.
+    pub fn one(&self) -> u16 {
+        if self.begun { self.jobs } else { 1 }
     }
 
     /// The index in the partition of the next slot to read, or `end`. All the
@@ -246,12 +260,32 @@ impl Queue {
         self.len += 1;
     }
 
-    pub fn pop(&mut self) {
-        self.first = (self.first + 1) % JOBS;
-        self.len -= 1;
-    }
-
     pub fn front(&self) -> usize {
         usize::from(self.ring[self.first % JOBS])
+    }
+
+    /// The first so many jobs of the front one's partition leave.
+    pub fn leave(&mut self, jobs: u16) {
+        let partition = self.front();
+        self.first = (self.first + 1) % JOBS;
+        self.len -= 1;
+        if jobs > 1 {
+            self.leave_later(partition, jobs - 1);
+        }
+    }
+
+    #[inline(never)]
+    fn leave_later(&mut self, partition: usize, mut jobs: u16) {
+        let mut kept = 0;
+        for at in 0..self.len {
+            let job = self.ring[(self.first + at) % JOBS];
+            if usize::from(job) == partition && jobs > 0 {
+                jobs -= 1;
+            } else {
+                self.ring[(self.first + kept) % JOBS] = job;
+                kept += 1;
+            }
+        }
+        self.len = kept;
     }
 }

@@ -1,7 +1,7 @@
 //! The turn: a request's reads, and the reads and the writes of a rebuild.
 
 use super::parts::{IDLE, Job, Phase, WORDS};
-use super::{Answer, Command, GATHER, JUNK, READ, SLOTS, Store, ZEROS};
+use super::{Answer, Command, GATHER, JUNK, READ, SLOTS, Store, WRITE};
 
 impl Store {
     pub fn turn(&mut self, words: &[u16], buffer: &mut [u8]) -> Answer {
@@ -78,7 +78,8 @@ impl Store {
         Answer::sent(command, 0)
     }
 
-    /// Makes the queue's front job ready to run.
+    /// Makes the queue's front job ready to run with those of its partition
+    /// that are queued. Until it has begun there may come more.
     pub(super) fn next_job(&mut self) {
         if self.queue.len == 0 {
             self.job = IDLE;
@@ -86,19 +87,26 @@ impl Store {
         }
         let partition = self.queue.front();
         let record = &self.partitions[partition];
-        let sources = (!record.counter).trailing_zeros() as usize;
-        let mask = if sources < 5 {
-            (1 << (2 << sources)) - 1
-        } else {
-            !0
+        let (counter, full) = (record.counter, (1 << self.levels) - 1);
+        let jobs = record.jobs.min(full - counter).max(1);
+        // The sources are below the highest level that changes, or are all.
+        let (after, above) = match counter == full {
+            true => (1 << (self.levels - 1), self.levels),
+            false => (
+                counter + jobs,
+                (counter ^ (counter + jobs)).ilog2() as usize,
+            ),
         };
+        let end = 2 << above;
         self.job = Job {
             phase: Phase::Read,
             partition,
+            jobs,
+            after,
             base: partition << (self.levels + 1),
-            end: 2 << sources,
-            target: sources.min(self.levels - 1),
-            unread: record.unread[0] & mask,
+            end,
+            targets: u32::from(after) & (end as u32 - 1),
+            unread: record.unread[0] & below(end),
             ..IDLE
         };
         self.next_word();
@@ -137,6 +145,11 @@ impl Store {
             self.next_word();
         }
         self.sent.push(command, self.at(room), false);
+        if !self.job.begun {
+            // A request goes on that only those jobs held that now run.
+            self.job.begun = true;
+            self.release();
+        }
         Answer::sent(command, 0)
     }
 
@@ -161,33 +174,58 @@ impl Store {
         job.write.slot = command.slot.wrapping_add(1);
         job.left -= 1;
         if job.left == 0 {
-            job.phase = Phase::Written;
+            self.next_level();
         }
         self.sent.push(command, 0, false);
-        let at = self.outgoing[usize::from(command.slot)] as usize;
+        let index = (2 << command.level) + usize::from(command.slot);
+        let at = self.outgoing[index % (2 * SLOTS)] as usize;
         buffer.copy_from_slice(&self.contents[at..at + self.bytes]);
         Answer::sent(command, taken)
+    }
+
+    /// Goes on to the highest of the levels yet to be written.
+    #[inline]
+    pub(super) fn next_level(&mut self) {
+        let job = &mut self.job;
+        let Some(level) = job.targets.checked_ilog2() else {
+            job.phase = Phase::Written;
+            return;
+        };
+        job.phase = Phase::Write;
+        job.targets ^= 1 << level;
+        job.left = 2 << level;
+        job.write = Command {
+            kind: WRITE,
+            partition: job.partition as u8,
+            level: level as u8,
+            slot: 0,
+        };
     }
 
     /// The front job's last write has completed.
     #[inline(never)]
     pub(super) fn end_job(&mut self) {
         let Job {
-            partition, room, ..
+            partition,
+            jobs,
+            after,
+            taken,
+            ..
         } = self.job;
         let record = &mut self.partitions[partition];
-        let full = (1 << self.levels) - 1;
-        record.counter = if record.counter == full {
-            1 << (self.levels - 1)
-        } else {
-            record.counter + 1
-        };
-        record.jobs -= 1;
-        self.queue.pop();
-        if room != ZEROS {
-            self.give_back(room);
+        record.counter = after;
+        record.jobs -= jobs;
+        self.queue.leave(jobs);
+        for index in 0..taken {
+            self.give_back(self.waited[index]);
         }
         self.next_job();
         self.release();
     }
+}
+
+/// The bits of a partition's first word below this index.
+#[inline]
+pub(super) fn below(index: usize) -> u64 {
+    if index < 64 { (1 << index) - 1 } else { !0 }
 }

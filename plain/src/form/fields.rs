@@ -107,7 +107,9 @@ impl Form {
         state.partition = self.blocks.iter().map(|(p, _)| *p).collect();
         state.counter = self.counters.clone();
         state.queue = self.jobs(mistake);
-        state.begun = mistake == Mistake::LoadBegins && !state.queue.is_empty();
+        if let (Mistake::LoadBegins, Some(q)) = (mistake, state.queue.front().copied()) {
+            state.begin(q);
+        }
         self.bring_levels(&mut state);
         for (block, (_, spot)) in self.blocks.iter().enumerate() {
             state.put(block, *spot);

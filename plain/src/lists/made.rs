@@ -15,8 +15,6 @@ const THREE_BLOCKS: Shape = Shape::new(3, 2, 2, 1, 3, 1);
 pub fn layered(width: u32) -> Pair {
     let mut builder = Builder::opened(TWO_BLOCKS, width);
     builder.serve(0);
-    builder.commands(1, WRITE, [1, 0], &[0, 1]);
-    builder.commands(0, READ, [1, 0], &[0, 1]);
     builder.commands(3, WRITE, [1, 1], &[0, 1, 2, 3]);
     builder.serve(1);
     builder.commands(1, WRITE, [0, 0], &[0, 1]);
@@ -34,8 +32,6 @@ pub fn two_stored(width: u32) -> Pair {
     let mut builder = Builder::opened(THREE_BLOCKS, width);
     builder.serve(0);
     builder.serve(1);
-    builder.commands(1, WRITE, [0, 0], &[0, 1]);
-    builder.commands(0, READ, [0, 0], &[0, 1]);
     builder.commands(4, WRITE, [0, 1], &[0, 1, 2, 3]);
     builder.read([0, 2]);
     builder.turn(0);
@@ -43,23 +39,20 @@ pub fn two_stored(width: u32) -> Pair {
 }
 
 /// This tells of words that were lent to a turn answered 3 and are lent again.
-/// Words have two bits: a turn that draws an order of four slots and is lent
-/// four words is answered 3 exactly if the second and the third are 3. Lent
-/// again to two requests, for block 1 and then for block 0, they make block
-/// 0's next partition 1. One list asks for it again, the other for block 1.
+/// Words have two bits: a turn that draws an order of four slots for two jobs
+/// and is lent four words is answered 3 exactly if the second and the third are
+/// 3. Lent again to two requests, for block 1 and then for block 0, they add a
+/// job to the two and make block 0's next partition 1. One list asks for it
+/// again, the other for block 1.
 pub fn lent_again() -> Pair {
     let mut builder = Builder::opened(TWO_BLOCKS, 2);
     builder.serve(0);
-    builder.commands(1, WRITE, [1, 0], &[0, 1]);
-    builder.commands(0, READ, [1, 0], &[0, 1]);
     builder.turn(4);
     builder.serve(1);
     builder.read([0, 0]);
-    builder.commands(3, WRITE, [1, 1], &[0, 1, 2, 3]);
-    builder.commands(1, WRITE, [0, 0], &[0, 1]);
-    builder.any_read([0, 0], 2);
+    builder.commands(4, WRITE, [1, 1], &[0, 1, 2, 3]);
+    builder.commands(0, WRITE, [1, 0], &[0, 1]);
     builder.collect();
-    builder.commands(1, WRITE, [1, 0], &[0, 1]);
     builder.read([0, 1]);
     builder.turn(0);
     builder.pair()
@@ -73,8 +66,6 @@ pub fn lent_again() -> Pair {
 pub fn drawn_again() -> Pair {
     let mut builder = Builder::opened(TWO_BLOCKS, 2);
     builder.serve(0);
-    builder.commands(1, WRITE, [1, 0], &[0, 1]);
-    builder.commands(0, READ, [1, 0], &[0, 1]);
     builder.turn(4);
     builder.serve(1);
     builder.complete(WRITE, [1, 1], 0);

@@ -6,7 +6,7 @@ use super::{Builder, LONGEST, MOST_NUMBERS, Pair, builder};
 use crate::calls::Ask;
 use crate::form::longest;
 use crate::shape::Shape;
-use crate::state::{READ, State, WRITE};
+use crate::state::{State, WRITE};
 
 const TWO_PARTITIONS: Shape = Shape::new(2, 2, 2, 1, 2, 1);
 const ONE_LEVEL: Shape = Shape::new(2, 2, 1, 1, 2, 1);
@@ -35,8 +35,6 @@ pub fn reloading(shape: Shape, width: u32, seed: u64) -> Pair {
 pub fn reloaded_marks(width: u32) -> Pair {
     let mut builder = Builder::opened(TWO_PARTITIONS, width);
     builder.serve(0);
-    builder.commands(1, WRITE, [1, 0], &[0, 1]);
-    builder.commands(0, READ, [1, 0], &[0, 1]);
     builder.commands(3, WRITE, [1, 1], &[0, 1, 2, 3]);
     builder.reload();
     builder.read([1, 1]);

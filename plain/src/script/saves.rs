@@ -46,7 +46,10 @@ impl Script {
         let Some(state) = &self.store.state else {
             return self.after_refusal();
         };
-        let (at_rest, begun) = (state.is_at_rest(), state.begun && state.request.is_none());
+        let (at_rest, begun) = (
+            state.is_at_rest(),
+            state.begun > 0 && state.request.is_none(),
+        );
         match (self.rng.below(100), forms) {
             (0..3, _) => self.bad(),
             (3..6, _) => self.refused_save(),

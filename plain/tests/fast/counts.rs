@@ -3,17 +3,18 @@
 
 use plain::calls::{Ask, Outcome};
 use plain::found::Found;
-use plain::situations::Situation;
+use plain::situations::{self, Situation};
 use plain::state::{State, Step, WRITE};
 use std::collections::BTreeMap;
 
-/// What look-ups beside an undrawn job meet (document 02, P4).
+/// What look-ups beside an undrawn job meet (document 02, P4), and jobs that run
+/// together (P7).
 #[derive(Clone, Copy, Debug, PartialEq, Eq, PartialOrd, Ord)]
 pub enum Met {
-    /// What the model tells of the state after the release.
+    /// What the model tells of the state after the release, and of runs.
     Told(Situation),
     /// The request was released at acceptance, by the end of a job of another
-    /// partition, or of its own.
+    /// partition, or by the end or the beginning of its own.
     AtAcceptance,
     AfterOther,
     AfterOwn,
@@ -68,24 +69,29 @@ pub const ALL_MET: [Met; 23] = [
 /// What is looked at before a call.
 pub struct Before {
     step: Option<Step>,
-    /// The partition of the front job, and the block that it would choose.
+    /// The partition of the front job, and the blocks that it would choose.
     front: Option<usize>,
-    chosen: Option<usize>,
+    chosen: Vec<usize>,
     in_hand: Option<usize>,
     /// Whether the request in hand is beside the job.
     beside: bool,
+    /// What tells whether jobs run together.
+    together: situations::Before,
 }
 
 impl Before {
-    pub fn look(state: &State) -> Before {
+    pub fn look(state: &State, ask: &Ask) -> Before {
         let (step, front) = (state.step(), state.queue.front().copied());
         let draws = step == Some(Step::FirstWrite);
         Before {
             step,
             front,
-            chosen: front.filter(|_| draws).and_then(|q| state.chosen(q)),
+            chosen: front
+                .filter(|_| draws)
+                .map_or(Vec::new(), |q| state.chosen(q)),
             in_hand: state.request.as_ref().map(|request| request.block),
             beside: state.beside().is_some(),
+            together: situations::Before::look(state, ask),
         }
     }
 }
@@ -121,19 +127,23 @@ impl Counts {
     }
 
     /// Counts what a call reaches, given the state after it.
-    pub fn call(&mut self, before: &Before, ask: &Ask, outcome: &Outcome, state: &State) {
+    pub fn call(&mut self, before: Before, ask: &Ask, outcome: &Outcome, state: &State) {
         self.numbers[usize::from(outcome.number)] += 1;
         self.most_jobs = self.most_jobs.max(state.queue.len());
         match ask {
-            Ask::Turn if outcome.number == 10 => self.idle(before, state),
+            Ask::Turn if outcome.number == 10 => self.idle(&before, state),
             _ if outcome.number != 0 => {}
             Ask::Request { block, .. } => self.accepted = state.look_up(*block),
-            Ask::Turn => self.turn(before, outcome, state),
-            Ask::Collect => self.collect(before, outcome, state),
+            Ask::Turn => self.turn(&before, outcome, state),
+            Ask::Collect => self.collect(&before, outcome, state),
             _ => {}
         }
         if !before.beside && state.beside().is_some() {
-            self.release(before, state);
+            self.release(&before, state);
+        }
+        if outcome.number == 0 {
+            let met = before.together.met(ask, state);
+            met.into_iter().for_each(|met| self.add(Met::Told(met)));
         }
     }
 
@@ -166,14 +176,20 @@ impl Counts {
                     _ if block == before.in_hand => Met::ReadsOwn,
                     _ => Met::ReadsOther,
                 });
-                let mut sources = state.levels[q][..state.sources(q)].iter();
-                if sources.all(|source| source.is_spent()) {
+                if state
+                    .source_levels(q)
+                    .into_iter()
+                    .all(|source| state.levels[q][source].is_spent())
+                {
                     self.add(Met::LeavesNone);
                 }
             }
             Some(Step::JobRead(..)) if before.beside => self.add(Met::JobReads),
             Some(Step::FirstWrite) => {
-                if before.chosen.is_some() && before.chosen == self.collected {
+                if self
+                    .collected
+                    .is_some_and(|block| before.chosen.contains(&block))
+                {
                     self.add(Met::ChosenAgain);
                 }
                 self.collected = None;
@@ -212,9 +228,12 @@ impl Counts {
             _ if before.front == Some(q) => Met::AfterOwn,
             _ => Met::AfterOther,
         });
-        let sources = &state.levels[q][..state.sources(q)];
-        if sources.iter().all(|source| source.is_spent()) {
-            self.add(match sources {
+        let sources = state.source_levels(q);
+        if sources
+            .iter()
+            .all(|source| state.levels[q][*source].is_spent())
+        {
+            self.add(match sources[..] {
                 [] => Met::NoSource,
                 _ => Met::AllSpent,
             });
