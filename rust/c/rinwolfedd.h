@@ -121,11 +121,12 @@ uint64_t rinwolfedd_request(uint8_t *state, size_t state_len,
                             const uint8_t *tape, size_t tape_len);
 
 /* Sends one command; a write's bytes go into the buffer, which has exactly B. A
- * turn that begins to write a level of 2^k slots draws 2^k - 1 numbers, at most
- * 255; others take no word. A draw below m passes over words at or above the
- * largest multiple of m that is at most 65536; they count as taken, so lend 64
- * to spare. A turn that answers RINWOLFEDD_TOO_FEW_WORDS takes none; if the
- * store is to hide, none of the words lent to it may be lent again. */
+ * turn that sends the first write of jobs draws 2^k - 1 numbers for each level of
+ * 2^k slots that they write, at most 375 together; others take no word. A draw
+ * below m passes over words at or above the largest multiple of m that is at most
+ * 65536; they count as taken, so lend 64 to spare. A turn that answers
+ * RINWOLFEDD_TOO_FEW_WORDS takes none; if the store is to hide, none of the words
+ * lent to it may be lent again. */
 uint64_t rinwolfedd_turn(uint8_t *state, size_t state_len,
                          uint8_t *memory, size_t memory_len,
                          const uint8_t *tape, size_t tape_len,

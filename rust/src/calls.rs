@@ -199,7 +199,7 @@ pub fn request(
 }
 
 /// Sends one command; a write's bytes go into the buffer. Words are taken by a
-/// turn that draws an order, with those that it passes over: lend some to spare.
+/// turn that draws orders, with those that it passes over: lend some to spare.
 /// **For a store that hides, the words lent to a turn that answers 3 are not
 /// lent again**, nor any that was taken. A [`Store`](crate::Store) with a
 /// [`Tape`](crate::Tape) sees to it; here it is the caller's part. At most

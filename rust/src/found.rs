@@ -10,8 +10,9 @@ const LEVELS: u8 = 8;
 /// held by jobs of its partition, or was accepted if none held it. A
 /// [`Reader`](crate::Reader) does all jobs before the next look-up, so that none
 /// of its requests is held, unless it is told to
-/// [leave jobs](crate::Reader::leave_jobs). A block whose slot a job has read
-/// since is found in its level until the job gives it a new place.
+/// [leave jobs](crate::Reader::leave_jobs) or to let them
+/// [gather](crate::Reader::gather_jobs). A block whose slot a job has read since
+/// is found in its level until the job gives it a new place.
 ///
 /// **It is for the owner of the store, not for its host.** It tells what the
 /// commands hide: whether the block was ever asked for, and whether that was not

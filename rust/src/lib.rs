@@ -91,6 +91,24 @@
 //! # Ok::<(), Error>(())
 //! ```
 //!
+//! Jobs of one partition that are queued together run together, and send fewer
+//! commands than one after the other. Where storage is billed by the command, they
+//! are let gather ([`Reader::gather_jobs`]); [`Reader::commands`] tells how many
+//! were sent in all:
+//!
+//! ```
+//! # use rinwolfedd::{Error, MemoryHost, Reader, Shape};
+//! # let shape = Shape::hiding(64, 8)?;
+//! # let mut reader = Reader::open(shape, MemoryHost::new(shape, 1)?)?;
+//! reader.gather_jobs(16); // those of eight look-ups
+//! for fish in (0..64).cycle().take(640) {
+//!     reader.read(fish)?;
+//! }
+//! reader.settle()?;
+//! println!("{:.1} commands for each", reader.commands() as f64 / 640.0);
+//! # Ok::<(), Error>(())
+//! ```
+//!
 //! # Saving
 //!
 //! The machine is shut down between seasons. [`Reader::save`] writes the client, of

@@ -29,7 +29,8 @@ const RANDOM: &str = "/dev/urandom";
 /// outstanding; so the next look-up finds nothing in its way. A reader that is
 /// told to [leave jobs](Reader::leave_jobs) returns as soon as it has the
 /// contents, and the next look-up is asked while jobs of earlier ones are still
-/// to be done.
+/// to be done. One that lets them [gather](Reader::gather_jobs) runs those of one
+/// partition together, which costs fewer commands.
 ///
 /// With E = N the commands do not tell which block was looked up, nor whether
 /// it was read or written; the bytes beside them do, unless the host
@@ -63,8 +64,10 @@ pub struct Reader<H, R = File> {
     /// Whether a look-up, or a run of jobs that were left, has begun and not come
     /// to its end.
     unfinished: bool,
-    /// How many jobs a look-up may leave.
+    /// With more jobs than `most_left` a look-up runs some, until at most
+    /// `runs_to` are left.
     most_left: usize,
+    runs_to: usize,
     /// The store's first save, by which its files are told from others.
     first_save: Option<SaveId>,
     tally: Tally,
@@ -131,6 +134,7 @@ impl<H: Host, R: Read> Reader<H, R> {
             sent: 0,
             unfinished: false,
             most_left: 0,
+            runs_to: 0,
             first_save: None,
             tally: Tally::new(shape.levels()),
             waits: Waits::default(),
@@ -205,6 +209,13 @@ impl<H: Host, R: Read> Reader<H, R> {
     /// Hands out for how many commands look-ups waited so far, and begins anew.
     pub fn take_waits(&mut self) -> Waits {
         std::mem::take(&mut self.waits)
+    }
+
+    /// How many commands were sent in all since the reader was opened or loaded:
+    /// those of look-ups, and those of jobs, whenever they were run.
+    #[must_use]
+    pub fn commands(&self) -> u64 {
+        self.sent
     }
 
     /// Looks a block up: hands out its contents, and tells where it was found.

@@ -138,12 +138,12 @@ impl Store {
     }
 
     /// Sends one command, with the bytes of a write; those of a read are
-    /// empty. A turn that draws an order takes a word for each of up to 255
-    /// draws, and those that it passes over ([`Tape`]): with 64 more than draws
-    /// it is refused less than once in 10^120 times, with none to spare one of
-    /// five of the longest orders is. The bytes are those of a
-    /// block, or zeros: whoever seals them seals all of them, each time anew
-    /// ([`Host`](crate::Host#sealing)).
+    /// empty. A turn that draws the orders of the levels that jobs write takes a
+    /// word for each of up to 375 draws, and those that it passes over
+    /// ([`Tape`]): with 64 more than draws it is refused less than once in 10^120
+    /// times, with none to spare one of five with the most draws is. The bytes
+    /// are those of a block, or zeros: whoever seals them seals all of them, each
+    /// time anew ([`Host`](crate::Host#sealing)).
     ///
     /// # Errors
     ///
@@ -203,7 +203,7 @@ impl Store {
 
     /// How many jobs are queued, one that has begun among them: at most 64, and
     /// with more than 62 no request is accepted. The host can count them, too: a
-    /// collect queues two, and a job leaves with its last write.
+    /// collect queues two, and a job leaves with the last write of its run.
     #[must_use]
     pub fn queued(&self) -> usize {
         self.number(JOBS)

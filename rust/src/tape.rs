@@ -20,19 +20,11 @@ use std::io::{self, Read};
 /// ```
 /// # use rinwolfedd::{Refusal, Request, Shape, Store, Tape};
 /// // one that hides anything is random
-/// let mut tape = Tape::new(&[0; 8]);
+/// let mut tape = Tape::new(&[0; 6]);
 /// let mut store = Store::open(Shape::new(1, 1, 2, 1), &mut tape)?;
 /// store.request(Request::Read { block: 0 }, &mut tape)?;
-/// store.collect()?;
-/// let (write, _) = store.turn(&mut tape)?; // the order of two slots
-/// store.completion(write, &[])?;
-/// let (write, _) = store.turn(&mut tape)?;
-/// store.completion(write, &[])?;
-/// for _ in 0..2 {
-///     let (read, _) = store.turn(&mut tape)?;
-///     store.completion(read, &[0])?;
-/// }
-/// // the order of four: below 3 the word 65,535 is passed over
+/// store.collect()?; // its two jobs run together, and write level 1
+/// // the order of its four slots: below 3 the word 65,535 is passed over
 /// let mut few = Tape::new(&[0, 0, 255, 255, 1, 0]);
 /// assert_eq!(store.turn(&mut few), Err(Refusal::TooFewWords));
 /// assert_eq!((few.taken(), few.left()), (0, 0));

@@ -57,8 +57,9 @@ impl fmt::Display for Wait {
 ///
 /// The two differ by the jobs that are run in between. A reader that leaves no
 /// jobs runs both of a look-up then; one that leaves
-/// [some](crate::Reader::leave_jobs) seldom has to run any. What is sent between
-/// look-ups does not count.
+/// [some](crate::Reader::leave_jobs) seldom has to run any, and one that lets them
+/// [gather](crate::Reader::gather_jobs) runs many now and then. What is sent
+/// between look-ups does not count; [`commands`](crate::Reader::commands) has it.
 ///
 /// ```
 /// use rinwolfedd::{Error, MemoryHost, Reader, Shape};

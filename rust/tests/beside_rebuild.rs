@@ -1,12 +1,13 @@
 //! Look-ups while a partition is rebuilt (document 02, P4), followed by hand.
 //!
-//! The store has one partition of two levels. Block 0, whose byte is 7, is in slot
-//! 1 of level 0, and slot 0 holds a dummy. The only job queued is at the front: it
-//! is to read level 0 and to write level 1.
+//! The store has two partitions of two levels. In partition 0, block 0, whose byte
+//! is 7, is in slot 1 of level 0, and slot 0 holds a dummy; block 1 is nowhere. The
+//! only job queued is at the front: it is to read level 0 of partition 0 and to
+//! write level 1. jobs_together.rs has look-ups beside several.
 
 use rinwolfedd::{Command, Found, Kind, Refusal, Request, Shape, Store, Tape};
 
-const SHAPE: Shape = Shape::new(2, 1, 2, 1).with_window(4);
+const SHAPE: Shape = Shape::new(3, 2, 2, 1).with_window(4);
 
 /// The host's slots of level 0, as the first job wrote them.
 const BYTES: [u8; 2] = [0, 7];
@@ -38,29 +39,45 @@ fn request(store: &mut Store, block: usize) {
     store.request(read, &mut Tape::new(&[0; 4])).unwrap();
 }
 
+/// Turns that send these, one after the other, each completed at once.
+fn run(store: &mut Store, commands: &[&str]) {
+    for wanted in commands {
+        let command = sends(store, wanted);
+        complete(store, command);
+    }
+}
+
 /// What a collect hands out.
 fn collects(store: &mut Store, byte: u8, found: Found) {
     assert_eq!(store.collect(), Ok((&[byte][..], found)));
 }
 
 fn rebuilding() -> Store {
-    let mut store = Store::open(SHAPE, &mut Tape::new(&[0; 4])).unwrap();
+    // blocks 0 and 1 are of partition 0, block 2 of partition 1
+    let mut store = Store::open(SHAPE, &mut Tape::new(&[0, 0, 0, 0, 1, 0])).unwrap();
     let write = Request::Write {
         block: 0,
         contents: &[7],
     };
-    store.request(write, &mut Tape::new(&[0; 4])).unwrap();
+    // its partition is 0 again; a job for 0, and one for 1
+    let words = [0, 0, 1, 0];
+    store.request(write, &mut Tape::new(&words)).unwrap();
     collects(&mut store, 0, Found::Nowhere);
-    for command in ["w 0 0 0", "w 0 0 1"] {
-        let write = sends(&mut store, command);
-        complete(&mut store, write);
-    }
+    run(&mut store, &["w 0 0 0", "w 0 0 1", "w 1 0 0", "w 1 0 1"]);
+    // a job for 1, and one for 0
+    let (read, words) = (Request::Read { block: 2 }, [1, 0, 0, 0]);
+    store.request(read, &mut Tape::new(&words)).unwrap();
+    run(&mut store, &["r 1 0 1"]);
+    collects(&mut store, 0, Found::Nowhere);
+    run(&mut store, &["r 1 0 0"]);
+    run(&mut store, &["w 1 1 0", "w 1 1 1", "w 1 1 2", "w 1 1 3"]);
     assert_eq!(store.queued(), 1);
     store
 }
 
 /// The job draws its order and writes: the request is collected and all that was
-/// sent before has completed.
+/// sent before has completed. The jobs that the collect has queued came too late
+/// to run together with it.
 fn draws(store: &mut Store) {
     sends(store, "w 0 1 0");
 }
@@ -157,7 +174,8 @@ fn a_request_that_is_held() {
         let write = sends(&mut store, &format!("w 0 1 {slot}"));
         complete(&mut store, write);
     }
-    // the counter is 2: the next job writes level 0, and two of it are queued
+    // the counter is 2 and can grow by 1: of the two that are queued the next runs
+    // alone, and writes level 0
     for slot in 0..2 {
         assert_eq!(store.collect(), Err(Refusal::NotFinished));
         let write = sends(&mut store, &format!("w 0 0 {slot}"));

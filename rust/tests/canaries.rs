@@ -30,7 +30,8 @@ fn state(rng: &mut Rng, len: usize) -> Vec<u8> {
         *word = rng.below(4) as u16;
     }
     words[11] = rng.below(6) as u16; // where a block was found; in range below 5
-    words[14] = rng.below(3) as u16; // whether the front job has begun; below 2
+    words[14] = rng.below(5) as u16; // for how many jobs the front one runs; up to 3
+    words[14] *= u16::from(words[13] > 0 || rng.chance(10)); // 0 without a job
     if rng.chance(30) {
         words[rng.below(words.len())] = rng.step() as u16;
     }

@@ -13,13 +13,14 @@ const SMALL: Shape = Shape::new(1, 2, 2, 1);
 
 /// The words of an open and of four look-ups of SMALL. After the block's next
 /// partition and the eviction partition come the orders of the levels that the
-/// two jobs write: 1 word for level 0, 3 for level 1.
+/// two jobs write, together if both are for one partition: 1 word for level 0, 3
+/// for level 1.
 const WORDS: [&[u16]; 5] = [
     &[0],
-    &[1, 0, 0, 0, 0, 0], // partition 0 is rebuilt twice: the block waits for 1
-    &[1, 1, 0, 0, 0, 0], // partition 1, twice: the block goes to level 0, then 1
-    &[1, 0, 0, 0],       // partition 1, then 0: level 0 each, the block in 1's
-    &[0; 80],            // whatever follows, and what may be passed over
+    &[1, 0, 0, 0, 0], // partition 0, by both jobs: the block waits for 1
+    &[1, 1, 0, 0, 0], // partition 1, by both: the block goes to level 1
+    &[1, 0, 0, 0],    // partition 1, then 0: level 0 each, the block in 1's
+    &[0; 80],         // whatever follows, and what may be passed over
 ];
 
 fn bytes(words: &[u16]) -> Vec<u8> {

@@ -1,7 +1,8 @@
 //! A reader that leaves jobs. Its contents are those of an array, whatever is
 //! left, however that changes, and in whichever order hosts complete; its
 //! look-ups wait for fewer commands, and errors end it as they do without jobs
-//! left. left_words.rs has the words that it lends.
+//! left. gathered_jobs.rs has readers that let them gather, left_words.rs the words
+//! that both lend.
 
 #[path = "common/hosts.rs"]
 mod hosts;
@@ -135,7 +136,8 @@ fn waits(most: usize, pauses: bool) -> Waits {
 
 /// The caller waits for the reads of the request alone if jobs are done in
 /// pauses, and hardly longer for the contents if the jobs of the look-up before
-/// are left; what is sent in all stays the same.
+/// are left; what is sent in all is hardly less, as few of so few jobs are for one
+/// partition.
 #[test]
 fn look_ups_wait_for_fewer_commands() {
     let [whole, paused, row] = [(0, false), (62, true), (2, false)].map(|(n, p)| waits(n, p));
@@ -205,7 +207,10 @@ fn a_host_that_fails_midway() {
         let mut host = Ordered::new([First::Oldest, First::Newest][completed % 2]);
         host.left = completed % 300;
         let mut reader = Reader::open(shape, host).unwrap();
-        reader.leave_jobs([1, 4, 62][completed % 3]);
+        match completed % 4 {
+            3 => reader.gather_jobs(completed % 64),
+            some => reader.leave_jobs([1, 4, 62][some]),
+        }
         let mut array = [[0; 4]; 8];
         let failed = (0..).find_map(|tag: u32| {
             let new = tag.to_le_bytes();

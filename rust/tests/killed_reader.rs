@@ -84,10 +84,14 @@ impl Client {
         Ok(())
     }
 
-    /// A season, with look-ups that leave jobs and others that do not, and its save.
+    /// A season, with look-ups that leave jobs or let them gather and others that do
+    /// not, and its save.
     fn season(&mut self, folder: &Path, rng: &mut Rng) -> Result<(), Error> {
         for (block, contents) in writes(self.season + 1) {
-            self.reader.leave_jobs(rng.below(9));
+            match rng.chance(70) {
+                true => self.reader.leave_jobs(rng.below(9)),
+                false => self.reader.gather_jobs(rng.below(30)),
+            }
             let before = self.reader.write(block, &contents)?.contents;
             assert_eq!(before, self.array[block]);
             self.array[block] = contents;

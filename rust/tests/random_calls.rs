@@ -60,8 +60,8 @@ const WATCHED: usize = 8192;
 /// What was met: how often each number was answered, and a block found at each
 /// place, by its number; the most jobs queued, the rebuilds of a full partition,
 /// and those with all levels filled; what requests read; in stores of the smaller
-/// shapes look-ups while a partition is rebuilt, and what occurs in saves and
-/// loads.
+/// shapes look-ups while a partition is rebuilt and jobs that run together; and
+/// what occurs in saves and loads.
 #[derive(Default)]
 struct Met {
     numbers: [usize; 19],
@@ -144,12 +144,12 @@ fn check(met: &Met, calls: usize, seconds: f64) {
     println!("  found nowhere, in the cache, in level 0 to 7: {found:?}");
     println!("  rebuilds: {full} of a full partition, {wraps} with all levels filled");
     println!("  of {} requests: {:?}", reads.collected, reads.times);
-    println!("  beside a rebuild: {beside:?}");
+    println!("  beside a rebuild and of runs: {beside:?}");
     println!("  saves and loads: {saved:?}");
     assert!(made >= calls && *most_jobs == 64);
     assert!(found[..5].iter().all(|count| *count > calls / 2000));
     assert!(*full > calls / 2000 && *wraps > calls / 2000);
-    assert!(beside.least()[0] > calls / 4000 && beside.damaged_only() == [0; 2]);
+    assert!(beside.least()[0] > calls / 4000 && beside.damaged_only() == 0);
     assert_eq!(reads.seldom(calls / 40_000), []);
     for (number, count) in numbers.iter().enumerate() {
         assert!(*count > calls / 20_000, "{number} is answered too rarely");

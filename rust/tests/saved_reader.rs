@@ -12,6 +12,7 @@ use rinwolfedd::{Reader, Recorded, Resumed, Shape};
 use std::fs;
 use std::io::{self, ErrorKind, Read};
 use std::os::unix::fs::PermissionsExt;
+use std::path::Path;
 
 const SHAPE: Shape = Shape::new(24, 4, 4, 6).with_window(5);
 
@@ -38,6 +39,30 @@ fn look_up<H: Host, R: Read>(
     }
 }
 
+/// The counter and the jobs of each partition.
+fn counters<H: Host, R: Read>(reader: &Reader<H, R>) -> Vec<(usize, usize)> {
+    let summary = reader.summary();
+    let each = summary.partitions().iter();
+    each.map(|of| (of.counter(), of.queued())).collect()
+}
+
+/// How many jobs were run by a save, and for which partition: those of one run at
+/// most, by which its counter grew, or one with which it fell.
+fn run_between(before: &[(usize, usize)], after: &[(usize, usize)]) -> Option<(usize, usize)> {
+    let full = (1 << SHAPE.levels()) - 1;
+    let both = before.iter().zip(after).enumerate();
+    let mut changed = both.filter(|(_, (before, after))| before != after);
+    let (q, ((counter, queued), (grown, left))) = changed.next()?;
+    assert_eq!(changed.next(), None, "jobs of one partition at most");
+    let run = queued - left;
+    let counters = match *counter == full {
+        true => (1, 1 << (SHAPE.levels() - 1)),
+        false => (run, counter + run),
+    };
+    assert_eq!((run, *grown), counters);
+    Some((q, run))
+}
+
 fn all_of<H: Host, R: Read>(reader: &mut Reader<H, R>) -> Array {
     let block = |block| reader.read(block).unwrap().contents.try_into().unwrap();
     (0..SHAPE.blocks()).map(block).collect()
@@ -56,9 +81,9 @@ fn seasons_go_on_from_the_last_save() {
         reader.leave_jobs(rng.below(12));
         look_up(&mut reader, &mut array, &mut rng, season % 7);
         reader.advance(rng.below(20)).unwrap();
-        let left = reader.jobs_left();
+        let before = counters(&reader);
         reader.save(&client).unwrap();
-        assert!([left, left.saturating_sub(1)].contains(&reader.jobs_left()));
+        run_between(&before, &counters(&reader));
         let (left, page) = (reader.jobs_left(), reader.page());
         let mut later = array.clone();
         look_up(&mut reader, &mut later, &mut rng, season % 4);
@@ -252,32 +277,73 @@ fn a_host_that_does_not_fit() {
     assert!(loaded.is_ok());
 }
 
-/// A job that has begun is run to its end before a save, and no other.
+/// Saves twice, and says how many jobs were run for it: what is sent is of one
+/// partition and no more than a run may send, and nothing at the second save.
+fn jobs_run_by_a_save(reader: &mut Reader<Recorded<MemoryHost>>, client: &Path) -> usize {
+    let before = counters(reader);
+    reader.host_mut().take();
+    reader.save(client).unwrap();
+    let run = run_between(&before, &counters(reader));
+    let sent = reader.host_mut().take();
+    let (q, jobs) = run.unwrap_or_default();
+    assert!(sent.len() <= [0, 30 + 16][jobs.min(1)]);
+    assert!(sent.iter().all(|sent| usize::from(sent.partition) == q));
+    reader.save(client).unwrap();
+    assert!(reader.host_mut().take().is_empty(), "it is at rest");
+    jobs
+}
+
+/// A job that has begun is run to its end before a save, with those that it took
+/// with it, and no other.
 #[test]
-fn a_save_ends_the_job_that_has_begun() {
+fn a_save_ends_the_run_that_has_begun() {
     let folder = Folder::new("begun");
     let client = folder.path("client");
     let host = Recorded::new(MemoryHost::new(SHAPE, 1).unwrap());
     let mut reader = Reader::open(SHAPE, host).unwrap();
     reader.write_all([[1; 6]; 24]).unwrap();
-    reader.leave_jobs(62);
-    let [mut begun, mut whole] = [0; 2];
-    for round in 0..60 {
-        reader.read(round % 24).unwrap();
-        reader.advance(round % 5).unwrap();
-        let (jobs, sent) = (reader.jobs_left(), reader.host().commands().len());
-        reader.save(&client).unwrap();
-        let more = reader.host().commands().len() - sent;
-        match jobs - reader.jobs_left() {
-            0 => assert_eq!(more, 0),
-            1 => assert!(more <= 2 * 30 + 16, "no more than a job's"),
-            _ => panic!("one job at most"),
-        }
-        begun += jobs - reader.jobs_left();
-        whole += usize::from(reader.jobs_left() > 0);
-        let (again, _) = Reader::load(&client, reader.into_host()).unwrap();
-        reader = again;
+    let (mut runs, mut whole) = ([0; 3], 0);
+    for round in 0..200 {
         reader.leave_jobs(62);
+        for look_up in 0..round % 4 {
+            reader.read((7 * round + look_up) % 24).unwrap();
+        }
+        match round % 8 {
+            7 => reader.settle().unwrap(),
+            some => drop(reader.advance(some % 5).unwrap()),
+        }
+        let jobs = jobs_run_by_a_save(&mut reader, &client);
+        runs[jobs.min(2)] += 1;
+        whole += usize::from(reader.jobs_left() > 0);
+        reader = Reader::load(&client, reader.into_host()).unwrap().0;
     }
-    assert!(begun > 20 && whole > 20, "{begun} {whole}");
+    println!("none, one or more jobs were run: {runs:?}; {whole} with jobs left");
+    assert!(runs.iter().all(|count| *count > 10) && whole > 50);
+}
+
+/// A save asks for the words of the run that has begun: for as many as one job may
+/// take, or two if it may be of more. Where there are fewer nothing is sent, and
+/// the reader goes on.
+#[test]
+fn words_of_a_run_that_is_saved() {
+    let folder = Folder::new("words");
+    // an open takes 24, the request 2, and the order of four slots 3; two jobs may
+    // take 15 and pass over 32 each
+    for words in 24 + 2 + 94..=24 + 2 + 3 + 94 + 1 {
+        let source = io::repeat(5).take(2 * words);
+        let host = Recorded::new(MemoryHost::new(SHAPE, 1).unwrap());
+        let mut reader = Reader::with_words(SHAPE, host, source).unwrap();
+        reader.leave_jobs(62);
+        reader.read(0).unwrap(); // both jobs are for one partition
+        reader.advance(1).unwrap();
+        let before = counters(&reader);
+        let saved = reader.save(folder.path(&words.to_string()));
+        assert_eq!(saved.is_ok(), words >= 24 + 2 + 3 + 94);
+        let run = run_between(&before, &counters(&reader));
+        assert_eq!(run.map(|(_, jobs)| jobs), saved.is_ok().then_some(2));
+        let sent = reader.host().commands().len();
+        assert_eq!(sent, [1, 4][usize::from(saved.is_ok())]);
+        let none = matches!(saved, Err(Error::Words(_)));
+        assert!(none != saved.is_ok() && !reader.is_unfinished());
+    }
 }

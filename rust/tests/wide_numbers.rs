@@ -40,8 +40,9 @@ fn requests() {
 #[test]
 fn completions() {
     let (mut state, mut memory) = opened();
-    // a request, collected at once, queues two jobs; the first writes two slots of level 0
-    let asked = calls::request(&mut state, &mut memory, READ, 3, &[], &[0; 4]);
+    // a request, collected at once, queues a job for either partition; the first
+    // writes two slots of level 0
+    let asked = calls::request(&mut state, &mut memory, READ, 3, &[], &[0, 0, 1, 0]);
     let collected = calls::collect(&mut state, &mut memory, &mut [0; 4]);
     let sent = calls::turn(&mut state, &mut memory, &[0; 2], &mut [0; 4]);
     assert_eq!([asked.number(), collected.number(), sent.number()], [0; 3]);
@@ -137,18 +138,70 @@ fn commands_awaited() {
     assert_eq!([window + 1, 32, 255, 65535].map(collected), [2; 4]);
 }
 
-/// Whether the front job has begun is 0 or 1, whatever is queued.
+/// A store of these levels with so many jobs queued, the front one for the
+/// second of two partitions, whose counter is this; the first one's is 0.
+fn queued(levels: usize, jobs: u16, counter: u16) -> ([u8; STATE], Vec<u8>) {
+    const JOBS: usize = 4 * 13;
+    let shape = Shape::new(2, 2, levels, 1).with_window(1);
+    let mut state = [0; STATE];
+    let mut memory = vec![0; shape.needed().expect("a shape within bounds")];
+    let answer = calls::open(&mut state, &mut memory, shape.numbers(), &[0; 4]);
+    assert_eq!(answer.number(), 0);
+    state[JOBS..JOBS + 2].copy_from_slice(&jobs.to_le_bytes());
+    memory[0] = 1;
+    // the counters come behind 128 numbers of two bytes
+    memory[2 * 129..2 * 130].copy_from_slice(&counter.to_le_bytes());
+    (state, memory)
+}
+
+/// What a page answers of such a store, with this in place of one of its numbers.
+fn with_number(store: &([u8; STATE], Vec<u8>), place: usize, number: u16) -> u8 {
+    let (mut state, memory) = (store.0, &store.1);
+    state[4 * place..4 * place + 2].copy_from_slice(&number.to_le_bytes());
+    calls::page(&state, memory, &mut [0; 87]).number()
+}
+
+/// For how many jobs the front one runs, once it has begun, is in its range up to
+/// 64 and to as many as the counter of its partition can grow by, or to 1 if all
+/// levels are filled; without a job it is 0. Whether as many are queued is not
+/// asked.
 #[test]
 fn a_job_that_has_begun() {
-    const BEGUN: usize = 4 * 14;
-    let (state, memory) = opened();
-    let page = |number: u16| {
-        let mut state = state;
-        state[BEGUN..BEGUN + 2].copy_from_slice(&number.to_le_bytes());
-        calls::page(&state, &memory, &mut [0; 87]).number()
-    };
-    assert_eq!([0, 1].map(page), [0; 2]);
-    assert_eq!([2, 3, 255, 256, 257, 65535].map(page), [2; 6]);
+    const BEGUN: usize = 14;
+    for levels in 1..=8 {
+        let full = (1u16 << levels) - 1;
+        for counter in 0..=full {
+            let most = (full - counter).clamp(1, 64);
+            for jobs in [1, 2, 64] {
+                let store = queued(levels, jobs, counter);
+                let told = |number| with_number(&store, BEGUN, number);
+                assert_eq!([0, 1, most].map(told), [0; 3], "{levels} {counter}");
+                let over = [most + 1, most + 64, 256, 257, 256 + most, 65535];
+                assert_eq!(over.map(told), [2; 6], "{levels} {counter}");
+            }
+            let store = queued(levels, 0, counter);
+            let told = |number| with_number(&store, BEGUN, number);
+            assert_eq!([0, 1, most, 256].map(told), [0, 2, 2, 2]);
+        }
+    }
+}
+
+/// How many slots of its sources the front job has gone over, and how many writes
+/// it has sent, are in their range up to the slots of all levels, 2^(L+1) - 2.
+#[test]
+fn slots_gone_over_and_writes_sent() {
+    for levels in 1..=8 {
+        let slots = (2u16 << levels) - 2;
+        for place in [15, 16] {
+            for jobs in [0, 1] {
+                let store = queued(levels, jobs, 0);
+                let told = |number| with_number(&store, place, number);
+                assert_eq!([0, 1, slots].map(told), [0; 3], "number {place}");
+                let over = [slots + 1, slots + 2, slots + 256, 65535];
+                assert_eq!(over.map(told), [2; 4], "number {place}");
+            }
+        }
+    }
 }
 
 #[test]

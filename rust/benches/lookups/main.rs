@@ -1,17 +1,19 @@
 //! What whole look-ups cost beside the plain implementation, in the same run:
 //! for each shape the commands of a look-up, nanoseconds per command of both,
 //! and their ratio; with a host in memory, and with one that does nothing. Then
-//! for how many commands look-ups through the reader wait, what a page costs and
-//! how that grows with N and with P, and what a save and a load cost.
+//! for how many commands look-ups through the reader wait, how many they send in
+//! all if jobs gather, what a page costs and how that grows with N and with P, and
+//! what a save and a load cost.
 //!
 //! `cargo bench` prints the tables. `cargo bench -- --docs ../docs` also puts
 //! them into MEASUREMENTS.md there, between its two marks, and writes the plot
 //! measurements.svg. `cargo bench -- --waits` prints for how many commands
-//! look-ups wait, `-- --saves` what a save and a load cost, and nothing else is
-//! done.
+//! look-ups wait, `-- --gathered` how many they send if jobs gather, `-- --saves`
+//! what a save and a load cost, and nothing else is done.
 
 #[path = "../../tests/common/convert.rs"]
 mod convert;
+mod gathered;
 mod pages;
 mod plot;
 mod proved;
@@ -24,7 +26,7 @@ use plain::fast;
 use plain::lookups::{Client, Host, LookUps, Measure, Memory, Nothing, SHAPES};
 use plain::shape::Shape;
 use proved::Proved;
-use reader::Look;
+use report::Measured;
 use std::error::Error;
 use std::path::Path;
 use std::process::ExitCode;
@@ -134,23 +136,36 @@ fn run() -> Result<(), Box<dyn Error>> {
         print!("{}", report::saves(&saves::all()));
         return Ok(());
     }
-    let streams = waits::all()?;
-    if is_asked("--waits") {
-        print!("{}", report::waits(&streams));
+    if is_asked("--gathered") {
+        print!("{}", report::gathered(&gathered::all()?));
         return Ok(());
     }
-    let shapes: Vec<Row> = SHAPES.into_iter().map(row).collect();
-    let growing: Vec<Row> = GROWING.into_iter().map(row).collect();
-    let looks: Result<Vec<Look>, _> = SHAPES.into_iter().map(reader::look).collect();
-    let (pages, saves) = (pages::all()?, saves::all());
-    let text = report::text(&shapes, &growing, &looks?, &streams, &pages, &saves);
+    if is_asked("--waits") {
+        print!("{}", report::waits(&waits::all()?));
+        return Ok(());
+    }
+    let measured = measure_all()?;
+    let text = report::text(&measured);
     print!("{text}");
     if let Some(docs) = docs() {
         let docs = Path::new(&docs);
         report::put(&docs.join("MEASUREMENTS.md"), &text)?;
-        std::fs::write(docs.join("measurements.svg"), plot::svg(&shapes))?;
+        std::fs::write(docs.join("measurements.svg"), plot::svg(&measured.shapes))?;
     }
     Ok(())
+}
+
+fn measure_all() -> Result<Measured, rinwolfedd::Error> {
+    let looks: Result<_, _> = SHAPES.into_iter().map(reader::look).collect();
+    Ok(Measured {
+        streams: waits::all()?,
+        gathered: gathered::all()?,
+        shapes: SHAPES.into_iter().map(row).collect(),
+        growing: GROWING.into_iter().map(row).collect(),
+        looks: looks?,
+        pages: pages::all()?,
+        saves: saves::all(),
+    })
 }
 
 fn main() -> ExitCode {

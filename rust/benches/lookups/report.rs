@@ -1,6 +1,7 @@
 //! The tables, and their place in docs/MEASUREMENTS.md.
 
 use crate::Row;
+use crate::gathered::Gathered;
 use crate::pages::{Page, Pages};
 use crate::reader::Look;
 use crate::saves::Saves;
@@ -104,6 +105,30 @@ pub fn waits(streams: &[Stream]) -> String {
     text
 }
 
+/// How many commands look-ups send in all, and for how many they wait, if jobs
+/// gather.
+pub fn gathered(all: &[Gathered]) -> String {
+    let mut text = String::new();
+    text += "| N | P | L | B | jobs gathered | commands | contents: mean | most | return: mean | most |\n";
+    text += "|--:|--:|--:|--:|--:|--:|--:|--:|--:|--:|\n";
+    for one in all {
+        let (h, jobs, commands) = (one.shape, one.jobs, one.commands);
+        let (contents, returned) = (one.waits.contents(), one.waits.returned());
+        text += &format!(
+            "| {} | {} | {} | {} | {jobs} | {commands:.1} | {:.1} | {} | {:.1} | {} |\n",
+            h.blocks,
+            h.partitions,
+            h.levels,
+            h.bytes,
+            contents.mean(),
+            contents.most(),
+            returned.mean(),
+            returned.most(),
+        );
+    }
+    text
+}
+
 /// Pages in microseconds, and in nanoseconds for each block.
 fn table_of_pages(pages: &[Page]) -> String {
     let mut text = String::new();
@@ -179,28 +204,34 @@ pub fn saves(all: &[Saves]) -> String {
     text
 }
 
-pub fn text(
-    shapes: &[Row],
-    growing: &[Row],
-    looks: &[Look],
-    streams: &[Stream],
-    pages: &Pages,
-    saves: &[Saves],
-) -> String {
+/// All that is measured.
+pub struct Measured {
+    pub shapes: Vec<Row>,
+    pub growing: Vec<Row>,
+    pub looks: Vec<Look>,
+    pub streams: Vec<Stream>,
+    pub gathered: Vec<Gathered>,
+    pub pages: Pages,
+    pub saves: Vec<Saves>,
+}
+
+pub fn text(all: &Measured) -> String {
     format!(
         "Machine: {}.\n\n{}\n{}\nN alone grows; P = 64, L = 8 and B = 64 throughout:\n\n{}\n{}\n\
          Look-ups through the reader, in microseconds each:\n\n{}\n\
-         Commands for which look-ups through the reader wait, of those asked one after the other:\n\n{}\n{}\n\
+         Commands for which look-ups through the reader wait, of those asked one after the other:\n\n{}\n\
+         Commands of a look-up through the reader, those of its jobs among them, if jobs gather:\n\n{}\n{}\n\
          Saves and loads, in microseconds each, of a store after look-ups and of the longest form:\n\n{}",
         machine(),
-        table(shapes),
-        growth(shapes),
-        table(growing),
-        growth(growing),
-        reader(looks),
-        waits(streams),
-        self::pages(pages),
-        self::saves(saves),
+        table(&all.shapes),
+        growth(&all.shapes),
+        table(&all.growing),
+        growth(&all.growing),
+        reader(&all.looks),
+        waits(&all.streams),
+        gathered(&all.gathered),
+        pages(&all.pages),
+        saves(&all.saves),
     )
 }
 

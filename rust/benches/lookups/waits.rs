@@ -10,7 +10,7 @@ use plain::shape::Shape;
 use rinwolfedd::{Error, MemoryHost, Reader, Waits};
 use std::io::{self, Read};
 
-const LOOK_UPS: usize = 20_000;
+pub const LOOK_UPS: usize = 20_000;
 
 /// How many jobs look-ups leave, and whether there are pauses between them, in
 /// which as many commands of jobs are sent as a look-up takes in all.
@@ -25,7 +25,7 @@ pub struct Stream {
 }
 
 /// The same words each time.
-struct Words(Rng);
+pub struct Words(Rng);
 
 impl Read for Words {
     fn read(&mut self, buffer: &mut [u8]) -> io::Result<usize> {
@@ -34,15 +34,26 @@ impl Read for Words {
     }
 }
 
+/// A reader with every block stored.
+pub fn stored(shape: Shape) -> Result<Reader<MemoryHost, Words>, Error> {
+    let (host, words) = (MemoryHost::new(linked(shape), 1)?, Words(Rng::new(1)));
+    let mut reader = Reader::with_words(linked(shape), host, words)?;
+    let contents = vec![1; shape.bytes];
+    reader.write_all((0..shape.blocks).map(|_| &contents))?;
+    Ok(reader)
+}
+
+/// The look-ups after which the counters have wrapped.
+pub fn wrapping(shape: Shape) -> usize {
+    shape.partitions << shape.levels
+}
+
 /// Stores every block, looks up until the counters have wrapped, and then makes
 /// the look-ups that count.
 fn stream(shape: Shape, left: usize, pause: usize) -> Result<Stream, Error> {
-    let (host, words) = (MemoryHost::new(linked(shape), 1)?, Words(Rng::new(1)));
-    let mut reader = Reader::with_words(linked(shape), host, words)?;
-    let (contents, mut rng) = (vec![1; shape.bytes], Rng::new(2));
-    reader.write_all((0..shape.blocks).map(|_| &contents))?;
+    let (mut reader, mut rng) = (stored(shape)?, Rng::new(2));
     reader.leave_jobs(left);
-    let before = shape.partitions << shape.levels;
+    let before = wrapping(shape);
     for look_up in 0..before + LOOK_UPS {
         if look_up == before {
             reader.take_waits();

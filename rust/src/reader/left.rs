@@ -45,7 +45,9 @@ impl<H: Host, R: Read> Reader<H, R> {
     /// jobs are left, the more look-ups in a row return at once, and the longer an
     /// unlucky one waits. Twice as many as look-ups come in a row are a good
     /// choice. All jobs have to be run in the end: who never pauses waits for
-    /// them. [`waits`](Reader::waits) tells for how many commands look-ups waited.
+    /// them. Those of one partition that are queued when the first of them begins
+    /// run together and end at once, and so a look-up may leave fewer.
+    /// [`waits`](Reader::waits) tells for how many commands look-ups waited.
     ///
     /// Look-ups hide their blocks as well as before: what is sent, and when,
     /// depends on what the host has seen, and never on the block. The host sees
@@ -54,6 +56,46 @@ impl<H: Host, R: Read> Reader<H, R> {
     /// jobs that are too many.
     pub fn leave_jobs(&mut self, most: usize) {
         self.most_left = most.min(MOST);
+        self.runs_to = self.most_left;
+    }
+
+    /// Lets jobs gather until so many are queued: the look-up that queues the last
+    /// of them runs them all. Jobs of one partition that have gathered run
+    /// together, and send fewer commands than one after the other: storage that is
+    /// billed by the command costs less. With 2 or fewer each look-up runs its own
+    /// two jobs, as a reader begins; more than 63 are taken as 63.
+    /// [`commands`](Reader::commands) tells how many were sent.
+    ///
+    /// ```
+    /// use rinwolfedd::{Error, MemoryHost, Reader, Shape};
+    ///
+    /// let shape = Shape::hiding(64, 8)?;
+    /// let mut commands = Vec::new();
+    /// for jobs in [0, 48] {
+    ///     let mut reader = Reader::open(shape, MemoryHost::new(shape, 1)?)?;
+    ///     reader.gather_jobs(jobs);
+    ///     for look_up in 0..1000 {
+    ///         reader.read(look_up * 7 % 64)?;
+    ///     }
+    ///     reader.settle()?;
+    ///     commands.push(reader.commands());
+    /// }
+    /// assert!(commands[1] < commands[0]);
+    /// # Ok::<(), Error>(())
+    /// ```
+    ///
+    /// Until they run, look-ups are as those of a reader that
+    /// [leaves jobs](Reader::leave_jobs), and hide their blocks as well: one whose
+    /// block's partition has a job queued waits for the jobs up to that, which
+    /// then run earlier. So few gather where there are few partitions, and where
+    /// there are many, more have to gather before some are for the same one: the
+    /// commands become fewer by a few in a hundred. The look-up that runs them all
+    /// waits long; [`settle`](Reader::settle) and [`advance`](Reader::advance) run
+    /// them while nobody waits. A reader leaves jobs or lets them gather, whichever
+    /// it was told last.
+    pub fn gather_jobs(&mut self, jobs: usize) {
+        self.most_left = jobs.clamp(1, MOST + 1) - 1;
+        self.runs_to = 0;
     }
 
     /// How many jobs are left to do, one that has begun among them.

@@ -46,8 +46,9 @@ impl<H: Saves> Reader<H> {
     /// one of another store, is refused, and nothing is changed.
     ///
     /// Jobs that were [left](Reader::leave_jobs) at the save are left now. How many
-    /// look-ups may leave, the [tally](Reader::tally) and the
-    /// [waits](Reader::waits) begin anew.
+    /// look-ups may leave or let [gather](Reader::gather_jobs), the
+    /// [tally](Reader::tally), the [waits](Reader::waits) and the number of
+    /// [commands](Reader::commands) begin anew.
     ///
     /// # What is proved of it
     ///
@@ -112,10 +113,9 @@ impl<H: Saves, R: Read> Reader<H, R> {
     /// store, and no other file; if that was written elsewhere, its file is of no
     /// use from now on. The reader goes on, and may be saved again.
     ///
-    /// A job that has begun is run to its end first, which sends at most what one
-    /// job does; jobs that are [left](Reader::leave_jobs) and have not begun are
-    /// saved as they are. Who wants none left calls [`settle`](Reader::settle)
-    /// before.
+    /// A job that has begun is run to its end first, with those that it took with
+    /// it; jobs that are [left](Reader::leave_jobs) and have not begun are saved as
+    /// they are. Who wants none left calls [`settle`](Reader::settle) before.
     ///
     /// **The file is the client's secret.** It has where each block is and the
     /// contents of those that wait in the cache, and nobody seals it: only its
@@ -128,7 +128,7 @@ impl<H: Saves, R: Read> Reader<H, R> {
     /// synced, and the reader goes on, unless its host does not. [`Error::Host`] and
     /// [`Error::NotRandom`] end the reader, as in a look-up; if it was the save's end
     /// that failed at the host, the save is good, and is to be loaded.
-    /// [`Error::Words`] for want of words for the job that has begun, or of the
+    /// [`Error::Words`] for want of words for the jobs that have begun, or of the
     /// system's random bytes; [`Error::Unfinished`] of a reader that failed midway,
     /// which can only go back to its last save.
     pub fn save(&mut self, path: impl AsRef<Path>) -> Result<SaveId, Error> {
@@ -156,7 +156,9 @@ impl<H: Saves, R: Read> Reader<H, R> {
         if saved != Err(Refusal::NotAtRest) || self.store.queued() == 0 {
             return Ok(saved?);
         }
-        let words = self.words_of(1);
+        // jobs that run together write at most all levels: for that the words of two
+        // are enough
+        let words = self.words_of(self.store.queued().min(2));
         self.words.ready(words).map_err(Error::Words)?;
         self.unfinished = true;
         self.run_jobs(self.store.queued() - 1)?;

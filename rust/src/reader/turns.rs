@@ -4,8 +4,8 @@
 //! the block, at contents, at where it was found or at how far the store is with
 //! it. What is done next depends on the numbers that calls answer and on how many
 //! commands were sent and completed; how many jobs are queued follows from these,
-//! as a collect queues two and a job leaves with its last write. What is proved of
-//! hiding covers callers that choose each call by what was told before it.
+//! as a collect queues two and the jobs of a run leave with its last write. What is
+//! proved of hiding covers callers that choose each call by what was told before it.
 
 use super::Reader;
 use crate::command::Kind;
@@ -27,7 +27,8 @@ const SPARE: usize = 32;
 
 impl<H: Host, R: Read> Reader<H, R> {
     /// The words of so many jobs: an order of at most 2^L slots for each, and
-    /// those that it may pass over.
+    /// those that it may pass over. Jobs that run together draw no more orders than
+    /// apart, and no longer ones.
     pub(super) fn words_of(&self, jobs: usize) -> usize {
         jobs * ((1 << self.shape().levels()) - 1 + SPARE)
     }
@@ -54,7 +55,9 @@ impl<H: Host, R: Read> Reader<H, R> {
         let found = self.fetch(before)?;
         self.tally.count(found);
         let contents = self.sent - start;
-        self.run_jobs(self.most_left)?;
+        if self.store.queued() > self.most_left {
+            self.run_jobs(self.runs_to)?;
+        }
         self.unfinished = false;
         self.waits.count(contents, self.sent - start);
         Ok(found)
@@ -125,7 +128,7 @@ impl<H: Host, R: Read> Reader<H, R> {
     }
 
     /// Runs jobs until at most so many are queued, and waits for the host only
-    /// where no command can be sent.
+    /// where no command can be sent. Those that run together leave at once.
     pub(super) fn run_jobs(&mut self, most: usize) -> Result<(), Error> {
         while self.store.queued() > most {
             self.step()?;

@@ -16,13 +16,15 @@ fn number(rng: &mut Rng, bound: usize) -> u16 {
     any as u16
 }
 
-/// What each number of the state may be at most; of jobs often fewer.
+/// What each number of the state may be at most; of jobs, and of those that run
+/// together, often fewer.
 fn bounds(shape: Shape, rng: &mut Rng) -> Vec<usize> {
     let (n, p, levels) = (shape.blocks, shape.partitions, shape.levels);
-    let (places, window) = (shape.places, shape.window);
+    let (places, window, slots) = (shape.places, shape.window, (2 << levels) - 2);
     let jobs = [4, 62, 64][rng.below(3)];
+    let begun = [1, 3, (1 << levels) - 1][rng.below(3)].min(64);
     let request = [2, n, p, p, levels, levels + 2, window];
-    let rest = [jobs, 1, (2 << levels) - 2, 1 << levels, places, window];
+    let rest = [jobs, begun, slots, slots, places, window];
     [&[4096, 64, 8, 512, n, 32][..], &request, &rest].concat()
 }
 
@@ -76,6 +78,10 @@ pub fn damage_memory(memory: &mut [u8], shape: Shape, rng: &mut Rng) {
     }
     if rng.chance(25) {
         wear(memory, shape, rng);
+    }
+    if rng.chance(40) {
+        let job = rng.below(p);
+        put(memory, 1 + rng.below(2), job as u16); // one of those behind the front
     }
     for _ in 0..rng.below(10) {
         let (first, count, bound) = tables[rng.below(tables.len())];

@@ -120,9 +120,9 @@ impl Random {
     fn rebuilds(&self, call: &Call) -> (bool, bool) {
         match &self.model.state {
             Some(state) if call.ask == Ask::Turn && state.step() == Some(Step::FirstWrite) => {
-                let (q, levels) = (state.queue[0], self.shape.levels);
-                let stored = state.stored(q, levels).count();
-                (stored == self.shape.capacity(), state.sources(q) == levels)
+                let q = state.queue[0];
+                let stored = state.stored(q).len();
+                (stored == self.shape.capacity(), state.is_full(q))
             }
             _ => (false, false),
         }

@@ -100,7 +100,7 @@ impl Random {
         };
         let at_rest = state.is_at_rest();
         // a job that has begun is often all that keeps it from rest
-        let begun = state.begun && state.request.is_none() && state.outstanding.is_empty();
+        let begun = state.begun > 0 && state.request.is_none() && state.outstanding.is_empty();
         match self.rng.below(1000) {
             0..10 => Some(self.save(0)),
             10..13 => Some(self.short_save()),

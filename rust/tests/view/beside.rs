@@ -6,20 +6,17 @@ use super::{Request, View, slots};
 use plain::state::Command;
 
 impl View {
-    /// The jobs for q in the queue.
-    fn jobs_for(&self, q: usize) -> usize {
-        self.queue.iter().filter(|job| **job == q).count()
-    }
-
     /// Whether the only job for q is at the front and has not drawn its order.
+    /// Those that have begun together count as one.
     pub fn is_beside(&self, q: usize) -> bool {
-        self.queue.first() == Some(&q) && self.jobs_for(q) == 1 && self.sent == 0
+        let only = self.jobs_for(q) <= self.begun.max(1);
+        self.queue.first() == Some(&q) && only && self.sent == 0
     }
 
     /// Whether the level is one of those that the front job, for q, gathers;
-    /// also once it has drawn its order.
+    /// also once it has drawn its orders.
     pub fn is_source(&self, q: usize, level: usize) -> bool {
-        self.queue.first() == Some(&q) && level < self.sources(q)
+        self.queue.first() == Some(&q) && self.sources(q).contains(&level)
     }
 
     pub fn is_filled(&self, q: usize, level: usize) -> bool {

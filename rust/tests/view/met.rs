@@ -1,5 +1,8 @@
-//! What occurs in look-ups while a partition is rebuilt (document 02, P4), so
-//! that tests can say that they reach it.
+//! What occurs in look-ups while a partition is rebuilt (document 02, P4) and
+//! when jobs of one partition run together (P7), so that tests can say that they
+//! reach it.
+
+mod together;
 
 use super::{Request, View, slots};
 use plain::calls::{Ask, Call, Outcome};
@@ -33,16 +36,70 @@ pub enum Met {
     AwaitsJob,
     /// A collect while reads of the job are outstanding, sent after the release.
     Overtakes,
+    /// A job begins: two run together,
+    Two,
+    /// or more.
+    More,
+    /// Fewer run than are queued for their partition, as its counter cannot grow
+    /// by more,
+    Cut,
+    /// or as all levels are filled.
+    Alone,
+    /// Orders of several levels are drawn.
+    SeveralLevels,
+    /// Several waiting blocks are taken.
+    SeveralBlocks,
+    /// A run of several jobs ends, and jobs for its partition that were queued
+    /// later stay.
+    LeftBehind,
+    /// A held request is released as a run of several jobs begins.
+    ReleasedByRun,
+    /// A request is released at once beside such a run,
+    BesideRun,
+    /// and collected before the run draws its orders.
+    CollectedBesideRun,
     /// A request is held beside such a job, as a level that is no source has been
     /// read 2^level times.
     Worn,
     /// A request is held and no job is queued.
     HeldByNone,
+    /// A call that is accepted finds the front job begun with more jobs than are
+    /// queued for its partition,
+    Unqueued,
+    /// and ends it.
+    EndsUnqueued,
 }
 
-/// What calls leave; `Worn` and `HeldByNone` are met in damaged states alone.
+/// What calls leave; the others, from `Worn` on, are met in damaged states alone.
 const LEFT_BY_CALLS: usize = Met::Worn as usize;
-const ALL: usize = Met::HeldByNone as usize + 1;
+const ALL: usize = Met::EndsUnqueued as usize + 1;
+const NAMES: [&str; ALL] = [
+    "unread",
+    "outstanding",
+    "completed",
+    "waiting",
+    "nowhere",
+    "higher",
+    "spent",
+    "begins",
+    "idle",
+    "awaits job",
+    "overtakes",
+    "two",
+    "more",
+    "cut",
+    "alone",
+    "several levels",
+    "several blocks",
+    "left behind",
+    "released by a run",
+    "beside a run",
+    "collected beside a run",
+    "worn",
+    "held by none",
+    "unqueued",
+    "ends unqueued",
+];
 
 /// How often each was met.
 #[derive(Clone, Copy, Default, PartialEq, Eq)]
@@ -59,29 +116,14 @@ impl Counts {
         [left, others].map(|counts| counts.iter().copied().min().unwrap_or(0))
     }
 
-    /// How often each of what no call leaves was met.
-    pub fn damaged_only(&self) -> &[usize] {
-        &self.0[LEFT_BY_CALLS..]
+    /// How often anything was met that no call leaves.
+    pub fn damaged_only(&self) -> usize {
+        self.0[LEFT_BY_CALLS..].iter().sum()
     }
 }
 
 impl fmt::Debug for Counts {
     fn fmt(&self, f: &mut fmt::Formatter<'_>) -> fmt::Result {
-        const NAMES: [&str; ALL] = [
-            "unread",
-            "outstanding",
-            "completed",
-            "waiting",
-            "nowhere",
-            "higher",
-            "spent",
-            "begins",
-            "idle",
-            "awaits job",
-            "overtakes",
-            "worn",
-            "held by none",
-        ];
         let each = NAMES.iter().zip(self.0);
         let each: Vec<String> = each
             .map(|(name, count)| format!("{count} {name}"))
@@ -111,7 +153,7 @@ impl View {
         };
         let spent = |level| (0..slots(level)).all(|slot| !self.is_unread(q, level, slot));
         let mut met = vec![self.own(q, request.block)];
-        met.extend((0..self.sources(q)).any(spent).then_some(Met::Spent));
+        met.extend(self.sources(q).into_iter().any(spent).then_some(Met::Spent));
         met
     }
 
@@ -172,7 +214,12 @@ impl Watch {
             (Ask::Collect, 14) => met.extend(self.awaits_job(before).then_some(Met::AwaitsJob)),
             _ => {}
         }
-        if told.number == 0 && after.is_released() && !before.is_released() {
+        if told.number != 0 {
+            return met;
+        }
+        met.extend(before.met_together(call, after));
+        met.extend(before.met_unqueued(call, after));
+        if after.is_released() && !before.is_released() {
             self.of_job.clone_from(&after.outstanding);
             met.extend(after.met_at_release());
         }
@@ -189,7 +236,7 @@ impl Watch {
 /// Whether a turn sent a request's read, and that began the job.
 fn begins(before: &View, after: &View) -> bool {
     let level = |view: &View| view.request.as_ref().map(|r| r.level);
-    before.begun == 0 && after.begun == 1 && level(before) != level(after)
+    before.begun == 0 && after.begun > 0 && level(before) != level(after)
 }
 
 /// Whether the collected request leaves commands of its partition behind.

@@ -2,13 +2,14 @@
 //! docs/MEMORY.md: every content stands for one, as an entry out of its range
 //! reads as 0. `step` has what the rules say of it, also of states that no
 //! call left (docs/DECISIONS.md), `beside` of look-ups while a partition is
-//! rebuilt, `met` what of these occurs, `form` of saving and loading, and `page`
-//! its page.
+//! rebuilt, `runs` of jobs that run together, `met` what of these occurs, `form`
+//! of saving and loading, and `page` its page.
 
 mod beside;
 mod form;
 pub mod met;
 mod page;
+mod runs;
 pub mod step;
 
 use plain::found::Found;
@@ -60,8 +61,8 @@ pub struct View {
     pub holds: Vec<usize>,
     pub mark: Vec<usize>,
     pub queue: Vec<usize>,
-    /// 1 once the front job has begun; the slots of its sources that it has
-    /// gone over, and the writes that it has sent.
+    /// For how many jobs the front one runs, 0 until it has begun; the slots of
+    /// its sources that it has gone over, and the writes that it has sent.
     pub begun: usize,
     pub cursor: usize,
     pub sent: usize,
@@ -155,12 +156,13 @@ pub fn decode(state: &[u8], memory: &[u8]) -> Option<View> {
         return None;
     }
     let all = slots(shape.levels) - 2;
-    let job = c[BEGUN] <= 1 && c[CURSOR] <= all && c[SENT] <= 1 << shape.levels;
-    if !job || c[JOBS] > 64 || c[WAITING] > shape.places || c[OUT] > shape.window {
+    let job = c[JOBS] <= 64 && c[CURSOR] <= all && c[SENT] <= all;
+    if !job || c[WAITING] > shape.places || c[OUT] > shape.window {
         return None;
     }
     let view = Tables { shape, memory }.view(&c);
-    view.hand_in_range().then_some(view)
+    let in_range = view.run_in_range() && view.hand_in_range();
+    in_range.then_some(view)
 }
 
 impl Tables<'_> {
@@ -248,12 +250,15 @@ impl View {
         self.holds[self.cell(q, level, i)].checked_sub(1)
     }
 
-    /// The blocks that slots of q hold, in levels below `top`, one for each
-    /// slot.
-    fn held_in(&self, q: usize, top: usize) -> impl Iterator<Item = usize> {
-        let first = self.cell(q, 0, 0);
-        let cells = &self.holds[first..first + slots(top) - slots(0)];
-        cells.iter().filter_map(|held| held.checked_sub(1))
+    /// The blocks that slots of these levels of q hold, one for each slot.
+    fn held_in(
+        &self,
+        q: usize,
+        levels: impl IntoIterator<Item = usize>,
+    ) -> impl Iterator<Item = usize> {
+        let each = move |level| (0..slots(level)).map(move |slot| (level, slot));
+        let all = levels.into_iter().flat_map(each);
+        all.filter_map(move |(level, slot)| self.holder(q, level, slot))
     }
 
     /// Where a block is. One that has a slot and waits, as no call leaves it, is

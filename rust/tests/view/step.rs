@@ -3,10 +3,8 @@
 use super::{Request, View, cells, slots};
 use plain::calls::{Ask, Call, Draws, Outcome, ask};
 use plain::found::Found;
-use plain::mistakes::Mistake;
 use plain::shape::Shape;
 use plain::state::{Command, READ, WRITE};
-use plain::turn::{order, order_bounds};
 
 /// What a turn does next.
 #[derive(Clone, Copy, Debug, PartialEq, Eq)]
@@ -15,7 +13,7 @@ enum Step {
     NoDummy,
     RequestRead(Command),
     JobRead(Command),
-    /// The first write, of the level that is its target.
+    /// The first write, for which the orders are drawn.
     Rebuild(Command),
     Write(Command),
 }
@@ -135,27 +133,8 @@ impl View {
         Ok(Handed::default())
     }
 
-    /// How many levels a rebuild of q reads, and the one that it writes.
-    pub fn sources(&self, q: usize) -> usize {
-        (self.counter[q].trailing_ones() as usize).min(self.shape.levels)
-    }
-
-    fn target(&self, q: usize) -> usize {
-        self.sources(q).min(self.shape.levels - 1)
-    }
-
     pub fn busy(&self, q: usize) -> bool {
         self.outstanding.iter().any(|c| c.partition == q)
-    }
-
-    /// The next slot of its sources that the front job, for q, reads.
-    pub fn unread(&self, q: usize) -> Option<(usize, usize)> {
-        (0..self.sources(q))
-            .flat_map(|level| (0..slots(level)).map(move |slot| (level, slot)))
-            .find(|(level, slot)| {
-                let passed = slots(*level) - 2 + slot < self.cursor;
-                !passed && self.is_unread(q, *level, *slot)
-            })
     }
 
     fn decide(&self) -> Option<Step> {
@@ -167,16 +146,16 @@ impl View {
             return Some(slot.map_or(Step::NoDummy, read));
         }
         let q = *self.queue.first()?;
-        let target = self.target(q);
+        let write = self.writes(q).get(self.sent).copied();
+        let write = write.map(|(level, slot)| command(WRITE, q, level, slot));
         if self.sent > 0 {
-            let write = Step::Write(command(WRITE, q, target, self.sent));
-            return (self.sent < slots(target)).then_some(write);
+            return write.map(Step::Write);
         }
         match self.unread(q) {
             Some((level, slot)) => Some(Step::JobRead(command(READ, q, level, slot))),
-            // the order is drawn only after the request is collected
+            // the orders are drawn only after the request is collected
             None if self.busy(q) || self.released_for(q).is_some() => None,
-            None => Some(Step::Rebuild(command(WRITE, q, target, 0))),
+            None => write.map(Step::Rebuild),
         }
     }
 
@@ -192,12 +171,12 @@ impl View {
                 c
             }
             Step::JobRead(c) => {
-                self.begun = 1;
+                self.begun = self.joined(c.partition);
                 self.cursor = slots(c.level) - 2 + c.slot + 1;
                 c
             }
             Step::Rebuild(c) => {
-                self.rebuild(c.partition, c.level, draws)?;
+                self.rebuild(c.partition, draws)?;
                 c
             }
             Step::Write(c) => c,
@@ -208,7 +187,7 @@ impl View {
             self.mark[cell] = 0;
             return Ok((sent, Vec::new(), Found::Nowhere));
         }
-        self.sent = sent.slot + 1;
+        self.sent += 1;
         let held = self.holder(sent.partition, sent.level, sent.slot);
         let zeros = vec![0; self.shape.bytes];
         let bytes = held.map_or(zeros, |b| self.bytes[b].clone());
@@ -219,47 +198,12 @@ impl View {
     /// a source's is a command of the job, too.
     fn pass_level(&mut self, read: Command) {
         if self.is_source(read.partition, read.level) {
-            self.begun = 1;
+            self.begun = self.joined(read.partition);
         }
         if let Some(request) = &mut self.request {
             request.level = read.level + 1;
             request.awaits = self.outstanding.len() + 1;
         }
-    }
-
-    /// The block that has waited longest for q, if q has room.
-    fn chosen(&self, q: usize) -> Option<usize> {
-        let stored = self.held_in(q, self.shape.levels).count();
-        let waits = |b: &&usize| self.partition[**b] == q;
-        let first = self.waiting.iter().find(waits).copied();
-        first.filter(|_| stored < self.shape.capacity())
-    }
-
-    fn rebuild(&mut self, q: usize, target: usize, draws: &mut Draws) -> Result<(), u8> {
-        ask(draws.settle(order_bounds(slots(target), Mistake::None)), 3)?;
-        let sources = self.sources(q);
-        let chosen = self.chosen(q);
-        let mut gathered: Vec<usize> = self.held_in(q, sources).chain(chosen).collect();
-        gathered.sort();
-        gathered.dedup();
-        ask(gathered.len() <= 1 << target, 2)?;
-        let order = order(slots(target), Mistake::None, draws);
-        self.begun = 1;
-        if let Some(at) = self.waiting.iter().position(|b| Some(*b) == chosen) {
-            self.waiting.remove(at);
-        }
-        let (first, cells) = (self.cell(q, 0, 0), slots(sources) - 2);
-        self.holds[first..first + cells].fill(0);
-        for (item, slot) in order.into_iter().enumerate() {
-            let (at, cell) = (self.cell(q, target, item), self.cell(q, target, slot));
-            self.order[at] = slot;
-            self.mark[cell] = 1;
-            self.holds[cell] = gathered.get(item).map_or(0, |b| b + 1);
-            if let Some(block) = gathered.get(item) {
-                self.place[*block] = Some((target, slot));
-            }
-        }
-        Ok(())
     }
 
     fn completion(&mut self, command: Command, bytes: &[u8]) -> Result<Handed, u8> {
@@ -282,25 +226,6 @@ impl View {
             self.bytes[block] = bytes.to_vec();
         }
         Ok(Handed::default())
-    }
-
-    /// The front job is done once all its writes are sent and none is
-    /// outstanding.
-    fn finish_job(&mut self) {
-        let Some(q) = self.queue.first().copied() else {
-            return;
-        };
-        let writes = self.outstanding.iter().any(|c| c.kind == WRITE);
-        if writes || self.sent != slots(self.target(q)) {
-            return;
-        }
-        let full = (1 << self.shape.levels) - 1;
-        self.counter[q] = match self.counter[q] {
-            c if c == full => self.shape.capacity(),
-            c => c + 1,
-        };
-        self.queue.remove(0);
-        (self.begun, self.cursor, self.sent) = (0, 0, 0);
     }
 
     fn collect(&mut self, buffer: usize) -> Result<Handed, u8> {
