@@ -7,6 +7,7 @@ use crate::reader::Look;
 use crate::saves::Saves;
 use crate::waits::Stream;
 use plain::shape::Shape;
+use rinwolfedd::Waits;
 use std::io;
 use std::path::Path;
 
@@ -82,25 +83,31 @@ fn reader(looks: &[Look]) -> String {
     text
 }
 
+/// A row: a shape, two columns that are told, and for how many commands look-ups
+/// waited.
+fn waiting(h: Shape, told: &str, waits: &Waits) -> String {
+    let (contents, returned) = (waits.contents(), waits.returned());
+    format!(
+        "| {} | {} | {} | {} | {told} | {:.1} | {} | {:.1} | {} |\n",
+        h.blocks,
+        h.partitions,
+        h.levels,
+        h.bytes,
+        contents.mean(),
+        contents.most(),
+        returned.mean(),
+        returned.most(),
+    )
+}
+
 /// For how many commands look-ups wait.
 pub fn waits(streams: &[Stream]) -> String {
     let mut text = String::new();
     text += "| N | P | L | B | jobs left | pause | contents: mean | most | return: mean | most |\n";
     text += "|--:|--:|--:|--:|--:|--:|--:|--:|--:|--:|\n";
     for stream in streams {
-        let (h, left, pause) = (stream.shape, stream.left, stream.pause);
-        let (contents, returned) = (stream.waits.contents(), stream.waits.returned());
-        text += &format!(
-            "| {} | {} | {} | {} | {left} | {pause} | {:.1} | {} | {:.1} | {} |\n",
-            h.blocks,
-            h.partitions,
-            h.levels,
-            h.bytes,
-            contents.mean(),
-            contents.most(),
-            returned.mean(),
-            returned.most(),
-        );
+        let told = format!("{} | {}", stream.left, stream.pause);
+        text += &waiting(stream.shape, &told, &stream.waits);
     }
     text
 }
@@ -112,19 +119,8 @@ pub fn gathered(all: &[Gathered]) -> String {
     text += "| N | P | L | B | jobs gathered | commands | contents: mean | most | return: mean | most |\n";
     text += "|--:|--:|--:|--:|--:|--:|--:|--:|--:|--:|\n";
     for one in all {
-        let (h, jobs, commands) = (one.shape, one.jobs, one.commands);
-        let (contents, returned) = (one.waits.contents(), one.waits.returned());
-        text += &format!(
-            "| {} | {} | {} | {} | {jobs} | {commands:.1} | {:.1} | {} | {:.1} | {} |\n",
-            h.blocks,
-            h.partitions,
-            h.levels,
-            h.bytes,
-            contents.mean(),
-            contents.most(),
-            returned.mean(),
-            returned.most(),
-        );
+        let told = format!("{} | {:.1}", one.jobs, one.commands);
+        text += &waiting(one.shape, &told, &one.waits);
     }
     text
 }
