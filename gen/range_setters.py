@@ -20,7 +20,6 @@ SETTERS = {
     'Bytes': ('ℕ → List ℕ', {}),
     'Counter': ('ℕ → ℕ', {
         'counters': '(q : ℕ) → q < s .shape .P → x q < 2 ^ s .shape .L',
-        'begun': 'JobIn (s .shape) x (s .queue) (s .begun)',
     }),
     'Order': ('ℕ → ℕ', {
         'orders': EACH_SLOT + ' < slots ℓ',
@@ -37,11 +36,10 @@ SETTERS = {
     }),
     'Queue': ('List ℕ', {
         'queue': 'All (λ q. q < s .shape .P) x',
-        'begun': 'JobIn (s .shape) (s .counter) x (s .begun)',
         'jobs': 'JobsIn x (s .request)',
     }),
     'Begun': ('ℕ', {
-        'begun': 'JobIn (s .shape) (s .counter) (s .queue) x',
+        'begun': 'x ≤ 64',
     }),
     'Cursor': ('ℕ', {
         'cursor': 'x ≤ slots (s .shape .L) - 2',
@@ -70,7 +68,7 @@ use Rattle.rules.specs.State.{State, Command, Place, Request}
 use Rattle.rules.specs.Setters.{%s}
 use Rattle.lists.specs.All.{All, IfSome}
 use Rattle.rules.specs.Laws.Waiting.{Waits}
-use Rattle.rules.specs.Laws.Range.{PlaceIn, CommandIn, RequestIn, JobsIn, JobIn, InRange}
+use Rattle.rules.specs.Laws.Range.{PlaceIn, CommandIn, RequestIn, JobsIn, InRange}
 
 module _ (s : State) (f : InRange s) where
 ''' % ', '.join('set' + name for name in SETTERS)

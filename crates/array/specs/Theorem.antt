@@ -82,7 +82,7 @@ module _ (s : State) (last has : Slots) (array : ℕ → List ℕ) (f : Reached 
   turn-contents idle js d h w f′ = unfold doStep store in k
   turn-contents noDummy js d h w f′ = unfold doStep store in k
   turn-contents (readForRequest q ℓ i) js d h w f′ = rw (store-read q ℓ i (Run.written (doStep (readForRequest q ℓ i) js s) (cmd read q ℓ i)) last) (request-contents s f last has array k q ℓ i (h .1) (h .2) (request-unread s f q ℓ i d) js)
-  turn-contents (readForJob q ℓ i) js d h w f′ = rw (store-read q ℓ i (Run.written (doStep (readForJob q ℓ i) js s) (cmd read q ℓ i)) last) (job-contents s f last has array k q ℓ i (h .1) (h .2) (job-unread s f q ℓ i d) js)
+  turn-contents (readForJob q ℓ i) js d h w f′ = rw (store-read q ℓ i (Run.written (doStep (readForJob q ℓ i) js s) (cmd read q ℓ i)) last) (job-contents s f last has array k q ℓ i (h .1) (h .2) (job-unread s f q ℓ i d) (d .calm) js)
   turn-contents (rebuild q ls) js d h w f′ = unfold doStep in (rebuild-contents s f last has array k q ls (fills ls js (gathered s q)) (drawing s f q ls js d w) f′)
   turn-contents (writeNext q t i) js d h w f′ = write-contents s f last has array k q t i d js f′
 

@@ -35,7 +35,7 @@ use Rattle.reachable.specs.Kept.Rebuild.Commands.{top-in, first-write}
 use Rattle.reachable.specs.Kept.Rebuild.Drawing.{Drawing, Here, place-in, place-out}
 use Rattle.reachable.specs.Kept.Rebuild.Marks.{mark-else}
 use Rattle.rules.specs.Request.{isFront, isSource, passLevel}
-use Rattle.reachable.specs.Live.{writeNumber, joined-begun, front-is}
+use Rattle.reachable.specs.Live.{writeNumber, joined-begun, source-why, front-is}
 use Rattle.reachable.specs.Outstanding.{command-is, is-command, decOne}
 use Rattle.reachable.specs.Slots.{front-in, why-gathered}
 use Rattle.reachable.specs.Terms.{One}
@@ -113,15 +113,15 @@ module _ (s : State) (f : Reached s) (last has : Slots) (array : ℕ → List �
 
   pub request-contents : (js : List ℕ) → Contents (doStep (readForRequest q ℓ i) js s) last has array
   unfolding doStep Turn.send Turn.markRead
-  request-contents js = aside-contents r′ last has array read-contents (if isSource s q ℓ then joined s q else s .begun) (s .cursor) (passLevel ℓ (suc (length (s .outstanding))) (s .request)) (go (isSource s q ℓ))
+  request-contents js = aside-contents r′ last has array read-contents (if isSource s q ℓ then joined s q else s .begun) (s .cursor) (passLevel ℓ (suc (length (s .outstanding))) (s .request)) (go (isSource s q ℓ) refl)
     where
-      go : (b : Bool) → (s .sent ≡ 0 → ⊥) → (if b then joined s q else s .begun) ≡ s .begun
-      go true n = joined-begun s q (busy-begun s f n)
-      go false n = refl
+      go : (b : Bool) → isSource s q ℓ ≡ b → (s .sent ≡ 0 → ⊥) → (if b then joined s q else s .begun) ≡ s .begun
+      go true e n = joined-begun s (f .running) q (source-why s q ℓ e .0) (busy-begun s f n)
+      go false e n = refl
 
-  pub job-contents : (js : List ℕ) → Contents (doStep (readForJob q ℓ i) js s) last has array
+  pub job-contents : s .sent ≡ 0 → (js : List ℕ) → Contents (doStep (readForJob q ℓ i) js s) last has array
   unfolding doStep Turn.send Turn.markRead
-  job-contents js = aside-contents r′ last has array read-contents (joined s q) (suc (offset ℓ i)) (s .request) (λ n. joined-begun s q (busy-begun s f n))
+  job-contents z js = aside-contents r′ last has array read-contents (joined s q) (suc (offset ℓ i)) (s .request) (λ n. absurd (n z))
 
 -- A further write
 module _ (s : State) (f : Reached s) (last has : Slots) (array : ℕ → List ℕ) (k : Contents s last has array) (q t i : ℕ) (d : Writes s q t i) (js : List ℕ) (f′ : Reached (doStep (writeNext q t i) js s)) where

@@ -11,9 +11,9 @@ use lib.Seq.{drop-cons}
 use lib.Dec.{eqb, ltb}
 use borrow.Author.Tests.{lt-ltb, le-ltb, eq-eqb, ne-eqb}
 use Rattle.lists.specs.Tests.{if_then_else_, and-false}
-use Rattle.lists.specs.Search.{keep}
+use Rattle.lists.specs.Search.{keep, withoutFirst}
 use Rattle.lists.specs.Tables.{put, put-other}
-use Rattle.lists.specs.Leaving.{withoutFirst, without-first-none, without-first-yes, without-first-no, without-first-behind}
+use Rattle.lists.specs.Leaving.{without-first-none, without-first-yes, without-first-no, without-first-behind}
 use Rattle.rules.specs.Setters.{setWaiting}
 use Rattle.rules.specs.Rebuild.{leave}
 use Rattle.rules.specs.Laws.Leaving.{leave-first}

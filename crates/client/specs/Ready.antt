@@ -17,11 +17,10 @@ use Rattle.lists.specs.All.{All, nil, cons, IfSome}
 use Rattle.rules.specs.Shape.{Shape, within, slots, cell}
 use Rattle.rules.specs.State as R
 use Rattle.rules.specs.State.{read, write, nowhere, stored}
-use Rattle.rules.specs.Levels.{joins}
-use Rattle.rules.specs.Ranges.{isKind, bytesOf, jobFits, inRange}
+use Rattle.rules.specs.Ranges.{isKind, bytesOf, inRange}
 use Rattle.rules.specs.Laws.Levels.{levels-pos, partitions-pos}
 use Rattle.rules.specs.Laws.Waiting.{Waits, waits-le, others-room, room-others}
-use Rattle.rules.specs.Laws.Range.{PlaceIn, FoundIn, CommandIn, RequestIn, JobsIn, JobIn, InRange, job-in, in-job, range-facts, facts-range}
+use Rattle.rules.specs.Laws.Range.{PlaceIn, FoundIn, CommandIn, RequestIn, JobsIn, InRange, range-facts, facts-range}
 use Rattle.memory.specs.Tables.{Tables}
 use Rattle.memory.specs.Fits.{shapeOf, fit, fit-lt}
 use Rattle.client.specs.declared.Client.{Client}
@@ -42,11 +41,7 @@ handFits c waits = if eqb (c .request .kind) 0 then leb (c .jobs) 64 else ((requ
 
 unfoldable pub countsFit : Client → Bool
 countsFit c =
-    ((leb (c .cursor) (slots (c .shape .l) - 2) && leb (c .sent) (slots (c .shape .l) - 2)) && leb (c .out) (c .shape .w)) && leb (c .waiting) (c .shape .e)
-
--- the front job runs for no more jobs than may join; none has begun where none is queued
-unfoldable pub runFits : Client → Tables → Bool
-runFits c t = jobFits (λ q. joins (shapeOf (c .shape)) (view c t .counter q) 64) (view c t .queue) (c .begun)
+    (((leb (c .begun) 64 && leb (c .cursor) (slots (c .shape .l) - 2)) && leb (c .sent) (slots (c .shape .l) - 2)) && leb (c .out) (c .shape .w)) && leb (c .waiting) (c .shape .e)
 
 -- the request's block is among those that wait
 unfoldable pub ownWaits : Client → Tables → Bool
@@ -122,6 +117,7 @@ rows-all P g n h = go (below n)
 -- ---- The client's numbers, as facts
 
 pub record Counts (c : Client) : Type 0 where
+  pub begun : c .begun ≤ 64
   pub cursor : c .cursor ≤ slots (c .shape .l) - 2
   pub sent : c .sent ≤ slots (c .shape .l) - 2
   pub out : c .out ≤ c .shape .w
@@ -130,20 +126,23 @@ pub record Counts (c : Client) : Type 0 where
 pub counts-facts : (c : Client) → countsFit c ≡ true → Counts c
 unfolding countsFit
 counts-facts c e =
+    let j = leb (c .begun) 64 in
     let k = leb (c .cursor) (slots (c .shape .l) - 2) in
     let n = leb (c .sent) (slots (c .shape .l) - 2) in
     let a = and-l _ (leb (c .waiting) (c .shape .e)) e in
     let b = and-l _ (leb (c .out) (c .shape .w)) a in
+    let d = and-l (j && k) n b in
     record {
-      cursor = leb-true _ _ (and-l k n b);
-      sent = leb-true _ _ (and-r k n b);
-      out = leb-true _ _ (and-r (k && n) (leb (c .out) (c .shape .w)) a);
-      waiting = leb-true _ _ (and-r ((k && n) && leb (c .out) (c .shape .w)) (leb (c .waiting) (c .shape .e)) e);
+      begun = leb-true _ _ (and-l j k d);
+      cursor = leb-true _ _ (and-r j k d);
+      sent = leb-true _ _ (and-r (j && k) n b);
+      out = leb-true _ _ (and-r ((j && k) && n) (leb (c .out) (c .shape .w)) a);
+      waiting = leb-true _ _ (and-r (((j && k) && n) && leb (c .out) (c .shape .w)) (leb (c .waiting) (c .shape .e)) e);
     }
 
 facts-counts : (c : Client) → Counts c → countsFit c ≡ true
 unfolding countsFit
-facts-counts c f = and-true (and-true (and-true (le-leb _ _ (f .cursor)) (le-leb _ _ (f .sent))) (le-leb _ _ (f .out))) (le-leb _ _ (f .waiting))
+facts-counts c f = and-true (and-true (and-true (and-true (le-leb _ _ (f .begun)) (le-leb _ _ (f .cursor))) (le-leb _ _ (f .sent))) (le-leb _ _ (f .out))) (le-leb _ _ (f .waiting))
 
 pub record Asked (h : Shape) (r : Request) : Type 0 where
   pub some : 1 ≤ r .kind
@@ -277,9 +276,9 @@ module _ (c : Client) (t : Tables) (w : within (shapeOf (c .shape)) ≡ true) (f
           room-is : (ltb (length (view c t .waiting)) (c .shape .e) || member (c .request .block) (view c t .waiting)) ≡ true → (ltb (c .waiting) (c .shape .e) || waits) ≡ true
           room-is y = unfold ownWaits in (rw (waiting-are c t) at y)
 
-  range-of : Counts c → JobIn h (view c t .counter) (view c t .queue) (c .begun) → Hand (view c t .request) → InRange (view c t)
+  range-of : Counts c → Hand (view c t .request) → InRange (view c t)
   unfolding view
-  range-of f j g = record {
+  range-of f g = record {
     shape = w;
     partitions = λ b l. fit-lt (h .P) (t .partition b) (partitions-pos h w);
     places = λ b l. place-range (h .L) (fit (slots (h .L)) (t .place b)) (levels-pos h w) (fit-lt (slots (h .L)) (t .place b) (pow-pos (h .L + 1)));
@@ -290,7 +289,7 @@ module _ (c : Client) (t : Tables) (w : within (shapeOf (c .shape)) ≡ true) (f
     waiting = rows-all (λ b. b < h .N) _ (c .waiting) (λ i. fit-lt (h .N) (t .waiting i) blocks-pos);
     queue = rows-all (λ q. q < h .P) _ (c .jobs) (λ i. fit-lt (h .P) (t .queue i) (partitions-pos h w));
     outstanding = rows-all (CommandIn h) _ (c .out) (λ i. command-range h (t .kinds i) (t .spots i) (levels-pos h w) (partitions-pos h w));
-    begun = j;
+    begun = f .begun;
     cursor = f .cursor;
     sent = f .sent;
     free = omega (arith, out-are c t, f .out);
@@ -303,18 +302,15 @@ module _ (c : Client) (t : Tables) (w : within (shapeOf (c .shape)) ≡ true) (f
       blocks-pos = unfold within between in (leb-true 1 (h .N) (and-l (leb 1 (h .N)) (leb (h .N) 4096) (every-yes _ w .0)))
 
   -- each number is in its range exactly when the client's are
-  pub in-range : inRange (view c t) ≡ (countsFit c && (runFits c t && handFits c (ownWaits c t)))
-  unfolding runFits view
+  pub in-range : inRange (view c t) ≡ (countsFit c && handFits c (ownWaits c t))
+  unfolding view
   in-range = both-true _ _ there here
     where
-      there : inRange (view c t) ≡ true → (countsFit c && (runFits c t && handFits c waits)) ≡ true
+      there : inRange (view c t) ≡ true → (countsFit c && handFits c waits) ≡ true
       there e =
           let r = range-facts (view c t) e in
-          let f : Counts c = unfold view in (record { cursor = r .cursor; sent = r .sent; out = omega (arith, r .free, out-are c t); waiting = omega (arith, waiting-are c t, waits-le (h .E) (view c t .waiting) (view c t .request) (r .cache)) }) in
-          and-true (facts-counts c f) (and-true (in-job h (view c t .counter) (view c t .queue) (c .begun) (r .begun)) (back (r .request, r .jobs, r .cache)))
+          let f : Counts c = unfold view in (record { begun = r .begun; cursor = r .cursor; sent = r .sent; out = omega (arith, r .free, out-are c t); waiting = omega (arith, waiting-are c t, waits-le (h .E) (view c t .waiting) (view c t .request) (r .cache)) }) in
+          and-true (facts-counts c f) (back (r .request, r .jobs, r .cache))
 
-      here : (countsFit c && (runFits c t && handFits c waits)) ≡ true → inRange (view c t) ≡ true
-      here e =
-          let f = counts-facts c (and-l (countsFit c) (runFits c t && handFits c waits) e) in
-          let k = and-r (countsFit c) (runFits c t && handFits c waits) e in
-          facts-range (view c t) (range-of f (job-in h (view c t .counter) (view c t .queue) (c .begun) (and-l (runFits c t) (handFits c waits) k)) (hand (and-r (runFits c t) (handFits c waits) k) (f .waiting)))
+      here : (countsFit c && handFits c waits) ≡ true → inRange (view c t) ≡ true
+      here e = let f = counts-facts c (and-l (countsFit c) (handFits c waits) e) in facts-range (view c t) (range-of f (hand (and-r (countsFit c) (handFits c waits) e) (f .waiting)))

@@ -17,7 +17,6 @@ ghost use Rattle.client.specs.Readings.{handOf};
 ghost use Rattle.client.specs.View.{stateOf};
 ghost use Rattle.client.specs.Moves.{noRequest, Room, Stands};
 ghost use Rattle.contract.specs.Meets.{Meets};
-ghost use Rattle.jobs.specs.Runs.{BegunIn};
 ghost use Rattle.collecting.specs.Collecting.{callWith, Hand, newBytes, emptySlot, Settled, Queued};
 
 // How many of the outstanding commands the request awaits. Its number may be above all of them in a state that no calls left.
@@ -32,7 +31,7 @@ fn awaited(c: Client) -> usize
 
 // A request is finished when it isn't held, all its reads are sent, and they and what was outstanding at its release have completed.
 fn is_finished(c: Client, m: &[u8]) -> bool
-    requires { ⌜ Hand c (now m) × BegunIn c (now m) ⌝ }
+    requires { ⌜ Hand c (now m) × (c .begun ≤ 64) ⌝ }
     ensures { λ r. ⌜ r ≡ finished (stateOf c (now (m .entry))) (handOf c (now (m .entry))) ⌝ }
 {
     if c.request.found == 0 {

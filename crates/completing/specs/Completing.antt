@@ -29,7 +29,7 @@ use Rattle.rules.specs.Questions.{completion, ready, bounds, questions, firstNo
 use Rattle.rules.specs.Run.{perform, refuse, sentCommand, handed, handedFound, takenOf, numbersOf}
 use Rattle.rules.specs.Laws.Range.{CommandIn}
 use Rattle.rules.specs.Laws.Single.Job.{alone-levels}
-use Rattle.rules.specs.Laws.Single.Levels.{one-holds}
+use Rattle.rules.specs.Laws.Single.Levels.{joins-one, one-holds}
 use Rattle.rules.specs.Laws.Single.Rules.{target}
 use Rattle.rules.specs.Laws.Kept.{complete-in}
 use Rattle.rules.specs.Laws.Shapes.{complete-keeps}
@@ -47,7 +47,7 @@ use Rattle.ready.specs.Usable.{Usable, usable}
 use Rattle.releasing.specs.Performs.{Performs, ready-after}
 use Rattle.jobs.specs.declared.Run.{Run}
 use Rattle.jobs.specs.Queue.{jobsIn, queue-is}
-use Rattle.jobs.specs.Runs.{BegunIn, begun-in, begun-moved, RunOf, levels-are}
+use Rattle.jobs.specs.Runs.{RunOf, levels-are}
 use Rattle.commands.specs.Outstanding.{OutstandingAt, ofKind}
 use Rattle.commands.specs.Commands.{outstanding-is}
 use Rattle.completing.specs.Awaited.{lessened, lessened-is}
@@ -138,7 +138,7 @@ command-in h d e (cons {x = x} {xs = xs} k a) = go (or-true (isCommand d x) (any
 pub record Completes (c : Client) (m : List ℕ) (d : Command) (bs : List ℕ) (j : ℕ) : Type 0 where
   pub room : Room c m
   pub jobs : c .jobs ≤ 64
-  pub begun : BegunIn c m
+  pub begun : c .begun ≤ 64
   pub out : c .out ≤ 32
   pub place : j < c .out
   pub gone : without (isCommand d) (stateOf c m .outstanding) ≡ dropAt j (stateOf c m .outstanding)
@@ -161,7 +161,7 @@ completes c m d bs j r o l =
     record {
       room = u .room;
       jobs = u .jobs;
-      begun = begun-in c m (u .range);
+      begun = u .counts .begun;
       out = omega (arith, u .counts .out, u .window);
       place = omega (arith, o .place, ap length (outstanding-is c m) ∙ length-rows _ _);
       gone = o .gone;
@@ -227,7 +227,7 @@ not-done c m q one r b f e =
     let s = stateOf c m in
     let n = s .counter q in
     let k : n < 2 ^ c .shape .l = fit-lt (2 ^ c .shape .l) _ (pow-pos (c .shape .l)) in
-    let alone : joined s q ≡ 1 = unfold joined begunWith in (ap (λ j. begunWith j (joins h n (queued (s .queue) q))) b) in
+    let alone : joined s q ≡ 1 = unfold joined begunWith in (ap (λ j. joins h n (begunWith j (queued (s .queue) q))) b ∙ joins-one h n k) in
     let t : target h n < 8 = unfold target in (omega (arith, r .levels, r .someLevels)) in
     let w : slotCount (levelsOf s q) ≡ slots (target h n) = ap slotCount (alone-levels s q alone (r .someLevels) k) ∙ one-holds h n (r .someLevels) k .1 in
     rw (w, ne-eqb (c .sent) (slots (target h n)) (λ z. true≢false (sym (f _ t z) ∙ e)))
@@ -277,11 +277,6 @@ module _ (c d : Client) (m m₁ : List ℕ) (x : Command) (bs : List ℕ) (j : �
   left : stateOf d m₁ ≡ completed x (stateOf c m)
   unfolding completed
   left = s .state ∙ ap (λ (z : R.State). setOutstanding (dropAt j (z .outstanding)) z) (lessened-is c m x j (k .left)) ∙ ap (λ cs. setOutstanding cs (setRequest (Option·map (awaitsLess x (stateOf c m .outstanding)) (stateOf c m .request)) (stateOf c m))) (sym (k .gone))
-
-  -- the jobs that run are as before
-  pub begun-left : d .shape ≡ c .shape → d .begun ≡ c .begun → BegunIn d m₁
-  unfolding completed
-  begun-left h b = begun-moved c d m m₁ (completed x (stateOf c m)) left refl refl h b (k .begun)
 
   pub read-done : (m₂ : List ℕ) → x .kind ≡ 1 → Stands d m₁ m₂ (gatherBytes (holder (stateOf d m₁) (x .partition) (x .level) (x .slot)) bs (stateOf d m₁)) → Stands d m m₂ (complete x bs (stateOf c m))
   unfolding complete completeRead completed holder

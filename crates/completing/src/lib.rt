@@ -16,7 +16,7 @@ ghost use Rattle.rules.specs.Completion.{gatherBytes, jobDone, endJob, finishJo
 ghost use Rattle.rules.specs.Questions.{completion as completionOf};
 ghost use Rattle.client.specs.View.{stateOf};
 ghost use Rattle.client.specs.Moves.{withRequest, Room, Stands};
-ghost use Rattle.jobs.specs.Runs.{BegunIn, Runs};
+ghost use Rattle.jobs.specs.Runs.{Runs};
 ghost use Rattle.contract.specs.Meets.{Meets};
 ghost use Rattle.releasing.specs.Performs.{Performs};
 ghost use Rattle.completing.specs.Completing.{AllOfLevel, Completes};
@@ -83,7 +83,7 @@ fn end_job(c: Client, m: &mut [u8], q: usize) -> Client
 
 // The front job ends when its last write completes.
 fn finish_job(c: Client, m: &mut [u8]) -> Client
-    requires { ⌜ Room c (now m) × (c .out ≤ 32) × (c .jobs ≤ 64) × BegunIn c (now m) ⌝ }
+    requires { ⌜ Room c (now m) × (c .out ≤ 32) × (c .jobs ≤ 64) × (c .begun ≤ 64) ⌝ }
     ensures { λ r. ⌜ (r .shape ≡ c .shape) × Stands r (now (m .entry)) (now (m .exit)) (finishJob (stateOf c (now (m .entry)) .queue) (stateOf c (now (m .entry)))) × (r .request ≡ c .request) ⌝ }
 {
     if c.jobs == 0 {

@@ -27,7 +27,6 @@ use Rattle.rules.specs.Laws.Waiting.{waits-le}
 use Rattle.rules.specs.Setters.{setRequest}
 use Rattle.rules.specs.Laws.Decided.{StepIn, decide-in}
 use Rattle.rules.specs.Laws.Kept.{given-in}
-use Rattle.rules.specs.Laws.Rebuilt.{job-le}
 use Rattle.memory.specs.Fits.{shapeOf, parts-le, fit}
 use Rattle.memory.specs.Tables.{tablesOf}
 use Rattle.client.specs.declared.Client.{Client}
@@ -201,7 +200,7 @@ low-client c m f =
     let waiting : c .waiting ≤ c .shape .e = omega (arith, waits-le (h .E) (stateOf c m .waiting) (stateOf c m .request) (f .cache), length-rows (λ i. fit (h .N) (tablesOf h m .waiting i)) (c .waiting)) in
     let out : c .out ≤ c .shape .w = omega (arith, f .free, length-rows (λ i. commandBy h (tablesOf h m .kinds i) (tablesOf h m .spots i)) (c .out)) in
     let cells : slots (c .shape .l) ≤ 512 = pow-mono {i = c .shape .l + 1} {j = 9} (omega arith) in
-    let begun : c .begun ≤ 64 = job-le h (stateOf c m .counter) (stateOf c m .queue) (c .begun) (f .begun) in
+    let begun : c .begun ≤ 64 = f .begun in
     let cursor : c .cursor ≤ slots (c .shape .l) - 2 = f .cursor in
     let sent : c .sent ≤ slots (c .shape .l) - 2 = f .sent in
     rw (

@@ -24,7 +24,6 @@ use Rattle.rules.specs.Laws.Form.Tables.{Some, here, there, some-map, all-mappe
 use Rattle.rules.specs.Laws.Layout.{cell-from, cell-inj}
 use Rattle.rules.specs.Laws.Levels.{partitions-pos}
 use Rattle.rules.specs.Laws.Range.{InRange, PlaceIn, facts-range}
-use Rattle.rules.specs.Laws.Rebuilt.{no-job}
 use Rattle.rules.specs.Levels.{filled}
 use Rattle.rules.specs.Shape.{Shape, within, slots, cell}
 use Rattle.rules.specs.State.{State}
@@ -167,7 +166,7 @@ module _ (f : Form) (rest : List ℕ) (made : Made f) (k : Facts f rest) where
     waiting = waits-in;
     queue = k .queue;
     outstanding = nil;
-    begun = no-job (s .shape) (s .counter) (s .queue);
+    begun = omega arith;
     cursor = omega arith;
     sent = omega arith;
     free = omega arith;

@@ -4,13 +4,13 @@ ghost use mathlib.Core.Path.{_≡_};
 ghost use mathlib.Core.List.{_∷_, [], _++_};
 ghost use Prim.Native.Nat.{_+_, _<_, _≤_};
 ghost use lib.ListN.{length};
-ghost use Rattle.rules.specs.Jobs.{queued as queuedOf, joined as joinedOf, leaveQueue};
+ghost use Rattle.rules.specs.Jobs.{queued as queuedOf, begunWith, leaveQueue};
 ghost use Rattle.rules.specs.Setters.{setQueue};
 ghost use Rattle.client.specs.View.{stateOf};
 ghost use Rattle.client.specs.Rows.{dropAt};
 ghost use Rattle.client.specs.Moves.{withJobs, Room, Stands};
 ghost use Rattle.jobs.specs.Leaving.{Stays};
-ghost use Rattle.jobs.specs.Runs.{Runs, RunOf, CounterOf};
+ghost use Rattle.jobs.specs.Runs.{Runs, RunOf};
 
 // The jobs that run together as the front one: the counter of their partition, how many they are, and the highest level that they write.
 pub struct Run {
@@ -42,17 +42,15 @@ pub fn front(c: Client, m: &[u8]) -> usize
     memory::tables::job(c.shape, m, 0)
 }
 
-// How many jobs the front one, for q, runs for: those that it began with. Until it has begun, those of the queue that may join; only then is the queue
-// gone over.
-fn joined(c: Client, m: &[u8], q: usize, counter: usize) -> usize
-    requires { ⌜ Runs c (now m) q × CounterOf c (now m) q counter ⌝ }
-    ensures { λ r. ⌜ r ≡ joinedOf (stateOf c (now (m .entry))) q ⌝ }
+// How many jobs the front one, for q, began with; until it has begun, how many are queued. Only then is the queue gone over.
+fn begun_with(c: Client, m: &[u8], q: usize) -> usize
+    requires { ⌜ Room c (now m) × (c .jobs ≤ 64) ⌝ }
+    ensures { λ r. ⌜ r ≡ begunWith (c .begun) (queuedOf (stateOf c (now (m .entry)) .queue) q) ⌝ }
 {
     if c.begun != 0 {
         return c.begun;
     }
-    let n = queued(c, m, q);
-    bits::joins(counter, n, c.shape.l)
+    queued(c, m, q)
 }
 
 // The run of the front job, which is for q.
@@ -61,7 +59,8 @@ pub fn running(c: Client, m: &[u8], q: usize) -> Run
     ensures { λ r. ⌜ RunOf c (now (m .entry)) q r ⌝ }
 {
     let counter = memory::tables::counter(c.shape, m, q);
-    let j = joined(c, m, q, counter);
+    let n = begun_with(c, m, q);
+    let j = bits::joins(counter, n, c.shape.l);
     let top = bits::top_level(counter, j, c.shape.l);
     Run {
         counter: counter,

@@ -6,27 +6,22 @@ use Prim.Native.Nat.{ℕ, zero, suc}
 use native.Mathlib.Omega.{arith}
 use lib.Dec.{eqb}
 use borrow.Author.Tests.{eq-eqb, ne-eqb}
-use Rattle.lists.specs.Search.{keep, without, keep-yes, keep-no, without-yes, without-no}
+use Rattle.lists.specs.Search.{keep, without, withoutFirst, keep-yes, keep-no, without-yes, without-no}
 
 module _ {A : Type 0} (p : A → Bool) where
-  -- without the first k that pass
-  unfoldable pub withoutFirst : ℕ → List A → List A
-  withoutFirst zero xs = xs
-  withoutFirst (suc k) xs = withoutFirst k (without p xs)
-
-  pub without-first-none : (k : ℕ) → withoutFirst k [] ≡ []
+  pub without-first-none : (k : ℕ) → withoutFirst p k [] ≡ []
   unfolding withoutFirst without
   without-first-none zero = refl
   without-first-none (suc k) = without-first-none k
 
-  pub without-first-yes : (k : ℕ) (x : A) (xs : List A) → p x ≡ true → withoutFirst (suc k) (x ∷ xs) ≡ withoutFirst k xs
+  pub without-first-yes : (k : ℕ) (x : A) (xs : List A) → p x ≡ true → withoutFirst p (suc k) (x ∷ xs) ≡ withoutFirst p k xs
   unfolding withoutFirst
-  without-first-yes k x xs e = ap (withoutFirst k) (without-yes p x xs e)
+  without-first-yes k x xs e = ap (withoutFirst p k) (without-yes p x xs e)
 
-  pub without-first-no : (k : ℕ) (x : A) (xs : List A) → p x ≡ false → withoutFirst k (x ∷ xs) ≡ x ∷ withoutFirst k xs
+  pub without-first-no : (k : ℕ) (x : A) (xs : List A) → p x ≡ false → withoutFirst p k (x ∷ xs) ≡ x ∷ withoutFirst p k xs
   unfolding withoutFirst
   without-first-no zero x xs e = refl
-  without-first-no (suc k) x xs e = ap (withoutFirst k) (without-no p x xs e) ∙ without-first-no k x (without p xs) e
+  without-first-no (suc k) x xs e = ap (withoutFirst p k) (without-no p x xs e) ∙ without-first-no k x (without p xs) e
 
   some-kept : (x : A) (xs : List A) → p x ≡ true → keep p (x ∷ xs) ≡ [] → ⊥
   some-kept x xs q e = let z : x ∷ keep p xs ≡ [] = sym (keep-yes p x xs q) ∙ e in let y : _≡_ {A = ℕ} 0 1 = cc in omega arith
@@ -41,11 +36,11 @@ module _ {A : Type 0} (p : A → Bool) where
       go false q ih = without-no p x xs q ∙ ap (λ r. x ∷ r) (ih (sym (keep-no p x xs q) ∙ e))
 
   -- of two lists one behind the other, if none of the first passes
-  pub without-first-behind : (k : ℕ) (xs ys : List A) → keep p xs ≡ [] → withoutFirst k (xs ++ ys) ≡ xs ++ withoutFirst k ys
+  pub without-first-behind : (k : ℕ) (xs ys : List A) → keep p xs ≡ [] → withoutFirst p k (xs ++ ys) ≡ xs ++ withoutFirst p k ys
   without-first-behind k [] ys e = refl
   without-first-behind k (x ∷ xs) ys e = go (p x) refl (without-first-behind k xs ys)
     where
-      go : (t : Bool) → p x ≡ t → (keep p xs ≡ [] → withoutFirst k (xs ++ ys) ≡ xs ++ withoutFirst k ys) → withoutFirst k (x ∷ (xs ++ ys)) ≡ x ∷ (xs ++ withoutFirst k ys)
+      go : (t : Bool) → p x ≡ t → (keep p xs ≡ [] → withoutFirst p k (xs ++ ys) ≡ xs ++ withoutFirst p k ys) → withoutFirst p k (x ∷ (xs ++ ys)) ≡ x ∷ (xs ++ withoutFirst p k ys)
       go true q ih = absurd (some-kept x xs q e)
       go false q ih = without-first-no k x (xs ++ ys) q ∙ ap (λ r. x ∷ r) (ih (sym (keep-no p x xs q) ∙ e))
 

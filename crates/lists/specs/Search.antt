@@ -30,6 +30,11 @@ module _ {A : Type 0} where
   without p [] = []
   without p (x ∷ xs) = elim (p x) [ true ↦ xs | false ↦ x ∷ without p xs ]
 
+  -- without the first k that pass
+  unfoldable pub withoutFirst : (A → Bool) → ℕ → List A → List A
+  withoutFirst p zero xs = xs
+  withoutFirst p (suc k) xs = withoutFirst p k (without p xs)
+
   -- of the first n elements, how many are left without that one
   unfoldable pub firstLeft : (A → Bool) → ℕ → List A → ℕ
   firstLeft p zero xs = zero

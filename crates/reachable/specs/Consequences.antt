@@ -24,7 +24,7 @@ use Rattle.rules.specs.Collect
 use Rattle.rules.specs.Completion
 use Rattle.rules.specs.Jobs.{queued, begunWith, joined, topOf, levelsOf, slotCount, writeAt}
 use Rattle.rules.specs.Laws.Rebuilt.{front-joins}
-use Rattle.rules.specs.Laws.Levels.{Joins, levels-pos, top-lt, joins-le, queued-front}
+use Rattle.rules.specs.Laws.Levels.{begun-some, Joins, levels-pos, top-lt, joins-le, queued-front}
 use Rattle.rules.specs.Laws.Range.{RequestIn}
 use Rattle.rules.specs.Levels.{filled, joins, topLevel, writtenLevels}
 use Rattle.rules.specs.Reader
@@ -226,20 +226,26 @@ module _ (s : State) (f : Reached s) where
   pub joins-front : (q : ℕ) (rest : List ℕ) → s .queue ≡ q ∷ rest → Joins (s .shape) (s .counter q) (joined s q)
   joins-front q rest e = front-joins s (f .range) q rest e
 
-  pub joined-queued : (q : ℕ) (rest : List ℕ) → s .queue ≡ q ∷ rest → joined s q ≤ queued (s .queue) q
-  unfolding joined begunWith
-  joined-queued q rest e = go (s .begun) refl
+  pub joined-joins : (q : ℕ) (rest : List ℕ) → s .queue ≡ q ∷ rest → joined s q ≤ joins (s .shape) (s .counter q) (queued (s .queue) q)
+  joined-joins q rest e = go (ℕ-discrete (s .begun) 0)
     where
-      one : 1 ≤ queued (s .queue) q
-      one = rw e (queued-front q rest)
-
-      go : (j : ℕ) → s .begun ≡ j → begunWith j (joins (s .shape) (s .counter q) (queued (s .queue) q)) ≤ queued (s .queue) q
-      go zero k = joins-le (s .shape) (s .counter q) (queued (s .queue) q) one
-      go (suc j) k =
-          let x = f .running (λ z. omega arith) in
+      go : Dec (s .begun ≡ 0) → joined s q ≤ joins (s .shape) (s .counter q) (queued (s .queue) q)
+      go (yes z) = unfold joined in (rw z (unfold begunWith in (omega arith)))
+      go (no n) =
+          let x = f .running n in
           let w : x .0 ≡ q = cc (x .2 .0, e) in
-          let y : s .begun ≤ queued (s .queue) q = subst (λ p. s .begun ≤ queued (s .queue) p) w (x .2 .1) in
-          omega arith
+          rw (joined-begun s (f .running) q (rw e (front-is q rest)) n) (subst (λ p. s .begun ≤ joins (s .shape) (s .counter p) (queued (s .queue) p)) w (x .2 .1))
+
+  pub joined-queued : (q : ℕ) (rest : List ℕ) → s .queue ≡ q ∷ rest → joined s q ≤ queued (s .queue) q
+  joined-queued q rest e = omega (arith, joined-joins q rest e, joins-le (s .shape) (s .counter q) (queued (s .queue) q) (rw e (queued-front q rest)))
+
+  -- ..and before it begins, as many as count as one for look-ups
+  pub joined-least : (q : ℕ) (rest : List ℕ) → s .queue ≡ q ∷ rest → begunWith (s .begun) 1 ≤ joined s q
+  joined-least q rest e = go (ℕ-discrete (s .begun) 0)
+    where
+      go : Dec (s .begun ≡ 0) → begunWith (s .begun) 1 ≤ joined s q
+      go (yes z) = subst (λ b. begunWith b 1 ≤ joined s q) (sym z) (unfold begunWith in (joins-front q rest e .0))
+      go (no n) = omega (arith, joined-begun s (f .running) q (rw e (front-is q rest)) n, begun-some (s .begun) 1 (omega (arith, n)))
 
   -- The first of its written levels is t
   pub levels-first : (q : ℕ) (rest : List ℕ) → s .queue ≡ q ∷ rest → (ls : List ℕ) × (levelsOf s q ≡ topOf s q ∷ ls)
@@ -260,13 +266,13 @@ module _ (s : State) (f : Reached s) where
   pub next-write : (q t i : ℕ) → Writes s q t i → Mem t (writtenLevels (s .shape) (s .counter q) (s .begun)) × (i < slots t) × (writeNumber (writtenLevels (s .shape) (s .counter q) (s .begun)) t i ≡ s .sent)
   unfolding levelsOf
   next-write q t i d = write-at (writtenLevels (s .shape) (s .counter q) (s .begun)) (s .sent) t i (nodup-written (s .shape) (s .counter q) (s .begun))
-      (ap (λ j. writeAt (writtenLevels (s .shape) (s .counter q) j) (s .sent)) (sym (joined-begun s q (busy-begun (d .busy)))) ∙ d .now)
+      (ap (λ j. writeAt (writtenLevels (s .shape) (s .counter q) j) (s .sent)) (sym (joined-begun s (f .running) q (rw (d .front) (front-is q (d .rest))) (busy-begun (d .busy)))) ∙ d .now)
 
   -- Once all its writes are sent, that of each slot of its written levels is
   pub all-written : (q ℓ i : ℕ) → Target s q ℓ → i < slots ℓ → slotCount (levelsOf s q) ≡ s .sent → Wrote s q ℓ i
   unfolding levelsOf
   all-written q ℓ i z hi e =
-      let w : slotCount (writtenLevels (s .shape) (s .counter q) (s .begun)) ≡ s .sent = ap (λ n. slotCount (writtenLevels (s .shape) (s .counter q) n)) (sym (joined-begun s q (busy-begun (z .1)))) ∙ e in
+      let w : slotCount (writtenLevels (s .shape) (s .counter q) (s .begun)) ≡ s .sent = ap (λ n. slotCount (writtenLevels (s .shape) (s .counter q) n)) (sym (joined-begun s (f .running) q (z .0) (busy-begun (z .1)))) ∙ e in
       omega (arith, number-lt (writtenLevels (s .shape) (s .counter q) (s .begun)) ℓ i (z .2) hi)
 
   -- A slot whose write is the next one, or was sent before: it is that of the next write, or was sent before
@@ -293,7 +299,7 @@ module _ (s : State) (f : Reached s) where
 
       go : Dec (offset ℓ i < s .cursor) → Dec (s .begun ≡ 0) → s .mark (cell (s .shape) q ℓ i) ≡ 0
       go (yes c) (yes z) = absurd (omega (arith, f .unbegun z .0))
-      go (yes c) (no z) = f .scanned q ℓ i front (d .calm) (z, subst (λ j. ℓ ≤ topLevel (s .shape) (s .counter q) j) (joined-begun s q z) l, k) hi c
+      go (yes c) (no z) = f .scanned q ℓ i front (d .calm) (z, subst (λ j. ℓ ≤ topLevel (s .shape) (s .counter q) j) (joined-begun s (f .running) q front z) l, k) hi c
       go (no c) z =
           let u : s .mark (cell (s .shape) q ℓ i) ≡ 1 → ⊥ = eqb-false (s .mark (cell (s .shape) q ℓ i)) 1 (d .read ℓ i l k hi (omega arith)) in
           omega (arith, f .range .marks q ℓ i (all-mem (f .range .queue) q (front-mem (s .queue) q front)) (omega (arith, top-lt (s .shape) (s .counter q) (joined s q) (levels-pos (s .shape) (f .range .shape)))) hi)
@@ -312,7 +318,7 @@ module _ (s : State) (f : Reached s) where
         kept : (s .mark (cell (s .shape) (s .partition (d .asked .block)) ℓ i) ≡ 1) ⊎ (Own s (d .asked .block) ℓ ⊎ Gathers s (s .partition (d .asked .block)) ℓ) → Request.isSource s q ℓ ≡ false → s .mark (cell (s .shape) q ℓ i) ≡ 1
         kept (inl m) u = ap (λ p. s .mark (cell (s .shape) p ℓ i)) (sym (d .part)) ∙ m
         kept (inr (inl o)) u = let w : o .0 ≡ d .asked = cc (o .1 .0, d .inHand) in absurd (omega (arith, o .1 .2, d .left, ap (λ (x : Request). x .level) w))
-        kept (inr (inr k)) u = absurd (true≢false (sym (gathers-source s q ℓ (rw (d .part) at k)) ∙ u))
+        kept (inr (inr k)) u = absurd (true≢false (sym (gathers-source s (f .running) q ℓ (rw (d .part) at k)) ∙ u))
 
         own : OwnSlot s (d .asked .block) q ℓ i → s .mark (cell (s .shape) q ℓ i) ≡ 1
         own k = ⊎-elim (kept (f .unread (d .asked .block) ℓ i (block-lt s f (d .asked) (d .inHand)) (slot-own ℓ i (s .place (d .asked .block)) (k .0))))

@@ -44,7 +44,7 @@ module _ (s : State) (f : Reached s) where
   unfolding Blocks.isUnread topOf
   over-read q rest e z ℓ i hℓ k hi l = ne-eqb (s .mark (cell (s .shape) q ℓ i)) 1 (λ w.
       let n : s .begun ≡ 0 → ⊥ = λ x. omega (arith, f .unbegun x .0) in
-      let u = f .scanned q ℓ i (rw e (front-is q rest)) z (n, subst (λ j. ℓ ≤ topLevel (s .shape) (s .counter q) j) (joined-begun s q n) hℓ, k) hi l in
+      let u = f .scanned q ℓ i (rw e (front-is q rest)) z (n, subst (λ j. ℓ ≤ topLevel (s .shape) (s .counter q) j) (joined-begun s (f .running) q (rw e (front-is q rest)) n) hℓ, k) hi l in
       omega arith)
 
   pub scan-all : (q : ℕ) (rest : List ℕ) → s .queue ≡ q ∷ rest → s .sent ≡ 0

@@ -12,14 +12,14 @@ use Rattle.lists.specs.Totals.{total}
 use Rattle.rules.specs.Form.Loading.{storedAt}
 use Rattle.rules.specs.Laws.Form.Saveable.{FilledCell}
 use Rattle.rules.specs.Laws.Range.{InRange}
-use Rattle.rules.specs.Jobs.{queued, slotCount}
+use Rattle.rules.specs.Jobs.{slotCount}
 use Rattle.rules.specs.Levels.{filled, writtenLevels}
 use Rattle.rules.specs.Shape.{Shape, cell, offset, slots}
 use Rattle.rules.specs.State.{State, Command, Place, nowhere, stored, Request, read, write}
 use Rattle.rules.specs.Request
 use Rattle.rules.specs.Request.{isFront, isSource}
 use Rattle.rules.specs.Blocks.{readsOf}
-use Rattle.reachable.specs.Live.{storedIn, counted, Source, Gathers, Alone, pending, passedBy, writeNumber}
+use Rattle.reachable.specs.Live.{storedIn, counted, Running, Source, Gathers, Alone, pending, passedBy, writeNumber}
 use Rattle.reachable.specs.Terms.{Numbered, Apart}
 
 -- ---- Blocks and slots
@@ -67,10 +67,6 @@ Taken h holds = (q ℓ : ℕ) → q < h .P → ℓ < h .L → holdsOf h holds q 
 -- Writes are sent for the front job, at most one to each slot of its written levels
 abbrev pub Begun : State → Type 0
 Begun s = (s .sent ≡ 0 → ⊥) → (q : ℕ) × (rest : List ℕ) × ((s .queue ≡ q ∷ rest) × (s .sent ≤ slotCount (writtenLevels (s .shape) (s .counter q) (s .begun))))
-
--- A job that has begun is the front one, and runs for jobs that are queued
-abbrev pub Running : State → Type 0
-Running s = (s .begun ≡ 0 → ⊥) → (q : ℕ) × (rest : List ℕ) × ((s .queue ≡ q ∷ rest) × (s .begun ≤ queued (s .queue) q))
 
 -- Where none has begun, none has gone over anything, and no write is sent
 abbrev pub Unbegun : State → Type 0

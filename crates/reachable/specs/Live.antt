@@ -1,10 +1,11 @@
 -- Which levels are live: the filled ones, where a run whose orders are drawn counts as done.
-use mathlib.Core.Path.{_≡_, refl, ap, sym}
+use mathlib.Core.Path.{_≡_, refl, ap, sym, _∙_, subst}
 use mathlib.Core.Bool.{Bool, true, false, not, _&&_, true≢false}
 use mathlib.Core.Logic.{inl}
 use mathlib.Core.List.{List, [], _∷_}
 use mathlib.Core.Option.{Option, none, some}
 use Prim.Native.Nat.{ℕ, zero, suc, _+_, _≤_, _<_}
+use native.Mathlib.Omega.{arith}
 use lib.Dec.{eqb, leb, ltb}
 use borrow.Author.Tests.{eqb-true, eq-eqb, ne-eqb, leb-true, le-leb}
 use Rattle.lists.specs.Distinct.{Mem}
@@ -13,6 +14,7 @@ use Rattle.lists.specs.Search.{keep, below}
 use Rattle.lists.specs.Tests.{if_then_else_, and-l, and-r, and-true}
 use Rattle.rules.specs.Jobs.{queued, begunWith, joined, topOf, leaveQueue}
 use Rattle.rules.specs.Levels.{filled, joins, grown, topLevel, writtenLevels}
+use Rattle.rules.specs.Laws.Levels.{joins-all, begun-some}
 use Rattle.rules.specs.Request.{isFront, undrawnOnly, isSource}
 use Rattle.rules.specs.Shape.{Shape, slots}
 use Rattle.rules.specs.State.{nowhere, stored, State, Request, Place}
@@ -66,14 +68,23 @@ only-alone s q e =
       eqb-true (s .sent) 0 (and-r (leb (queued (s .queue) q) (begunWith (s .begun) 1)) (eqb (s .sent) 0) t),
     )
 
--- once it has begun, the front job runs for the jobs that it began with
-pub joined-begun : (s : State) (q : ℕ) → (s .begun ≡ 0 → ⊥) → joined s q ≡ s .begun
-unfolding joined begunWith
-joined-begun s q n = go (s .begun) n
-  where
-    go : (j : ℕ) → (j ≡ 0 → ⊥) → begunWith j (joins (s .shape) (s .counter q) (queued (s .queue) q)) ≡ j
-    go zero n = absurd (n refl)
-    go (suc j) n = refl
+-- of two front jobs each is the other
+pub front-eq : (p q : ℕ) (qs rest : List ℕ) → qs ≡ q ∷ rest → isFront qs p ≡ true → p ≡ q
+unfolding isFront
+front-eq p q qs rest e k = sym (eqb-true q p (rw e at k))
+
+-- a job that has begun is the front one, and runs for jobs that are queued and may join
+abbrev pub Running : State → Type 0
+Running s = (s .begun ≡ 0 → ⊥) → (q : ℕ) × (rest : List ℕ) × ((s .queue ≡ q ∷ rest) × (s .begun ≤ joins (s .shape) (s .counter q) (queued (s .queue) q)))
+
+-- ..so that it runs for as many as it began with
+pub joined-begun : (s : State) → Running s → (q : ℕ) → isFront (s .queue) q ≡ true → (s .begun ≡ 0 → ⊥) → joined s q ≡ s .begun
+unfolding joined
+joined-begun s f q a n =
+    let x = f n in
+    let e : x .0 ≡ q = sym (front-eq q (x .0) (s .queue) (x .1) (x .2 .0) a) in
+    let l : s .begun ≤ joins (s .shape) (s .counter q) (queued (s .queue) q) = subst (λ p. s .begun ≤ joins (s .shape) (s .counter p) (queued (s .queue) p)) e (x .2 .1) in
+    ap (joins (s .shape) (s .counter q)) (begun-some (s .begun) (queued (s .queue) q) (omega (arith, n))) ∙ joins-all (s .shape) (s .counter q) (s .begun) _ (omega (arith, n)) l
 
 -- the rules' test for a source: of the front job, begun or not
 pub source-is : (s : State) (q ℓ : ℕ) → isFront (s .queue) q ≡ true → ℓ ≤ topOf s q → filled (s .counter q) ℓ ≡ true → isSource s q ℓ ≡ true
@@ -93,11 +104,11 @@ pub source-none : (s : State) (q ℓ : ℕ) → isFront (s .queue) q ≡ false �
 unfolding isSource
 source-none s q ℓ e = rw e
 
-pub gathers-source : (s : State) (q ℓ : ℕ) → Gathers s q ℓ → isSource s q ℓ ≡ true
-gathers-source s q ℓ g = source-is s q ℓ (g .0) (unfold topOf in (rw (joined-begun s q (g .2 .0)) (g .2 .1))) (g .2 .2)
+pub gathers-source : (s : State) → Running s → (q ℓ : ℕ) → Gathers s q ℓ → isSource s q ℓ ≡ true
+gathers-source s f q ℓ g = source-is s q ℓ (g .0) (unfold topOf in (rw (joined-begun s f q (g .0) (g .2 .0)) (g .2 .1))) (g .2 .2)
 
-pub source-gathers : (s : State) (q ℓ : ℕ) → (isFront (s .queue) q ≡ true → s .sent ≡ 0) → (s .begun ≡ 0 → ⊥) → isSource s q ℓ ≡ true → Gathers s q ℓ
-source-gathers s q ℓ calm n k = let w = source-why s q ℓ k in (w .0, calm (w .0), (n, unfold topOf in (rw (joined-begun s q n) at (w .1)), w .2))
+pub source-gathers : (s : State) → Running s → (q ℓ : ℕ) → (isFront (s .queue) q ≡ true → s .sent ≡ 0) → (s .begun ≡ 0 → ⊥) → isSource s q ℓ ≡ true → Gathers s q ℓ
+source-gathers s f q ℓ calm n k = let w = source-why s q ℓ k in (w .0, calm (w .0), (n, unfold topOf in (rw (joined-begun s f q (w .0) n) at (w .1)), w .2))
 
 -- level ℓ of q is a written level of the front job, whose orders are drawn
 abbrev pub Target : State → ℕ → ℕ → Type 0
@@ -150,10 +161,6 @@ not-front qs q n = go (isFront qs q) refl
     go : (t : Bool) → isFront qs q ≡ t → isFront qs q ≡ false
     go true e = absurd (n (front-mem qs q e))
     go false e = e
-
-pub front-eq : (p q : ℕ) (qs rest : List ℕ) → qs ≡ q ∷ rest → isFront qs p ≡ true → p ≡ q
-unfolding isFront
-front-eq p q qs rest e k = sym (eqb-true q p (rw e at k))
 
 -- the blocks of q whose place is in levels below `top`: in a state that calls left, the slots that hold a block are as many
 unfoldable pub isBelow : ℕ → Place → Bool

@@ -13,7 +13,7 @@ use borrow.Author.Tests.{eqb-true, eq-eqb, ne-eqb, lt-ltb, ltb-true}
 use Rattle.lists.specs.Distinct.{Mem}
 use Rattle.lists.specs.Lengths.{bit, without-one, keep-without-one, without-append, keep-without}
 use Rattle.lists.specs.Members.{without-mem}
-use Rattle.lists.specs.Search.{keep, without, keep-yes, keep-no}
+use Rattle.lists.specs.Search.{keep, without, withoutFirst, keep-yes, keep-no}
 use Rattle.lists.specs.Tables.{put, put-same, put-other}
 use Rattle.lists.specs.Tests.{and-l, and-r, and-true}
 use Rattle.lists.specs.Totals.{total-one, total-same}
@@ -54,18 +54,18 @@ queued-append qs xs q = omega (arith, queued-more q qs xs)
 -- ---- Jobs leave the queue
 
 pub leave-queue-mem : (x q j : ℕ) (qs : List ℕ) → Mem x (leaveQueue q j qs) → Mem x qs
-unfolding leaveQueue
+unfolding leaveQueue withoutFirst
 leave-queue-mem x q zero qs m = m
 leave-queue-mem x q (suc j) qs m = without-mem (eqb q) qs x (leave-queue-mem x q j (without (eqb q) qs) m)
 
 -- those of other partitions stay, in their order, and of q there are j less
 pub leave-queue-others : (q j : ℕ) (qs : List ℕ) → keep (λ p. not (eqb q p)) (leaveQueue q j qs) ≡ keep (λ p. not (eqb q p)) qs
-unfolding leaveQueue
+unfolding leaveQueue withoutFirst
 leave-queue-others q zero qs = refl
 leave-queue-others q (suc j) qs = leave-queue-others q j (without (eqb q) qs) ∙ keep-without (eqb q) (λ p. not (eqb q p)) (λ x e. ap not e) qs
 
 pub leave-queue-same : (p q j : ℕ) (qs : List ℕ) → ¬ (p ≡ q) → queued (leaveQueue q j qs) p ≡ queued qs p
-unfolding leaveQueue queued
+unfolding leaveQueue withoutFirst queued
 leave-queue-same p q zero qs n = refl
 leave-queue-same p q (suc j) qs n = leave-queue-same p q j (without (eqb q) qs) n ∙ ap length (keep-without (eqb q) (eqb p) (λ x e. ne-eqb p x (λ w. n (w ∙ sym (eqb-true q x e)))) qs)
 
@@ -75,21 +75,21 @@ unfolding queued
 without-queued q qs l = keep-without-one (eqb q) qs l
 
 pub leave-queue-less : (q j : ℕ) (qs : List ℕ) → j ≤ queued qs q → queued (leaveQueue q j qs) q + j ≡ queued qs q
-unfolding leaveQueue
+unfolding leaveQueue withoutFirst
 leave-queue-less q zero qs l = omega arith
 leave-queue-less q (suc j) qs l =
     let r = without-queued q qs (omega arith) in
     omega (arith, r, leave-queue-less q j (without (eqb q) qs) (omega (arith, r)))
 
 pub leave-queue-length : (q j : ℕ) (qs : List ℕ) → j ≤ queued qs q → length (leaveQueue q j qs) + j ≡ length qs
-unfolding leaveQueue
+unfolding leaveQueue withoutFirst
 leave-queue-length q zero qs l = omega arith
 leave-queue-length q (suc j) qs l =
     let one : suc (length (without (eqb q) qs)) ≡ length qs = unfold queued in (without-one (eqb q) qs (omega (arith, l))) in
     omega (arith, one, leave-queue-length q j (without (eqb q) qs) (omega (arith, without-queued q qs (omega arith))))
 
 pub leave-queue-append : (q j : ℕ) (qs xs : List ℕ) → j ≤ queued qs q → leaveQueue q j (qs ++ xs) ≡ leaveQueue q j qs ++ xs
-unfolding leaveQueue
+unfolding leaveQueue withoutFirst
 leave-queue-append q zero qs xs l = refl
 leave-queue-append q (suc j) qs xs l =
     let one : without (eqb q) (qs ++ xs) ≡ without (eqb q) qs ++ xs = unfold queued in (without-append (eqb q) qs xs (omega (arith, l))) in

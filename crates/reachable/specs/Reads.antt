@@ -50,7 +50,7 @@ module _ (left : State) (calls : CallsLeft left) where
   own-unread r e ℓ i p l o = go (reachable calls)
     where
       go : Was left → eqb (left .mark (cell (left .shape) (left .partition (r .block)) ℓ i)) 1 ≡ true
-      go (live f) = eq-eqb _ 1 (⊎-elim (λ m. m) (⊎-elim mine (λ g. absurd (true≢false (sym (gathers-source left (left .partition (r .block)) ℓ g) ∙ o)))) (f .unread (r .block) ℓ i (block-lt left f r e) p))
+      go (live f) = eq-eqb _ 1 (⊎-elim (λ m. m) (⊎-elim mine (λ g. absurd (true≢false (sym (gathers-source left (f .running) (left .partition (r .block)) ℓ g) ∙ o)))) (f .unread (r .block) ℓ i (block-lt left f r e) p))
         where
           mine : Own left (r .block) ℓ → left .mark (cell (left .shape) (left .partition (r .block)) ℓ i) ≡ 1
           mine k = let w : k .0 ≡ r = cc (k .1 .0, e) in absurd (omega (arith, k .1 .2, l, ap (λ (x : Request). x .level) w))

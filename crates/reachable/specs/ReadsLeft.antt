@@ -96,7 +96,7 @@ module _ (s : State) (f : Reached s) (b : ℕ) (hb : b < s .shape .N) (n : ℕ) 
 
     source-same : isSource t p m ≡ isSource s p m
     unfolding isSource topOf joined
-    source-same = source-still s n begins p m
+    source-same = source-still s n f begins p m
 
     slot-same : slotRead t p (s .place b) m ≡ slotRead s p (s .place b) m
     unfolding slotRead readLevel condition readReal readFake
@@ -136,7 +136,7 @@ module _ (s : State) (b : ℕ) (counter′ : ℕ → ℕ) (queue′ : List ℕ) 
       every (m ∷ ms) = cons (slot-else m) (every ms)
 
 -- fewer unread slots, while a run begins or goes on: a request that has no level left has none then
-module _ (s : State) (r : Request) (n : ℕ) (begins : Begins s n) (mark′ : ℕ → ℕ)
+module _ (s : State) (f : Reached s) (r : Request) (n : ℕ) (begins : Begins s n) (mark′ : ℕ → ℕ)
     (fewer : (m j : ℕ) → m < s .shape .L → j < slots m → mark′ (cell (s .shape) (s .partition (r .block)) m j) ≡ 1 → s .mark (cell (s .shape) (s .partition (r .block)) m j) ≡ 1) where
   abbrev less : State
   less = setBegun n (setMark mark′ s)
@@ -159,7 +159,7 @@ module _ (s : State) (r : Request) (n : ℕ) (begins : Begins s n) (mark′ : �
   costs-less m hm e = costs-is less own m ∙ ap (λ y. filled (s .counter own) m && (not y || any (isUnread less own m) (below (slots m)))) same ∙ by (filled (s .counter own) m) (isSource s own m) _ _ (left-less m hm) (sym (costs-is s own m) ∙ e)
     where
       same : isSource less own m ≡ isSource s own m
-      same = unfold isSource topOf joined in (source-still s n begins own m)
+      same = unfold isSource topOf joined in (source-still s n f begins own m)
 
       by : (x y c d : Bool) → (c ≡ false → d ≡ false) → (x && (not y || c)) ≡ false → (x && (not y || d)) ≡ false
       by false y c d h e = refl

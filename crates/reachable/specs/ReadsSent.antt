@@ -143,13 +143,13 @@ module _ (s : State) (f : Reached s) (r : Request) (inHand : s .request ≡ some
   behind-left idle js d h w n v = v
   behind-left noDummy js d h w n v = v
   behind-left (readForRequest q ℓ i) js d h w n v = absurd (omega (arith, ap length n))
-  behind-left (readForJob q ℓ i) js d h w n v = left-none s r (joined s q) (job-begins s q ℓ i d) (put (cell (s .shape) q ℓ i) 0 (s .mark)) (λ m j hm hj e. fewer m j e (ℕ-discrete (cell (s .shape) (s .partition (r .block)) m j) (cell (s .shape) q ℓ i))) v
+  behind-left (readForJob q ℓ i) js d h w n v = left-none s f r (joined s q) (job-begins s q ℓ i d) (put (cell (s .shape) q ℓ i) 0 (s .mark)) (λ m j hm hj e. fewer m j e (ℕ-discrete (cell (s .shape) (s .partition (r .block)) m j) (cell (s .shape) q ℓ i))) v
     where
       fewer : (m j : ℕ) → put (cell (s .shape) q ℓ i) 0 (s .mark) (cell (s .shape) (s .partition (r .block)) m j) ≡ 1
           → Dec (cell (s .shape) (s .partition (r .block)) m j ≡ cell (s .shape) q ℓ i) → s .mark (cell (s .shape) (s .partition (r .block)) m j) ≡ 1
       fewer m j e (yes z) = absurd (omega (arith, sym (put-same (cell (s .shape) q ℓ i) 0 (s .mark)) ∙ ap (put (cell (s .shape) q ℓ i) 0 (s .mark)) (sym z) ∙ e))
       fewer m j e (no z) = sym (put-other (cell (s .shape) q ℓ i) 0 (s .mark) (cell (s .shape) (s .partition (r .block)) m j) z) ∙ e
-  behind-left (rebuild q ls) js d h w n v = left-none s r (joined s q) (starts q (d .rest) (d .front) (d .calm) refl) (doRebuild q ls (fills ls js (gathered s q)) s .mark)
+  behind-left (rebuild q ls) js d h w n v = left-none s f r (joined s q) (starts q (d .rest) (d .front) (d .calm) refl) (doRebuild q ls (fills ls js (gathered s q)) s .mark)
       (λ m j hm hj e. sym (mark-else s f q ls (fills ls js (gathered s q)) (drawing s f q ls js d w) (s .partition (r .block)) m j hm hj (λ z. d .apart r inHand u (sym (z .0)))) ∙ e) v
   behind-left (writeNext q t i) js d h w n v = v
 

@@ -34,14 +34,14 @@ use Rattle.rules.specs.Rebuild.{doRebuild}
 use Rattle.rules.specs.Request.{held, isSource, accept, release}
 use Rattle.rules.specs.Run
 use Rattle.rules.specs.Run.{perform, step, after}
-use Rattle.rules.specs.State.{State, Command, read, Request}
+use Rattle.rules.specs.State.{State, Command, read, Request, closed}
 use Rattle.rules.specs.Turn
 use Rattle.rules.specs.Turn.{Step, idle, noDummy, readForRequest, readForJob, rebuild, writeNext, decide, doStep}
 use Rattle.reachable.specs.Consequences.{busy-begun, joined-queued, done-why}
 use Rattle.reachable.specs.Decided.{Decided, decided}
 use Rattle.reachable.specs.Invariant.{Reached}
 use Rattle.reachable.specs.Kept.Completion.{completed-kept}
-use Rattle.reachable.specs.Live.{joined-begun, front-rest, source-why}
+use Rattle.reachable.specs.Live.{Running, joined-begun, front-is, front-rest, source-why}
 use Rattle.reachable.specs.Pending.{leave-queue-length, leave-queue-less, leave-queue-others, queued-none}
 use Rattle.reachable.specs.Reached.{Was, reachable, live, shut, was-reached}
 use Rattle.reachable.specs.Settled.{closed-hand}
@@ -81,8 +81,8 @@ module _ (s : State) (f : Reached s) (c : Command) where
   unfolding Completion.endJob Completion.completed
   ends q rest e k =
       let some-jobs : s .begun ≡ 0 → ⊥ = busy-begun s f (done-why t f′ q rest e k .1) in
-      let same : joined t q ≡ s .begun = joined-begun t q some-jobs in
-      let own : s .begun ≤ queued (s .queue) q = subst (λ j. j ≤ queued (s .queue) q) (joined-begun s q some-jobs) (joined-queued s f q rest e) in
+      let same : joined t q ≡ s .begun = joined-begun t (f′ .running) q (rw e (front-is q rest)) some-jobs in
+      let own : s .begun ≤ queued (s .queue) q = subst (λ j. j ≤ queued (s .queue) q) (joined-begun s (f .running) q (rw e (front-is q rest)) some-jobs) (joined-queued s f q rest e) in
       record {
         part = q;
         rest = rest;
@@ -99,7 +99,7 @@ module _ (s : State) (f : Reached s) (c : Command) where
         writes = all-sent same;
         no-more = subst (λ n. n ≤ writtenApart (s .shape) (s .counter q) (s .begun)) (sym (all-sent same))
             (writes-together (s .shape) (levels-pos (s .shape) (f .range .shape)) (s .counter q) (s .begun) (f .range .counters q (front-in s f q rest e))
-            (subst (Joins (s .shape) (s .counter q)) (joined-begun s q some-jobs) (front-joins s (f .range) q rest e)));
+            (subst (Joins (s .shape) (s .counter q)) (joined-begun s (f .running) q (rw e (front-is q rest)) some-jobs) (front-joins s (f .range) q rest e)));
       }
     where
       all-sent : joined t q ≡ s .begun → s .sent ≡ slotCount (writtenLevels (s .shape) (s .counter q) (s .begun))
@@ -191,6 +191,13 @@ module _ (left : State) (calls : CallsLeft left) where
   was : Was left
   was = reachable calls
 
+  runs : Running left
+  runs n = go was
+    where
+      go : Was left → (q : ℕ) × (rest : List ℕ) × ((left .queue ≡ q ∷ rest) × (left .begun ≤ joins (left .shape) (left .counter q) (queued (left .queue) q)))
+      go (live f) = f .running n
+      go (shut w) = absurd (n (rw w (unfold closed in refl)))
+
   -- "When a job begins, it takes with it the queued jobs for the same partition, .. so that they are j in all, at most 2^L − 1 − counter, or just itself when
   -- all levels are filled": a call after which a run has begun that had not before is a turn, and it is so many jobs of the front's partition
   pub run-begins : (k : Call) → opens (k .ask) ≡ false → left .begun ≡ 0 → (step left k .0 .begun ≡ 0 → ⊥)
@@ -200,7 +207,7 @@ module _ (left : State) (calls : CallsLeft left) where
       go : Moves left (step left k .0) (k .ask)
           → (q : ℕ) × (rest : List ℕ) × ((left .queue ≡ q ∷ rest) × (k .ask ≡ turn) × (step left k .0 .begun ≡ joins (left .shape) (left .counter q) (queued (left .queue) q)))
       go (stays w v) = absurd (n (w ∙ z))
-      go (begins a q rest e w) = (q, rest, (e, a, w ∙ (unfold joined begunWith in (ap (λ b. begunWith b (joins (left .shape) (left .counter q) (queued (left .queue) q))) z))))
+      go (begins a q rest e w) = (q, rest, (e, a, w ∙ (unfold joined begunWith in (ap (λ b. joins (left .shape) (left .counter q) (begunWith b (queued (left .queue) q))) z))))
       go (finishes c bs a w) = absurd (n (w .begun))
 
   -- "They are j in all": from then on their number is fixed, whatever is called, until a completion ends the run
@@ -210,7 +217,7 @@ module _ (left : State) (calls : CallsLeft left) where
     where
       go : Moves left (step left k .0) (k .ask) → (step left k .0 .begun ≡ left .begun) ⊎ ((c : Command) × (bs : List ℕ) × ((k .ask ≡ completion c bs) × Ends left (step left k .0)))
       go (stays w v) = inl w
-      go (begins a q rest e w) = inl (w ∙ joined-begun left q n)
+      go (begins a q rest e w) = inl (w ∙ joined-begun left runs q (rw e (front-is q rest)) n)
       go (finishes c bs a w) = inr (c, bs, (a, w))
 
   -- "At its end the counter grows by j (a full one falls as before) and all j leave the queue": a completion after which the queue is another one

@@ -88,7 +88,7 @@ module _ (s : State) (f : Reached s) (y : ℕ → List ℕ) (o : ℕ → ℕ) (k
 
   -- a run that begins
   begun-orders : (n : ℕ) → Begins s n → (q ℓ j : ℕ) → q < h .P → ℓ < h .L → filled (counted (setBegun n s) q) ℓ ≡ true → j < slots ℓ → o (cell h q ℓ j) ≡ s .order (cell h q ℓ j)
-  begun-orders n b q ℓ j hq hℓ e hj = k .orders q ℓ j hq hℓ (ap (λ (c : ℕ → ℕ). filled (c q) ℓ) (sym (counted-still s n b)) ∙ e) hj
+  begun-orders n b q ℓ j hq hℓ e hj = k .orders q ℓ j hq hℓ (ap (λ (c : ℕ → ℕ). filled (c q) ℓ) (sym (counted-still s n f b)) ∙ e) hj
 
   pub step-orders : (x : Step) (js : List ℕ) → Decided s x → Drew (Turn.stepBounds x) js → Ordered (doStep x js s) (ordersAfter x js s o)
   unfolding doStep ordersAfter Turn.stepBounds

@@ -112,7 +112,7 @@ module _ (q ℓ i : ℕ) where
     turn-last (readForRequest p m j) js d h w =
         let un = request-unread s f p m j d in
         let out : ¬ Target s p m = λ t. t .1 (front-calm s f p m j d (t .0)) in
-        let same = busy-still s _ (request-begins s f p m j d) in (
+        let same = busy-still s _ f (request-begins s f p m j d) in (
           read-after s p m j (h .1) (h .2) un out k fresh,
           λ hℓ hi u v. read-last s p m j (h .1) (h .2) un out k fresh hℓ hi u (λ t.
               subst (λ n. writeNumber (writtenLevels (s .shape) (s .counter q) n) ℓ i < s .sent) (same (t .1)) (v (t .0, t .1, subst (λ n. Mem ℓ (writtenLevels (s .shape) (s .counter q) n)) (sym (same (t .1))) (t .2)))),

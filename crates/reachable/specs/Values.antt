@@ -77,7 +77,7 @@ module _ (s : State) (f : Reached s) (y : ℕ → List ℕ) (k : Values s y) (q 
 
   request-values : RequestReads s q ℓ i → (js : List ℕ) → Values (doStep (readForRequest q ℓ i) js s) y
   unfolding doStep Turn.send Turn.markRead
-  request-values d js = record { waiting = k .waiting; drawn = λ b m j hb e z. k .drawn b m j hb e (target-still s _ (request-begins s f q ℓ i d) (s .partition b) m z); known = read-known }
+  request-values d js = record { waiting = k .waiting; drawn = λ b m j hb e z. k .drawn b m j hb e (target-still s _ f (request-begins s f q ℓ i d) (s .partition b) m z); known = read-known }
 
   job-values : JobReads s q ℓ i → (js : List ℕ) → Values (doStep (readForJob q ℓ i) js s) y
   unfolding doStep Turn.send Turn.markRead

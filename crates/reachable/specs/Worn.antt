@@ -6,7 +6,7 @@ use mathlib.Core.Logic.{⊎-elim}
 use mathlib.Core.Bool.{Bool, true, false, not, _&&_, true≢false}
 use mathlib.Core.List.{List, _∷_}
 use mathlib.Core.Option.{some}
-use Prim.Native.Nat.{ℕ, zero, suc, _+_, _%_, _^_, _≤_, _<_}
+use Prim.Native.Nat.{ℕ, _+_, _%_, _^_, _≤_, _<_}
 use native.Mathlib.Nat.{mod-lt}
 use native.Mathlib.Omega.{arith}
 use native.Mathlib.Decide.{decLt}
@@ -17,22 +17,16 @@ use Rattle.lists.specs.Search.{any, below, member}
 use Rattle.lists.specs.All.{any-all, below-below}
 use Rattle.lists.specs.Tests.{and-l, and-r, not-true}
 use Rattle.rules.specs.Blocks.{readsOf}
-use Rattle.rules.specs.Jobs.{queued, begunWith, joined, topOf}
-use Rattle.rules.specs.Laws.Levels.{levels-pos, joins-pos, queued-front}
-use Rattle.rules.specs.Levels.{filled, joins, grown, topLevel}
+use Rattle.rules.specs.Jobs.{queued, joined, topOf}
+use Rattle.rules.specs.Laws.Levels.{levels-pos}
+use Rattle.rules.specs.Levels.{filled, grown, topLevel}
 use Rattle.rules.specs.Request.{undrawnOnly, isSource, worn, heldFor, blocked, held}
 use Rattle.rules.specs.State.{State, Request}
 use Rattle.rules.specs.Laws.Grown.{grown-mod}
-use Rattle.reachable.specs.Consequences.{block-lt, joins-front}
+use Rattle.reachable.specs.Consequences.{block-lt, joins-front, joined-least}
 use Rattle.reachable.specs.Invariant.{Reached}
 use Rattle.reachable.specs.Live.{counted, counted-calm, pending, passedBy, undrawn, Alone, only-alone, gathers-source, source-is, front-rest}
 use Rattle.reachable.specs.Pending.{undrawn-calm, bit-no, passed-why}
-
--- no jobs are queued but those that run together
-together : (b n : ℕ) → 1 ≤ n → begunWith b 1 ≤ begunWith b n
-unfolding begunWith
-together zero n l = l
-together (suc b) n l = omega arith
 
 module _ (s : State) (f : Reached s) (r : Request) (inHand : s .request ≡ some r) (u : held r ≡ true) (alone : Alone s (s .partition (r .block))) where
   abbrev q : ℕ
@@ -44,7 +38,7 @@ module _ (s : State) (f : Reached s) (r : Request) (inHand : s .request ≡ some
   -- a filled level that is no source
   few : (ℓ : ℕ) → ℓ < s .shape .L → filled (s .counter q) ℓ ≡ true → isSource s q ℓ ≡ false → readsOf (s .shape) (s .mark) q ℓ < 2 ^ ℓ
   unfolding pending
-  few ℓ hℓ full n = ⊎-elim (λ g. absurd (true≢false (sym (gathers-source s q ℓ g) ∙ n))) less (f .reads q ℓ (f .range .partitions (r .block) hb) hℓ (ap (λ c. filled c ℓ) (counted-calm s q (alone .2)) ∙ full))
+  few ℓ hℓ full n = ⊎-elim (λ g. absurd (true≢false (sym (gathers-source s (f .running) q ℓ g) ∙ n))) less (f .reads q ℓ (f .range .partitions (r .block) hb) hℓ (ap (λ c. filled c ℓ) (counted-calm s q (alone .2)) ∙ full))
     where
       hL : 1 ≤ s .shape .L
       hL = levels-pos (s .shape) (f .range .shape)
@@ -66,10 +60,7 @@ module _ (s : State) (f : Reached s) (r : Request) (inHand : s .request ≡ some
       low = ⊎-elim (λ z. z) (λ z. absurd (true≢false (sym u ∙ z))) (f .unheld r inHand)
 
       jobs : queued (undrawn (s .queue) (s .begun) (s .sent)) q ≤ joined s q
-      jobs =
-          let one : 1 ≤ joins (s .shape) (s .counter q) (queued (s .queue) q) = joins-pos (s .shape) (s .counter q) (queued (s .queue) q) hc (rw (front .1) (queued-front q (front .0))) in
-          let more : begunWith (s .begun) 1 ≤ joined s q = unfold joined in (together (s .begun) (joins (s .shape) (s .counter q) (queued (s .queue) q)) one) in
-          omega (arith, more, alone .1, ap (λ qs. queued qs q) (undrawn-calm (s .queue) (s .begun) (s .sent) (alone .2)))
+      jobs = omega (arith, joined-least s f q (front .0) (front .1), alone .1, ap (λ qs. queued qs q) (undrawn-calm (s .queue) (s .begun) (s .sent) (alone .2)))
 
       less : readsOf (s .shape) (s .mark) q ℓ ≤ counted s q % 2 ^ ℓ + pending s q ℓ → readsOf (s .shape) (s .mark) q ℓ < 2 ^ ℓ
       less k = omega (

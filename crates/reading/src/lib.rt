@@ -13,7 +13,7 @@ ghost use Rattle.rules.specs.Reader.{condition, costing, costs as costsOf, read
 ghost use Rattle.client.specs.View.{stateOf, foundOf};
 ghost use Rattle.client.specs.Moves.{Room};
 ghost use Rattle.ready.specs.Usable.{Usable};
-ghost use Rattle.jobs.specs.Runs.{BegunIn, CounterOf};
+ghost use Rattle.jobs.specs.Runs.{CounterOf};
 ghost use Rattle.levels.specs.Next.{NextLevel};
 ghost use Rattle.reading.specs.Sources.{Sources};
 ghost use Rattle.reading.specs.Conditions.{conditionOf, ReadAs};
@@ -41,7 +41,7 @@ pub fn level_of(x: usize) -> Found
 
 // The filled levels of partition q below this number are sources of the front job; 0 if that is for another partition.
 pub fn sources(c: Client, m: &[u8], q: usize) -> usize
-    requires { ⌜ Room c (now m) × (c .jobs ≤ 64) × (q < c .shape .p) × BegunIn c (now m) ⌝ }
+    requires { ⌜ Room c (now m) × (c .jobs ≤ 64) × (q < c .shape .p) × (c .begun ≤ 64) ⌝ }
     ensures { λ r. ⌜ Sources c (now (m .entry)) q r ⌝ }
 {
     if c.jobs == 0 {
@@ -182,7 +182,7 @@ fn wears(c: Client, m: &[u8], q: usize, counter: usize, l: usize) -> bool
 
 // Whether some filled level l of partition q that is no source has been read 2^l times.
 pub fn is_worn(c: Client, m: &[u8], q: usize) -> bool
-    requires { ⌜ Room c (now m) × (c .jobs ≤ 64) × (q < c .shape .p) × BegunIn c (now m) ⌝ }
+    requires { ⌜ Room c (now m) × (c .jobs ≤ 64) × (q < c .shape .p) × (c .begun ≤ 64) ⌝ }
     ensures { λ r. ⌜ r ≡ any (worn (stateOf c (now (m .entry))) q) (below (c .shape .l)) ⌝ }
 {
     let levels = c.shape.l;

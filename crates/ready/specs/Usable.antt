@@ -19,7 +19,7 @@ use Rattle.memory.specs.Tables.{Tables, tablesOf}
 use Rattle.memory.specs.Fits.{shapeOf, fits}
 use Rattle.client.specs.declared.Client.{Client}
 use Rattle.client.specs.View.{view, stateOf}
-use Rattle.client.specs.Ready.{requestFits, countsFit, runFits, handFits, ownWaits, Counts, counts-facts, Asked, asked-facts, in-range}
+use Rattle.client.specs.Ready.{requestFits, countsFit, handFits, ownWaits, Counts, counts-facts, Asked, asked-facts, in-range}
 use Rattle.client.specs.Moves.{Room}
 
 pub record Usable (c : Client) (m : List ℕ) : Type 0 where
@@ -58,7 +58,7 @@ module _ (c : Client) (m : List ℕ) where
   t = tablesOf h m
 
   -- the question, part by part
-  pub ready-is : within h ≡ true → needed h ≤ length m → ready (stateOf c m) (length m) ≡ (countsFit c && (runFits c t && handFits c (ownWaits c t)))
+  pub ready-is : within h ≡ true → needed h ≤ length m → ready (stateOf c m) (length m) ≡ (countsFit c && handFits c (ownWaits c t))
   unfolding ready stateOf view
   ready-is w l = ap (λ b. b && inRange (view c t)) (le-leb (needed h) (length m) l) ∙ in-range c t w (asked-length h m l)
 
@@ -117,12 +117,12 @@ module _ (c : Client) (m : List ℕ) where
   usable e =
       let w = shaped e in
       let l = long e in
-      let r : (countsFit c && (runFits c t && handFits c (ownWaits c t))) ≡ true = sym (ready-is w l) ∙ e in
-      let k = hand-facts (and-r (runFits c t) (handFits c (ownWaits c t)) (and-r (countsFit c) (runFits c t && handFits c (ownWaits c t)) r)) in
+      let r : (countsFit c && handFits c (ownWaits c t)) ≡ true = sym (ready-is w l) ∙ e in
+      let k = hand-facts (and-r (countsFit c) (handFits c (ownWaits c t)) r) in
       record {
         room = fits h (length m) w l;
         range = given-in (stateOf c m) (length m) e;
-        counts = counts-facts c (and-l (countsFit c) (runFits c t && handFits c (ownWaits c t)) r);
+        counts = counts-facts c (and-l (countsFit c) (handFits c (ownWaits c t)) r);
         places = places-le c w;
         window = window-le c w;
         jobs = k .0;

@@ -12,7 +12,7 @@ ghost use Rattle.rules.specs.Questions.{ready};
 ghost use Rattle.memory.specs.Fits.{shapeOf};
 ghost use Rattle.memory.specs.Tables.{tablesOf};
 ghost use Rattle.client.specs.View.{stateOf};
-ghost use Rattle.client.specs.Ready.{requestFits, countsFit, runFits, handFits, ownWaits};
+ghost use Rattle.client.specs.Ready.{requestFits, countsFit, handFits, ownWaits};
 ghost use Rattle.client.specs.Moves.{Room};
 ghost use Rattle.ready.specs.Usable.{shapeFits};
 
@@ -37,23 +37,11 @@ fn counts_fit(c: Client) -> bool
     ensures { λ a. ⌜ a ≡ countsFit c ⌝ }
 {
     let slots = bits::pow2(c.shape.l + 1) - 2;
-    (c.cursor <= slots) & (c.sent <= slots) & (c.out <= c.shape.w) & (c.waiting <= c.shape.e)
-}
-
-// The front job runs for no more jobs than may join. One always may, so that only of more the counter of its partition is asked.
-fn run_fits(c: Client, m: &[u8]) -> bool
-    requires { ⌜ Room c (now m) ⌝ }
-    ensures { λ a. ⌜ a ≡ runFits c (tablesOf (shapeOf (c .shape)) (now (m .entry))) ⌝ }
-{
-    if c.begun < 2 {
-        return c.begun <= c.jobs;
-    }
-    if c.jobs == 0 {
-        return false;
-    }
-    let q = memory::tables::job(c.shape, m, 0);
-    let counter = memory::tables::counter(c.shape, m, q);
-    c.begun <= bits::joins(counter, 64, c.shape.l)
+    (c.begun <= 64)
+        & (c.cursor <= slots)
+        & (c.sent <= slots)
+        & (c.out <= c.shape.w)
+        & (c.waiting <= c.shape.e)
 }
 
 // With a request in hand there is room for its jobs and its block.
@@ -90,9 +78,6 @@ pub fn numbers_fit(c: Client, m: &[u8]) -> bool
     ensures { λ a. ⌜ a ≡ ready (stateOf c (now (m .entry))) (length (now (m .entry))) ⌝ }
 {
     if !counts_fit(c) {
-        return false;
-    }
-    if !run_fits(c, m) {
         return false;
     }
     hand_fits(c, m)

@@ -26,14 +26,13 @@ use Rattle.client.specs.Moves.{withRequest, atFound, Room, Stands}
 use Rattle.client.specs.Readings.{handOf, hand-none, hand-some, hand-held, hand-released, place-as, as-number, out-count}
 use Rattle.client.specs.View.{stateOf, view, placeOf, foundBy, handBy, requestOf}
 use Rattle.ready.specs.Usable.{usable}
-use Rattle.jobs.specs.Runs.{BegunIn, begun-in}
 use Rattle.reading.specs.Slots.{level-of}
 
 -- the client's counts fit, and so does the block of a request in hand
 pub record Releasable (c : Client) (m : List ℕ) : Type 0 where
   pub room : Room c m
   pub jobs : c .jobs ≤ 64
-  pub begun : BegunIn c m
+  pub begun : c .begun ≤ 64
   pub waiting : c .waiting ≤ c .shape .n
   pub out : c .out ≤ 32
   pub block : (c .request .kind ≡ 0 → ⊥) → c .request .block < c .shape .n
@@ -41,7 +40,7 @@ pub record Releasable (c : Client) (m : List ℕ) : Type 0 where
 pub releasable : (c : Client) (m : List ℕ) → ready (stateOf c m) (length m) ≡ true → Releasable c m
 releasable c m e =
     let u = usable c m e in
-    record { room = u .room; jobs = u .jobs; begun = begun-in c m (u .range); waiting = omega (arith, u .counts .waiting, u .places); out = omega (arith, u .counts .out, u .window); block = λ n. u .asked n .0 .block }
+    record { room = u .room; jobs = u .jobs; begun = u .counts .begun; waiting = omega (arith, u .counts .waiting, u .places); out = omega (arith, u .counts .out, u .window); block = λ n. u .asked n .0 .block }
 
 -- The client r after it, with the memory as it was
 pub record Released (c : Client) (m : List ℕ) (r : Client) : Type 0 where

@@ -9,7 +9,6 @@ ghost use Rattle.rules.specs.Jobs.{queued};
 ghost use Rattle.rules.specs.Request.{undrawnOnly, heldFor};
 ghost use Rattle.client.specs.View.{stateOf};
 ghost use Rattle.client.specs.Moves.{Room};
-ghost use Rattle.jobs.specs.Runs.{BegunIn};
 ghost use Rattle.releasing.specs.Performs.{Settled};
 ghost use Rattle.releasing.specs.Released.{Releasable, Released};
 
@@ -46,7 +45,7 @@ fn is_undrawn_only(c: Client, m: &[u8], q: usize, n: usize) -> bool
 
 // Whether a request for a block of partition q is held: a job for q is queued, but for the only one, at the front and undrawn, if no other level is worn.
 fn is_held_for(c: Client, m: &[u8], q: usize) -> bool
-    requires { ⌜ Room c (now m) × (c .jobs ≤ 64) × (q < c .shape .p) × BegunIn c (now m) ⌝ }
+    requires { ⌜ Room c (now m) × (c .jobs ≤ 64) × (q < c .shape .p) × (c .begun ≤ 64) ⌝ }
     ensures { λ r. ⌜ r ≡ heldFor (stateOf c (now (m .entry))) q ⌝ }
 {
     let n = jobs::queued(c, m, q);

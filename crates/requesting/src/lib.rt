@@ -19,7 +19,6 @@ ghost use Rattle.memory.specs.Fits.{shapeOf, Fits};
 ghost use Rattle.client.specs.View.{stateOf};
 ghost use Rattle.client.specs.Moves.{Room, Stands};
 ghost use Rattle.tape.specs.Tape.{wordsOf};
-ghost use Rattle.jobs.specs.Runs.{BegunIn};
 ghost use Rattle.contract.specs.Meets.{Meets};
 ghost use Rattle.requesting.specs.Requesting.{requestNumber, Kept, Taken};
 
@@ -89,7 +88,7 @@ fn keep(h: Shape, m: &mut [u8], kind: usize, contents: &[u8])
 
 // The request is in hand from now on, and is released at once if nothing holds it.
 fn take(c: Client, m: &mut [u8], kind: usize, block: usize, contents: &[u8], tape: &[u8]) -> Client
-    requires { ⌜ Room c (now m) × (c .jobs ≤ 64) × (c .waiting ≤ c .shape .n) × (c .out ≤ 32) × (block < c .shape .n) × (within (shapeOf (c .shape)) ≡ true) × (1 ≤ kind) × (length (now contents) ≡ bytesOf (shapeOf (c .shape)) kind) × (2 ≤ length (wordsOf (now tape))) × BegunIn c (now m) ⌝ }
+    requires { ⌜ Room c (now m) × (c .jobs ≤ 64) × (c .waiting ≤ c .shape .n) × (c .out ≤ 32) × (block < c .shape .n) × (within (shapeOf (c .shape)) ≡ true) × (1 ≤ kind) × (length (now contents) ≡ bytesOf (shapeOf (c .shape)) kind) × (2 ≤ length (wordsOf (now tape))) × (c .begun ≤ 64) ⌝ }
     ensures { λ r. ⌜ Stands r (now (m .entry)) (now (m .exit)) (release (Taken c (now (m .entry)) kind block (now (contents .entry)) (now (tape .entry)))) ⌝ }
 {
     let p = c.shape.p;

@@ -5,7 +5,7 @@ use Prim.Native.Nat.{ℕ, zero, suc, _+_, _-_, _^_}
 use lib.ListN.{length}
 use lib.Dec.{ltb, eqb}
 use Rattle.lists.specs.Tests.{if_then_else_}
-use Rattle.lists.specs.Search.{keep, without}
+use Rattle.lists.specs.Search.{keep, withoutFirst}
 use Rattle.rules.specs.Shape.{slots}
 use Rattle.rules.specs.State.{State}
 use Rattle.rules.specs.Draws.{orderBounds}
@@ -21,9 +21,9 @@ unfoldable pub begunWith : ℕ → ℕ → ℕ
 begunWith zero n = n
 begunWith (suc j) n = suc j
 
--- j of the front job, for q
+-- j of the front job, for q: "at most 2^L − 1 − counter, or just itself when all levels are filled"
 unfoldable pub joined : State → ℕ → ℕ
-joined s q = begunWith (s .begun) (joins (s .shape) (s .counter q) (queued (s .queue) q))
+joined s q = joins (s .shape) (s .counter q) (begunWith (s .begun) (queued (s .queue) q))
 
 -- t of the front job, and the levels that it writes
 unfoldable pub topOf : State → ℕ → ℕ
@@ -34,8 +34,7 @@ levelsOf s q = writtenLevels (s .shape) (s .counter q) (joined s q)
 
 -- "All j leave the queue": the first j jobs for q
 unfoldable pub leaveQueue : ℕ → ℕ → List ℕ → List ℕ
-leaveQueue q zero qs = qs
-leaveQueue q (suc j) qs = leaveQueue q j (without (eqb q) qs)
+leaveQueue q j qs = withoutFirst (eqb q) j qs
 
 -- how many blocks these levels hold, "at most 2^ℓ" each
 unfoldable pub capacity : List ℕ → ℕ

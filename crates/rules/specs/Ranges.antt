@@ -8,7 +8,6 @@ use lib.Dec.{ltb, leb, eqb}
 use Rattle.lists.specs.Tests.{if_then_else_, every, between}
 use Rattle.lists.specs.Search.{all, keep, below}
 use Rattle.rules.specs.Shape.{Shape, within, slots, cell}
-use Rattle.rules.specs.Levels.{joins}
 use Rattle.rules.specs.State.{Command, read, write, Place, nowhere, stored, Found, foundNowhere, foundCache, foundLevel, Request, State}
 
 unfoldable pub isKind : ℕ → Bool
@@ -50,11 +49,6 @@ unfoldable pub queueFits : List ℕ → Option Request → Bool
 queueFits qs none = leb (length qs) 64
 queueFits qs (some r) = leb (length qs) 62
 
--- the jobs that the front job runs for: "at most 2^L − 1 − counter, or just itself when all levels are filled", of at most 64
-unfoldable pub jobFits : (ℕ → ℕ) → List ℕ → ℕ → Bool
-jobFits most [] j = eqb j 0
-jobFits most (q ∷ _) j = leb j (most q)
-
 -- the blocks that wait besides b
 unfoldable pub others : List ℕ → ℕ → List ℕ
 others waiting b = keep (λ a. not (eqb a b)) waiting
@@ -80,7 +74,7 @@ ranges s = let h = s .shape in
     ∷ all (λ b. ltb b (h .N)) (s .waiting)
     ∷ all (λ q. ltb q (h .P)) (s .queue)
     ∷ all (rangeCommand h) (s .outstanding)
-    ∷ jobFits (λ q. joins h (s .counter q) 64) (s .queue) (s .begun)
+    ∷ leb (s .begun) 64  -- jobs of a queue of at most 64
     ∷ leb (s .cursor) (slots (h .L) - 2)
     ∷ leb (s .sent) (slots (h .L) - 2)
     ∷ leb (length (s .outstanding)) (h .W)  -- "W commands outstanding at most"

@@ -32,7 +32,7 @@ use Rattle.cache.specs.Longest.{waitsFor, Longest}
 use Rattle.gather.specs.Gathered.{Gathers}
 use Rattle.ready.specs.Usable.{Usable}
 use Rattle.jobs.specs.declared.Run.{Run}
-use Rattle.jobs.specs.Runs.{Runs, RunOf, begun-in}
+use Rattle.jobs.specs.Runs.{Runs, RunOf}
 use Rattle.sending.specs.declared.Plan.{Plan}
 
 -- the front job is for q
@@ -42,7 +42,7 @@ front-runs c m q u l f = record {
   jobs = u .jobs;
   partition = l;
   front = f .1 ∙ ap (λ qs. q ∷ dropAt 0 qs) (sym (f .1));
-  begun = begun-in c m (u .range);
+  begun = u .counts .begun;
 }
 
 -- it is where a level of q is a source

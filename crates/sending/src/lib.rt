@@ -47,9 +47,6 @@ fn begun(c: Client, m: &[u8], q: usize, l: usize) -> usize
     requires { ⌜ Usable c (now m) × (q < c .shape .p) × (filled (stateOf c (now m) .counter q) l ≡ true) ⌝ }
     ensures { λ r. ⌜ r ≡ (if isSource (stateOf c (now (m .entry))) q l then joinedOf (stateOf c (now (m .entry))) q else c .begun) ⌝ }
 {
-    if c.begun != 0 {
-        return c.begun;
-    }
     if reading::sources(c, m, q) <= l {
         return c.begun;
     }

@@ -22,7 +22,7 @@ fn bounds(shape: Shape, rng: &mut Rng) -> Vec<usize> {
     let (n, p, levels) = (shape.blocks, shape.partitions, shape.levels);
     let (places, window, slots) = (shape.places, shape.window, (2 << levels) - 2);
     let jobs = [4, 62, 64][rng.below(3)];
-    let begun = [1, 3, (1 << levels) - 1][rng.below(3)].min(64);
+    let begun = [1, 3, (1 << levels) - 1, 64][rng.below(4)].min(64);
     let request = [2, n, p, p, levels, levels + 2, window];
     let rest = [jobs, begun, slots, slots, places, window];
     [&[4096, 64, 8, 512, n, 32][..], &request, &rest].concat()

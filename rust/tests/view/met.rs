@@ -68,11 +68,15 @@ pub enum Met {
     Unqueued,
     /// and ends it.
     EndsUnqueued,
+    /// The same of one that has begun with more jobs than may run together,
+    Beyond,
+    /// and ends it.
+    EndsBeyond,
 }
 
 /// What calls leave; the others, from `Worn` on, are met in damaged states alone.
 const LEFT_BY_CALLS: usize = Met::Worn as usize;
-const ALL: usize = Met::EndsUnqueued as usize + 1;
+const ALL: usize = Met::EndsBeyond as usize + 1;
 const NAMES: [&str; ALL] = [
     "unread",
     "outstanding",
@@ -99,6 +103,8 @@ const NAMES: [&str; ALL] = [
     "held by none",
     "unqueued",
     "ends unqueued",
+    "beyond",
+    "ends beyond",
 ];
 
 /// How often each was met.

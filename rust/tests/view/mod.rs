@@ -156,13 +156,12 @@ pub fn decode(state: &[u8], memory: &[u8]) -> Option<View> {
         return None;
     }
     let all = slots(shape.levels) - 2;
-    let job = c[JOBS] <= 64 && c[CURSOR] <= all && c[SENT] <= all;
+    let job = c[JOBS] <= 64 && c[BEGUN] <= 64 && c[CURSOR] <= all && c[SENT] <= all;
     if !job || c[WAITING] > shape.places || c[OUT] > shape.window {
         return None;
     }
     let view = Tables { shape, memory }.view(&c);
-    let in_range = view.run_in_range() && view.hand_in_range();
-    in_range.then_some(view)
+    view.hand_in_range().then_some(view)
 }
 
 impl Tables<'_> {

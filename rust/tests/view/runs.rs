@@ -1,6 +1,7 @@
 //! Jobs of one partition together (document 02, P7), in every state that is in
 //! range: how many jobs the front one runs for, the levels that they read and
-//! write, and what they change. That as many are queued is asked of no state.
+//! write, and what they change. That as many are queued, or may run together, is
+//! asked of no state.
 
 use super::{View, slots};
 use plain::calls::{Draws, ask};
@@ -32,20 +33,14 @@ impl View {
         }
     }
 
-    /// A front job that has begun runs for no more jobs than could be; without a
-    /// job none has begun.
-    pub fn run_in_range(&self) -> bool {
-        let most = self.queue.first().map_or(0, |q| self.joins(*q, 64));
-        self.begun <= most
-    }
-
-    /// For how many jobs the front one, for q, runs: those it began with, and
-    /// until then those it would begin with.
+    /// For how many jobs the front one, for q, runs: of those it began with, and
+    /// until then of those queued, as many as may run together.
     pub fn joined(&self, q: usize) -> usize {
-        match self.begun {
-            0 => self.joins(q, self.jobs_for(q)),
+        let jobs = match self.begun {
+            0 => self.jobs_for(q),
             begun => begun,
-        }
+        };
+        self.joins(q, jobs)
     }
 
     /// The counter of q after the run at the front.

@@ -8,7 +8,6 @@ use Rattle.rules.specs.Questions.{ready, questions, firstNo, number}
 use Rattle.client.specs.View.{stateOf}
 use Rattle.ready.specs.Usable.{usable}
 use Rattle.client.specs.Readings.{handOf}
-use Rattle.jobs.specs.Runs.{begun-in}
 use Rattle.collecting.specs.Collecting.{asked-none, asked-some, asked-finished, hand, size-is}
 use Rattle.collecting.proofs.number.Statement.{statement}
 use Rattle.collecting.proofs.number.Tie as tie
@@ -39,7 +38,7 @@ is-finished-requires c κs =
     let d = c .before .before in
     let a = d .before .before .before .args in
     let u = usable (a .c) (a .m .now) (begun d) in
-    (hand (a .c) (a .m .now) u (c .if2 .left), begun-in (a .c) (a .m .now) (u .range))
+    (hand (a .c) (a .m .now) u (c .if2 .left), u .counts .begun)
 
 returns-3 : tie.Need-returns-3
 unfolding number questions firstNo

@@ -9,7 +9,7 @@ use Rattle.client.specs.Moves.{withRequest, withOut, Stands}
 use Rattle.client.specs.Rows.{dropAt}
 use Rattle.client.specs.View.{stateOf}
 use Rattle.completing.specs.Awaited.{lessened}
-use Rattle.completing.specs.Completing.{begun-left, read-done, write-done}
+use Rattle.completing.specs.Completing.{read-done, write-done}
 use Rattle.completing.proofs.complete.Statement.{statement}
 use Rattle.completing.proofs.complete.Tie as tie
 use Rattle.completing.proofs.await_less.Reads as await-less-reads
@@ -55,8 +55,7 @@ finish-job-requires c κs =
     let s = k .before .before .before .before .before in
     let a = s .args in
     let e = client-is k in
-    let begun = begun-left (a .c) (k .complete .result) (a .m .now) _ _ (a .bytes .now) (a .j) (s .pre) (stands k) (ap (λ (x : Client). x .shape) e) (ap (λ (x : Client). x .begun) e) in
-    (rw e (omega (arith, s .pre .room)), rw e (omega (arith, s .pre .out, s .pre .place)), rw e (s .pre .jobs), begun)
+    (rw e (omega (arith, s .pre .room)), rw e (omega (arith, s .pre .out, s .pre .place)), rw e (s .pre .jobs), rw e (s .pre .begun))
 
 same-length-2 : tie.Need-same-length-2
 same-length-2 c = omega arith

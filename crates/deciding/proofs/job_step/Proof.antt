@@ -1,7 +1,6 @@
 use mathlib.Core.Path.{sym, _∙_}
 use native.Mathlib.Omega.{arith}
 use Rattle.client.specs.View.{stateOf, view}
-use Rattle.jobs.specs.Runs.{begun-in}
 use Rattle.deciding.specs.Steps.{job-none, job-gathers, job-writes}
 use Rattle.deciding.proofs.job_step.Statement.{statement}
 use Rattle.deciding.proofs.job_step.Tie as tie
@@ -16,7 +15,7 @@ front-requires c κs = let u = c .before .before .before .pre in (u .room, omega
 running-requires : tie.Need-running-requires
 running-requires c κs =
     let u = c .before .before .before .before .pre in
-    record { room = u .room; jobs = u .jobs; partition = c .front .ensures .1; front = c .front .ensures .0; begun = begun-in _ _ (u .range) }
+    record { room = u .room; jobs = u .jobs; partition = c .front .ensures .1; front = c .front .ensures .0; begun = u .counts .begun }
 
 gather-step-requires : tie.Need-gather-step-requires
 gather-step-requires c κs =

@@ -5,7 +5,6 @@ use native.Mathlib.Omega.{arith}
 use lib.Pow.{pow-mono}
 use Rattle.rules.specs.Turn.{readStep}
 use Rattle.client.specs.View.{foundOf}
-use Rattle.jobs.specs.Runs.{begun-in}
 use Rattle.levels.specs.Next.{next-passes}
 use Rattle.reading.specs.Slots.{reads-lt, placed-lt}
 use Rattle.deciding.specs.Steps.{first-none, first-at}
@@ -22,7 +21,7 @@ level-of-requires c κs =
     omega (arith, placed-lt (a .args .c) (a .args .m .now) (c .place .result) (c .place .ensures), pow-mono {i = h .l + 1} {j = 9} (omega (arith, a .pre .0 .room .levels)))
 
 sources-requires : tie.Need-sources-requires
-sources-requires c κs = let a = c .before .before .before in let u = a .pre .0 in (u .room, u .jobs, reads-lt _ _ _ (a .pre .1) u, begun-in _ _ (u .range))
+sources-requires c κs = let a = c .before .before .before in let u = a .pre .0 in (u .room, u .jobs, reads-lt _ _ _ (a .pre .1) u, u .counts .begun)
 
 next-level-requires : tie.Need-next-level-requires
 next-level-requires c κs = let a = c .before .before .before .before in let u = a .pre .0 in (u .room, reads-lt _ _ _ (a .pre .1) u, u .asked (a .pre .1 .some) .0 .level, c .sources .ensures)

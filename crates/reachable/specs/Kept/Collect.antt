@@ -1,5 +1,5 @@
 -- A collect keeps the invariant.
-use mathlib.Core.Path.{_≡_, refl, ap, sym, _∙_, fun-ext}
+use mathlib.Core.Path.{_≡_, refl, ap, sym, _∙_, fun-ext, subst}
 use mathlib.Core.Logic.{_⊎_, inl, inr, ⊎-elim}
 use mathlib.Core.Bool.{Bool, true, false, not, true≢false, _&&_}
 use mathlib.Core.List.{List, [], _∷_, _++_}
@@ -22,6 +22,7 @@ use Rattle.lists.specs.Totals.{total-le}
 use Rattle.rules.specs.Jobs.{queued}
 use Rattle.rules.specs.Collect
 use Rattle.rules.specs.Collect.{finish, emptied}
+use Rattle.rules.specs.Laws.Levels.{joins-le, joins-more, queued-front}
 use Rattle.rules.specs.Laws.Range.{InRange, RequestIn}
 use Rattle.rules.specs.Levels.{filled}
 use Rattle.rules.specs.Ranges.{others, bytesOf}
@@ -52,8 +53,11 @@ module _ (s : State) (f : Reached s) (r : Request) (inHand : s .request ≡ some
   hb : b < h .N
   hb = block-lt s f r inHand
 
+  some-queued : (q : ℕ) (rest : List ℕ) → s .queue ≡ q ∷ rest → 1 ≤ queued (s .queue) q
+  some-queued q rest e = subst (λ qs. 1 ≤ queued qs q) (sym e) (queued-front q rest)
+
   filled-queue : Filled (s .queue) (s .begun) (s .sent)
-  filled-queue n = f .running (busy-begun s f n)
+  filled-queue n = let x = f .running (busy-begun s f n) in (x .0, x .1, (x .2 .0, omega (arith, x .2 .1, joins-le (s .shape) (s .counter (x .0)) (queued (s .queue) (x .0)) (some-queued (x .0) (x .1) (x .2 .0)))))
 
   pub counted-kept : counted s′ ≡ counted s
   counted-kept = fun-ext (λ p. go p (ℕ-discrete (s .sent) 0))
@@ -296,7 +300,7 @@ module _ (s : State) (f : Reached s) (r : Request) (inHand : s .request ≡ some
     full = full-kept;
     taken = taken-kept;
     begun = λ n. let x = f .begun n in (x .0, x .1 ++ more, (ap (λ l. l ++ more) (x .2 .0), x .2 .1));
-    running = λ n. let x = f .running n in (x .0, x .1 ++ more, (ap (λ l. l ++ more) (x .2 .0), omega (arith, x .2 .1, queued-append (s .queue) more (x .0))));
+    running = λ n. let x = f .running n in (x .0, x .1 ++ more, (ap (λ l. l ++ more) (x .2 .0), omega (arith, x .2 .1, joins-more (s .shape) (s .counter (x .0)) (queued (s .queue) (x .0)) _ (some-queued (x .0) (x .1) (x .2 .0)) (queued-append (s .queue) more (x .0)))));
     unbegun = f .unbegun;
     reads = reads-kept;
     unheld = λ x e. let z : _≡_ {A = ℕ} 0 1 = cc in absurd (omega arith);

@@ -96,7 +96,7 @@ module _ (s : State) (f : Reached s) (q : ℕ) (rest : List ℕ) (front : s .que
   e′ = Completion.endJob q s
 
   same-jobs : joined s q ≡ s .begun
-  same-jobs = joined-begun s q (busy-begun s f busy)
+  same-jobs = joined-begun s (f .running) q (rw front (front-is q rest)) (busy-begun s f busy)
 
   pub counted-kept : counted e′ ≡ counted s
   counted-kept = fun-ext (λ p. go p (ℕ-discrete p q))

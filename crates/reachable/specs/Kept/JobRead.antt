@@ -50,7 +50,7 @@ module _ (s : State) (f : Reached s) (q ℓ i : ℕ) (d : JobReads s q ℓ i) (h
 
   still-gathers : (p m : ℕ) → Gathers s p m → Gathers s′ p m
   unfolding doStep Turn.markRead Turn.send
-  still-gathers p m g = gathers-still s (joined s q) begins p m g
+  still-gathers p m g = gathers-still s (joined s q) f begins p m g
 
   job-gathers : Gathers s′ q ℓ
   unfolding doStep Turn.markRead Turn.send topOf
@@ -58,11 +58,11 @@ module _ (s : State) (f : Reached s) (q ℓ i : ℕ) (d : JobReads s q ℓ i) (h
 
   counted-kept : counted s′ ≡ counted s
   unfolding doStep Turn.markRead Turn.send counted drawn
-  counted-kept = counted-still s (joined s q) begins
+  counted-kept = counted-still s (joined s q) f begins
 
   pending-kept : (p m : ℕ) → pending s′ p m ≡ pending s p m
   unfolding doStep Turn.markRead Turn.send pending
-  pending-kept p m = ap (λ qs. queued qs p + bit (passedBy (s .partition) (s .request) p m)) (undrawn-still s (joined s q) begins)
+  pending-kept p m = ap (λ qs. queued qs p + bit (passedBy (s .partition) (s .request) p m)) (undrawn-still s (joined s q) f begins)
 
   marks : s′ .mark ≡ put (cell (s .shape) q ℓ i) 0 (s .mark)
   unfolding doStep Turn.markRead Turn.send
@@ -111,7 +111,7 @@ module _ (s : State) (f : Reached s) (q ℓ i : ℕ) (d : JobReads s q ℓ i) (h
 
       go : Dec (offset m j < s .cursor) → Dec (offset m j < offset ℓ i) → put (cell (s .shape) q ℓ i) 0 (s .mark) (cell (s .shape) p m j) ≡ 0
       go (yes x) _ = still-read (cell (s .shape) q ℓ i) (cell (s .shape) p m j) (s .mark)
-          (f .scanned p m j a z (begun x, subst (λ n. m ≤ topLevel (s .shape) (s .counter p) n) (joined-begun s q (begun x)) (l .1), l .2) hj x)
+          (f .scanned p m j a z (begun x, subst (λ n. m ≤ topLevel (s .shape) (s .counter p) n) (joined-begun s (f .running) q front (begun x)) (l .1), l .2) hj x)
       go (no x) (yes y) =
           let u : Blocks.isUnread s q m j ≡ false = d .next m j (unfold topOf in (rw v at (l .1))) (rw v at (l .2)) hj (omega arith) y in
           let u′ : s .mark (cell (s .shape) q m j) ≡ 1 → ⊥ = eqb-false (s .mark (cell (s .shape) q m j)) 1 u in
@@ -147,7 +147,7 @@ module _ (s : State) (f : Reached s) (q ℓ i : ℕ) (d : JobReads s q ℓ i) (h
   -- the level read is a source, and sources stay
   source-same : (p m : ℕ) → Request.isSource s p m ≡ Request.isSource s′ p m
   unfolding doStep Turn.markRead Turn.send Request.isSource topOf joined
-  source-same p m = sym (source-still s (joined s q) begins p m)
+  source-same p m = sym (source-still s (joined s q) f begins p m)
 
   other : (m : ℕ) (x : Request) → Request.isSource s′ (s .partition (x .block)) m ≡ false → ¬ ((s .partition (x .block) ≡ q) × (m ≡ ℓ))
   unfolding doStep Turn.markRead Turn.send
@@ -169,7 +169,7 @@ module _ (s : State) (f : Reached s) (q ℓ i : ℕ) (d : JobReads s q ℓ i) (h
     unbegun = λ e. absurd (omega (arith, joins-front s f q (d .rest) (d .front) .0));
     reads = reads-kept;
     unheld = f .unheld;
-    released = λ x e k. ⊎-elim inl (λ a. inr (alone-still s (joined s q) begins (s .partition (x .block)) a)) (f .released x e k);
+    released = λ x e k. ⊎-elim inl (λ a. inr (alone-still s (joined s q) f begins (s .partition (x .block)) a)) (f .released x e k);
     unworn = λ x e k m l hm full n. omega (arith, mark-same (s .shape) q ℓ i hℓ (d .slot) (s .mark) (s .partition (x .block)) m hm (λ w. other m x n w), f .unworn x e k m l hm full (source-same (s .partition (x .block)) m ∙ n));
     unawaited = λ x e k. drop-snoc (x .awaits) (s .outstanding) (cmd read q ℓ i) (all-map (λ c a w. (still-gathers (s .partition (x .block)) (c .level) (a w .0), a w .1)) (f .unawaited x e k)) (λ w. (rw (← w) job-gathers, λ p. not-own x e k w p));
     unread = unread-kept;

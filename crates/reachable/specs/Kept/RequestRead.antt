@@ -59,14 +59,14 @@ module _ (s : State) (f : Reached s) (q ℓ i : ℕ) (d : RequestReads s q ℓ i
 
   still-gathers : (p m : ℕ) → Gathers s p m → Gathers s′ p m
   unfolding doStep Turn.markRead Turn.send
-  still-gathers p m g = gathers-still s j′ begins p m g
+  still-gathers p m g = gathers-still s j′ f begins p m g
 
   source-same : (p m : ℕ) → Request.isSource s′ p m ≡ Request.isSource s p m
   unfolding doStep Turn.markRead Turn.send Request.isSource topOf joined
-  source-same p m = source-still s j′ begins p m
+  source-same p m = source-still s j′ f begins p m
 
   now-gathers : Request.isSource s q ℓ ≡ true → Gathers s′ q ℓ
-  now-gathers u = source-gathers s′ q ℓ (unfold doStep Turn.markRead Turn.send in (front-calm s f q ℓ i d)) some-jobs (source-same q ℓ ∙ u)
+  now-gathers u = source-gathers s′ (unfold doStep Turn.markRead Turn.send in (running-still s j′ f begins)) q ℓ (unfold doStep Turn.markRead Turn.send in (front-calm s f q ℓ i d)) some-jobs (source-same q ℓ ∙ u)
     where
       some-jobs : s′ .begun ≡ 0 → ⊥
       some-jobs e =
@@ -76,7 +76,7 @@ module _ (s : State) (f : Reached s) (q ℓ i : ℕ) (d : RequestReads s q ℓ i
 
   counted-kept : counted s′ ≡ counted s
   unfolding doStep Turn.markRead Turn.send counted drawn
-  counted-kept = counted-still s j′ begins
+  counted-kept = counted-still s j′ f begins
 
   calm : isFront (s .queue) q ≡ true → s .sent ≡ 0
   calm = front-calm s f q ℓ i d
@@ -105,7 +105,7 @@ module _ (s : State) (f : Reached s) (q ℓ i : ℕ) (d : RequestReads s q ℓ i
           passed-level (s .partition) (s .request) r ℓ (suc (length (s .outstanding))) p m (d .inHand) (w .0) (omega (arith, d .left))
 
       more : pending s p m ≤ pending s′ p m
-      more = pending-more s s′ p m (omega (arith, ap (λ qs. queued qs p) (undrawn-still s j′ begins))) still
+      more = pending-more s s′ p m (omega (arith, ap (λ qs. queued qs p) (undrawn-still s j′ f begins))) still
 
       same : counted s′ p % 2 ^ m ≡ counted s p % 2 ^ m
       same = ap (λ c. c p % 2 ^ m) counted-kept
@@ -119,7 +119,7 @@ module _ (s : State) (f : Reached s) (q ℓ i : ℕ) (d : RequestReads s q ℓ i
       go (yes a) (yes b) k = omega (
         arith,
         same,
-        ap (λ qs. queued qs p) (undrawn-still s j′ begins),
+        ap (λ qs. queued qs p) (undrawn-still s j′ f begins),
         mark-more (s .shape) q ℓ i hℓ hi (s .mark) p m hm,
         bit-no (passedBy (s .partition) (s .request) p m) (λ j. let w = passed-why (s .partition) (s .request) r p m (d .inHand) j in omega (arith, d .left, w .1)),
         bit-yes (passedBy (s .partition) (s′ .request) p m) (passed-level (s .partition) (s .request) r ℓ (suc (length (s .outstanding))) p m (d .inHand) (d .part ∙ sym a) (omega arith)),
@@ -130,7 +130,7 @@ module _ (s : State) (f : Reached s) (q ℓ i : ℕ) (d : RequestReads s q ℓ i
 
   released-kept : Released s′
   unfolding doStep Turn.markRead Turn.send
-  released-kept x e k = subst (λ (y : Request). (¬ Mem (s .partition (y .block)) (s .queue)) ⊎ Alone s′ (s .partition (y .block))) (the x e) (⊎-elim inl (λ a. inr (alone-still s j′ begins (s .partition (r .block)) a)) (f .released r (d .inHand) (d .unheld)))
+  released-kept x e k = subst (λ (y : Request). (¬ Mem (s .partition (y .block)) (s .queue)) ⊎ Alone s′ (s .partition (y .block))) (the x e) (⊎-elim inl (λ a. inr (alone-still s j′ f begins (s .partition (r .block)) a)) (f .released r (d .inHand) (d .unheld)))
 
   -- of the levels above the one read nothing is read
   unworn-kept : Unworn s′
@@ -253,7 +253,7 @@ module _ (s : State) (f : Reached s) (q ℓ i : ℕ) (d : RequestReads s q ℓ i
 
   commands-kept : Commands s′
   unfolding doStep Turn.markRead Turn.send
-  commands-kept = all-append (all-map (λ c k. ⊎-elim (λ a. inl (reading-still c a)) (λ a. inr (subst (λ n. WriteOf h (s .counter) (s .queue) n (s .sent) c) (sym (busy-still s j′ begins (a .busy))) a)) k) (f .commands)) (cons (inl reading-new) nil)
+  commands-kept = all-append (all-map (λ c k. ⊎-elim (λ a. inl (reading-still c a)) (λ a. inr (subst (λ n. WriteOf h (s .counter) (s .queue) n (s .sent) c) (sym (busy-still s j′ f begins (a .busy))) a)) k) (f .commands)) (cons (inl reading-new) nil)
 
   fetched-kept : Fetched s′
   unfolding doStep Turn.markRead Turn.send
@@ -282,7 +282,7 @@ module _ (s : State) (f : Reached s) (q ℓ i : ℕ) (d : RequestReads s q ℓ i
     room = f .room;
     full = f .full;
     taken = f .taken;
-    begun = λ n. let x = f .begun n in (x .0, x .1, (x .2 .0, subst (λ j. s .sent ≤ slotCount (writtenLevels h (s .counter (x .0)) j)) (sym (busy-still s j′ begins n)) (x .2 .1)));
+    begun = λ n. let x = f .begun n in (x .0, x .1, (x .2 .0, subst (λ j. s .sent ≤ slotCount (writtenLevels h (s .counter (x .0)) j)) (sym (busy-still s j′ f begins n)) (x .2 .1)));
     running = running-still s j′ f begins;
     unbegun = unbegun-still s j′ f begins;
     reads = reads-kept;
@@ -294,7 +294,7 @@ module _ (s : State) (f : Reached s) (q ℓ i : ℕ) (d : RequestReads s q ℓ i
     fetched = fetched-kept;
     scanned = λ p m j a z l hj c.
         let n : s .begun ≡ 0 → ⊥ = λ k. omega (arith, f .unbegun k .0) in
-        still-read (cell h q ℓ i) (cell h p m j) (s .mark) (f .scanned p m j a z (subst (λ n. Source h (s .counter p) n m) (begun-still s j′ begins n) l) hj c);
+        still-read (cell h q ℓ i) (cell h p m j) (s .mark) (f .scanned p m j a z (subst (λ n. Source h (s .counter p) n m) (begun-still s j′ f begins n) l) hj c);
     apart = apart-kept;
     commands = commands-kept;
     tidy = tidy-kept;

@@ -17,7 +17,7 @@ sub-slots c = omega (arith, pow-mono {i = 1} {j = c .before .before .args .c .sh
 
 returns : tie.Need-returns
 unfolding countsFit
-returns c = rw (c .before .before .before .before .pow2 .ensures .0)
+returns c = rw (c .before .before .before .before .before .pow2 .ensures .0)
 
 pub counts-fit-spec : {M : Type 1} → statement M
 counts-fit-spec = tie.close (tie.spec add-pow2 pow2-requires sub-slots returns)

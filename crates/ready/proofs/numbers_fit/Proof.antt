@@ -8,12 +8,11 @@ use Rattle.memory.specs.Tables.{Tables, tablesOf}
 use Rattle.memory.specs.Fits.{shapeOf, fits}
 use Rattle.client.specs.Moves.{Room}
 use Rattle.client.specs.View.{stateOf}
-use Rattle.client.specs.Ready.{countsFit, runFits, handFits, ownWaits, counts-facts}
+use Rattle.client.specs.Ready.{countsFit, handFits, ownWaits, counts-facts}
 use Rattle.ready.specs.Usable.{ready-is, part-within, part-long, places-le}
 use Rattle.ready.proofs.numbers_fit.Statement.{statement}
 use Rattle.ready.proofs.numbers_fit.Tie as tie
 use Rattle.ready.proofs.counts_fit.Reads as counts-fit-reads
-use Rattle.ready.proofs.run_fits.Reads as run-fits-reads
 use Rattle.ready.proofs.hand_fits.Reads as hand-fits-reads
 
 room : (s : tie.Start) → Room (s .args .c) (s .args .m .now)
@@ -23,7 +22,7 @@ abbrev tables : tie.Start → Tables
 tables s = tablesOf (shapeOf (s .args .c .shape)) (s .args .m .now)
 
 -- the question, by its parts
-parts : (s : tie.Start) → let a = s .args in ready (stateOf (a .c) (a .m .now)) (length (a .m .now)) ≡ (countsFit (a .c) && (runFits (a .c) (tables s) && handFits (a .c) (ownWaits (a .c) (tables s))))
+parts : (s : tie.Start) → let a = s .args in ready (stateOf (a .c) (a .m .now)) (length (a .m .now)) ≡ (countsFit (a .c) && handFits (a .c) (ownWaits (a .c) (tables s)))
 parts s = let a = s .args in ready-is (a .c) (a .m .now) (part-within (a .c) (a .m .now) (s .pre)) (part-long (a .c) (a .m .now) (s .pre))
 
 counts-fit-requires : tie.Need-counts-fit-requires
@@ -36,34 +35,16 @@ returns : tie.Need-returns
 returns c =
     let s = c .before .before .before in
     let no : countsFit (s .args .c) ≡ false = sym (c .before .counts-fit .ensures) ∙ not-true _ (c .if1 .taken) in
-    sym (parts s ∙ ap (λ t. t && (runFits (s .args .c) (tables s) && handFits (s .args .c) (ownWaits (s .args .c) (tables s)))) no)
-
-run-fits-requires : tie.Need-run-fits-requires
-run-fits-requires c κs = room (c .before .before .before)
-
-returns-2 : tie.Need-returns-2
-returns-2 c =
-    let e = c .before .before in
-    let s = e .before .before .before in
-    let no : runFits (s .args .c) (tables s) ≡ false = sym (c .before .run-fits .ensures) ∙ not-true _ (c .if2 .taken) in
-    sym (parts s ∙ rw (counted e, no))
+    sym (parts s ∙ ap (λ t. t && handFits (s .args .c) (ownWaits (s .args .c) (tables s))) no)
 
 hand-fits-requires : tie.Need-hand-fits-requires
 hand-fits-requires c κs =
-    let e = c .before .before in
-    let s = e .before .before .before in
+    let s = c .before .before .before in
     let a = s .args in
-    (room s, omega (arith, counts-facts (a .c) (counted e) .waiting, places-le (a .c) (part-within (a .c) (a .m .now) (s .pre))))
+    (room s, omega (arith, counts-facts (a .c) (counted c) .waiting, places-le (a .c) (part-within (a .c) (a .m .now) (s .pre))))
 
-returns-3 : tie.Need-returns-3
-returns-3 c =
-    let r = c .before in
-    let e = r .before .before in
-    let s = e .before .before .before in
-    let runs : runFits (s .args .c) (tables s) ≡ true = sym (r .before .run-fits .ensures) ∙ not-false _ (r .if2 .left) in
-    c .hand-fits .ensures ∙ sym (parts s ∙ rw (counted e, runs))
+returns-2 : tie.Need-returns-2
+returns-2 c = let e = c .before in c .hand-fits .ensures ∙ sym (parts (e .before .before .before) ∙ rw (counted e))
 
 pub numbers-fit-spec : {M : Type 1} → statement M
-numbers-fit-spec =
-    tie.close
-    (tie.spec counts-fit-requires returns run-fits-requires returns-2 hand-fits-requires returns-3)
+numbers-fit-spec = tie.close (tie.spec counts-fit-requires returns hand-fits-requires returns-2)

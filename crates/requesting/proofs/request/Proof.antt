@@ -7,7 +7,6 @@ use Rattle.rules.specs.Run.{refuse, act, perform, sentCommand, handed, handedFo
 use Rattle.rules.specs.State.{foundNumber}
 use Rattle.client.specs.View.{stateOf, view}
 use Rattle.contract.specs.Meets.{callOf, meets-no, meets-yes}
-use Rattle.jobs.specs.Runs.{begun-in}
 use Rattle.requesting.specs.Requesting.{drawn-taken, requestNumber, request-number, Asked, request-passed, in-hand}
 use Rattle.requesting.proofs.request.Statement.{statement}
 use Rattle.requesting.proofs.request.Tie as tie
@@ -45,7 +44,7 @@ returns c =
     (meets-no (a .c) (stateOf (a .c) (a .m .now)) (request (a .kind) (a .block) (a .contents .now)) (a .m .now) (a .tape .now) [] (n .number .result) (asked n) (c .before .if1 .taken) refl)
 
 take-requires : tie.Need-take-requires
-take-requires c κs = let y = yes (c .before .before) (omega arith) in (y .usable .room, y .usable .jobs, omega (arith, y .usable .counts .waiting, y .usable .places), omega (arith, y .usable .counts .out, y .usable .window), y .block, y .shape, y .some, y .size, y .words, begun-in _ _ (y .usable .range))
+take-requires c κs = let y = yes (c .before .before) (omega arith) in (y .usable .room, y .usable .jobs, omega (arith, y .usable .counts .waiting, y .usable .places), omega (arith, y .usable .counts .out, y .usable .window), y .block, y .shape, y .some, y .size, y .words, y .usable .counts .begun)
 
 accepted-requires : tie.Need-accepted-requires
 accepted-requires c κs = omega arith

@@ -1,8 +1,6 @@
-use mathlib.Core.Path.{refl}
 use native.Mathlib.Omega.{arith}
 use Rattle.rules.specs.Request.{accept}
 use Rattle.client.specs.Moves.{Stands}
-use Rattle.jobs.specs.Runs.{begun-moved}
 use Rattle.releasing.specs.Released.{released-stands}
 use Rattle.requesting.specs.Requesting.{Taken, taken-stands}
 use Rattle.requesting.proofs.take.Statement.{statement}
@@ -37,8 +35,7 @@ release-requires c κs =
     let s = c .before .before .before .before .before .before .before .before .before .before .before in
     let p = s .pre in
     let a = s .args in
-    let begun = begun-moved (a .c) (w .result) (a .m .now) _ (Taken (a .c) (a .m .now) (a .kind) (a .block) (a .contents .now) (a .tape .now)) (taken (c .before) .state) refl refl (rw (w .ensures)) (rw (w .ensures)) (p .9) in
-    record { room = rw (w .ensures) (omega (arith, p .0)); jobs = rw (w .ensures) (p .1); begun = begun; waiting = rw (w .ensures) (p .2); out = rw (w .ensures) (p .3); block = λ z. rw (w .ensures) (p .4) }
+    record { room = rw (w .ensures) (omega (arith, p .0)); jobs = rw (w .ensures) (p .1); begun = rw (w .ensures) (p .9); waiting = rw (w .ensures) (p .2); out = rw (w .ensures) (p .3); block = λ z. rw (w .ensures) (p .4) }
 
 same-length : tie.Need-same-length
 same-length c = omega arith

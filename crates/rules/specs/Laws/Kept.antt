@@ -18,7 +18,7 @@ use Rattle.lists.specs.All.{All, nil, cons, IfSome, all-append, all-keep, all-w
 use Rattle.lists.specs.Tables.{put, put-has}
 use Rattle.rules.specs.Memory
 use Rattle.rules.specs.Blocks
-use Rattle.rules.specs.Laws.Range.{PlaceIn, FoundIn, CommandIn, RequestIn, JobsIn, InRange, range-facts, JobIn}
+use Rattle.rules.specs.Laws.Range.{PlaceIn, FoundIn, CommandIn, RequestIn, JobsIn, InRange, range-facts}
 use Rattle.rules.specs.Jobs.{joined, leaveQueue}
 use Rattle.rules.specs.Request
 use Rattle.rules.specs.Laws.Orders.{drew-each}
@@ -47,7 +47,7 @@ use Rattle.rules.specs.Form.Loading.{checks, sound, isSound, loads, stat
 use Rattle.rules.specs.Ranges.{inRange, others, isKind}
 use Rattle.rules.specs.Draws.{draws, Drew}
 use Rattle.rules.specs.Laws.Draws.{settles-drew}
-use Rattle.rules.specs.Laws.Rebuilt.{gathered-in, fills-in, front-fits, front-joins, no-job, more-jobs, rebuild-in, leave-queue-le, all-leave-queue}
+use Rattle.rules.specs.Laws.Rebuilt.{gathered-in, fills-in, front-fits, front-joins, rebuild-in, leave-queue-le, all-leave-queue}
 
 -- Commands sent
 pub kind-read : isKind 1 ≡ true
@@ -92,7 +92,7 @@ module _ (s : State) (f : InRange s) where
   front-of q [] e k = absurd (true≢false (sym k))
   front-of q (p ∷ qs) e k = (qs, e ∙ ap (λ x. x ∷ qs) (eqb-true p q k))
 
-  begun-in : (q ℓ : ℕ) (t : Bool) → Request.isSource s q ℓ ≡ t → JobIn (s .shape) (s .counter) (s .queue) (if t then joined s q else s .begun)
+  begun-in : (q ℓ : ℕ) (t : Bool) → Request.isSource s q ℓ ≡ t → (if t then joined s q else s .begun) ≤ 64
   unfolding Request.isSource
   begun-in q ℓ true e = front-fits s f q (front-of q (s .queue) refl (and-l (Request.isFront (s .queue) q) _ e))
   begun-in q ℓ false e = f .begun
@@ -120,9 +120,9 @@ module _ (s : State) (f : InRange s) where
       j = joined s q
 
       go : (u : Bool) → InRange (if u then Completion.endJob q s else s)
-      go true = inSent _ (inCursor _ (inQueue _ (inCounter _ (inBegun s f 0 (no-job (s .shape) (s .counter) (s .queue))) _ (λ p hp. put-has (λ c. c < 2 ^ s .shape .L) q _ (s .counter) p
-          (grown-lt (s .shape) (s .counter q) j (levels-pos (s .shape) (f .shape)) (f .counters q a) (front-joins s f q l e .1)) (f .counters p hp)) (no-job (s .shape) _ (s .queue)))
-          _ (all-leave-queue q j (f .queue)) (no-job (s .shape) _ (leaveQueue q j (s .queue))) (jobs-fewer (s .queue) (leaveQueue q j (s .queue)) (s .request) (leave-queue-le q j (s .queue)) (f .jobs))) 0 (omega arith)) 0 (omega arith)
+      go true = inSent _ (inCursor _ (inQueue _ (inCounter _ (inBegun s f 0 (omega arith)) _ (λ p hp. put-has (λ c. c < 2 ^ s .shape .L) q _ (s .counter) p
+          (grown-lt (s .shape) (s .counter q) j (levels-pos (s .shape) (f .shape)) (f .counters q a) (front-joins s f q l e .1)) (f .counters p hp)))
+          _ (all-leave-queue q j (f .queue)) (jobs-fewer (s .queue) (leaveQueue q j (s .queue)) (s .request) (leave-queue-le q j (s .queue)) (f .jobs))) 0 (omega arith)) 0 (omega arith)
       go false = f
 
   pub gatherBytes-in : (o : Option ℕ) (bs : List ℕ) → InRange (Completion.gatherBytes o bs s)
@@ -161,7 +161,7 @@ module _ (s : State) (f : InRange s) where
     waiting = all-append (all-keep _ (f .waiting)) (cons (a .block) nil);
     queue = all-append (f .queue) (cons (f .partitions (r .block) (a .block)) (cons (a .evict) nil));
     outstanding = f .outstanding;
-    begun = more-jobs (s .shape) (s .counter) (s .queue) _ (s .begun) (f .begun);
+    begun = f .begun;
     cursor = f .cursor;
     sent = f .sent;
     free = f .free;
@@ -222,7 +222,7 @@ fresh-in h js w d = record {
   waiting = nil;
   queue = nil;
   outstanding = nil;
-  begun = refl;
+  begun = omega arith;
   cursor = omega arith;
   sent = omega arith;
   free = omega arith;

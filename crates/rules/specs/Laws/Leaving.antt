@@ -4,8 +4,8 @@ use mathlib.Core.Bool.{Bool}
 use mathlib.Core.List.{List, [], _∷_}
 use Prim.Native.Nat.{ℕ, zero, suc}
 use lib.ListN.{take}
-use Rattle.lists.specs.Search.{keep, without}
-use Rattle.lists.specs.Leaving.{withoutFirst, without-nobody, first-kept}
+use Rattle.lists.specs.Search.{keep, without, withoutFirst}
+use Rattle.lists.specs.Leaving.{without-nobody, first-kept}
 use Rattle.rules.specs.Rebuild.{leave}
 
 pub leave-first : (p : ℕ → Bool) (k : ℕ) (xs : List ℕ) → leave (take k (keep p xs)) xs ≡ withoutFirst p k xs

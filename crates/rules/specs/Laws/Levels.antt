@@ -158,14 +158,30 @@ pub queued-front : (q : ℕ) (qs : List ℕ) → 1 ≤ queued (q ∷ qs) q
 unfolding queued
 queued-front q qs = rw (keep-yes (eqb q) q qs (eq-eqb q q refl)) (omega arith)
 
--- the front job runs for one job at least, and for no more than may join
-pub joined-in : (s : State) (q : ℕ) (qs : List ℕ) → s .queue ≡ q ∷ qs → s .counter q < 2 ^ s .shape .L → length (s .queue) ≤ 64 → s .begun ≤ joins (s .shape) (s .counter q) 64 → Joins (s .shape) (s .counter q) (joined s q)
-unfolding joined
-joined-in s q qs e c a b = go (s .begun) b
+-- as many as may join do
+pub joins-all : (h : Shape) (c j n : ℕ) → 1 ≤ j → j ≤ joins h c n → joins h c j ≡ j
+unfolding joins
+joins-all h c j n k l = go (isFull h c) l
   where
-    one : 1 ≤ queued (s .queue) q
-    one = rw e (queued-front q qs)
+    go : (t : Bool) → j ≤ (if t then 1 else min n (2 ^ h .L - 1 - c)) → (if t then 1 else min j (2 ^ h .L - 1 - c)) ≡ j
+    go true l = omega arith
+    go false l = omega arith
 
-    go : (j : ℕ) → j ≤ joins (s .shape) (s .counter q) 64 → Joins (s .shape) (s .counter q) (begunWith j (joins (s .shape) (s .counter q) (queued (s .queue) q)))
-    go zero b = unfold begunWith in (joins-pos (s .shape) (s .counter q) (queued (s .queue) q) c one, joins-more (s .shape) (s .counter q) (queued (s .queue) q) 64 one (omega (arith, queued-le (s .queue) q)))
-    go (suc j) b = unfold begunWith in (omega arith, b)
+-- the jobs that a run began with, and those that it would begin with
+pub begun-some : (j n : ℕ) → 1 ≤ j → begunWith j n ≡ j
+unfolding begunWith
+begun-some zero n l = absurd (omega arith)
+begun-some (suc j) n l = refl
+
+pub begun-none : (j n : ℕ) → j ≡ 0 → begunWith j n ≡ n
+unfolding begunWith
+begun-none j n z = rw z
+
+-- the front job runs for one job at least, and for no more than may join
+pub joined-in : (s : State) (q : ℕ) (qs : List ℕ) → s .queue ≡ q ∷ qs → s .counter q < 2 ^ s .shape .L → length (s .queue) ≤ 64 → s .begun ≤ 64 → Joins (s .shape) (s .counter q) (joined s q)
+unfolding joined
+joined-in s q qs e c a b = let x = some (s .begun) b in (joins-pos (s .shape) (s .counter q) _ c (x .0), joins-more (s .shape) (s .counter q) _ 64 (x .0) (x .1))
+  where
+    some : (j : ℕ) → j ≤ 64 → (1 ≤ begunWith j (queued (s .queue) q)) × (begunWith j (queued (s .queue) q) ≤ 64)
+    some zero b = unfold begunWith in (rw e (queued-front q qs), omega (arith, queued-le (s .queue) q))
+    some (suc j) b = unfold begunWith in (omega arith, b)

@@ -1,13 +1,14 @@
 -- The queue, job by job: how many are for q, and the first j of them leave.
-use mathlib.Core.Path.{_≡_, refl, ap, _∙_}
+use mathlib.Core.Path.{_≡_, refl, ap}
 use mathlib.Core.Bool.{Bool, true, false}
 use mathlib.Core.List.{List, [], _∷_, _++_}
-use Prim.Native.Nat.{ℕ, zero, suc, _+_, _≤_}
+use Prim.Native.Nat.{ℕ, suc, _+_, _≤_}
 use native.Mathlib.Omega.{arith}
 use lib.ListN.{length}
 use lib.Dec.{eqb}
 use Rattle.lists.specs.Tests.{if_then_else_}
-use Rattle.lists.specs.Search.{any, keep, without, member, keep-yes, keep-no, without-yes, without-no}
+use Rattle.lists.specs.Search.{any, keep, withoutFirst, member, keep-yes, keep-no}
+use Rattle.lists.specs.Leaving.{without-first-none, without-first-yes, without-first-no}
 use Rattle.rules.specs.Jobs.{queued, leaveQueue}
 
 module _ (q : ℕ) where
@@ -51,19 +52,17 @@ module _ (q : ℕ) where
 
   -- the first j jobs for q leave
   pub leave-none : (j : ℕ) → leaveQueue q j [] ≡ []
-  unfolding leaveQueue without
-  leave-none zero = refl
-  leave-none (suc j) = leave-none j
+  unfolding leaveQueue
+  leave-none = without-first-none (eqb q)
 
   pub leave-own : (j p : ℕ) (qs : List ℕ) → eqb q p ≡ true → leaveQueue q (suc j) (p ∷ qs) ≡ leaveQueue q j qs
   unfolding leaveQueue
-  leave-own j p qs e = ap (leaveQueue q j) (without-yes (eqb q) p qs e)
+  leave-own = without-first-yes (eqb q)
 
   pub leave-other : (j p : ℕ) (qs : List ℕ) → eqb q p ≡ false → leaveQueue q j (p ∷ qs) ≡ p ∷ leaveQueue q j qs
   unfolding leaveQueue
-  leave-other zero p qs e = refl
-  leave-other (suc j) p qs e = ap (leaveQueue q j) (without-no (eqb q) p qs e) ∙ leave-other j p (without (eqb q) qs) e
+  leave-other = without-first-no (eqb q)
 
   pub leave-done : (qs : List ℕ) → leaveQueue q 0 qs ≡ qs
-  unfolding leaveQueue
+  unfolding leaveQueue withoutFirst
   leave-done qs = refl

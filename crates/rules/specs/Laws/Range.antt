@@ -1,7 +1,7 @@
 -- Every accepted call leaves each number of the state in its range.
 use mathlib.Core.Path.{_≡_, refl}
 use mathlib.Core.Bool.{true}
-use mathlib.Core.List.{List, [], _∷_}
+use mathlib.Core.List.{List}
 use mathlib.Core.Option.{Option, none, some}
 use Prim.Native.Nat.{ℕ, _-_, _^_, _≤_, _<_}
 use lib.ListN.{length}
@@ -11,7 +11,6 @@ use Rattle.lists.specs.Tests.{and-true, and-l, and-r, every-yes, yes-every}
 use Rattle.lists.specs.All.{All, IfSome, all-map, all-yes, yes-all, all-below, below-all}
 use Rattle.rules.specs.Shape.{Shape, cell, slots, within}
 use Rattle.rules.specs.State.{State, Command, Place, nowhere, stored, Found, foundNowhere, foundCache, foundLevel, Request}
-use Rattle.rules.specs.Levels.{joins}
 use Rattle.rules.specs.Ranges
 use Rattle.rules.specs.Ranges.{inRange, ranges, others, isKind, bytesOf}
 use Rattle.rules.specs.Laws.Waiting.{Waits}
@@ -46,10 +45,6 @@ abbrev pub JobsIn : List ℕ → Option Request → Type 0
 JobsIn qs none = length qs ≤ 64
 JobsIn qs (some r) = length qs ≤ 62
 
-abbrev pub JobIn : Shape → (ℕ → ℕ) → List ℕ → ℕ → Type 0
-JobIn h counter [] j = j ≡ 0
-JobIn h counter (q ∷ qs) j = j ≤ joins h (counter q) 64
-
 -- `inRange`, as facts
 pub record InRange (s : State) : Type 0 where
   pub shape : within (s .shape) ≡ true
@@ -62,7 +57,7 @@ pub record InRange (s : State) : Type 0 where
   pub waiting : All (λ b. b < s .shape .N) (s .waiting)
   pub queue : All (λ q. q < s .shape .P) (s .queue)
   pub outstanding : All (CommandIn (s .shape)) (s .outstanding)
-  pub begun : JobIn (s .shape) (s .counter) (s .queue) (s .begun)
+  pub begun : s .begun ≤ 64
   pub cursor : s .cursor ≤ slots (s .shape .L) - 2
   pub sent : s .sent ≤ slots (s .shape .L) - 2
   pub free : length (s .outstanding) ≤ s .shape .W
@@ -131,16 +126,6 @@ unfolding Ranges.queueFits
 in-jobs qs none k = le-leb (length qs) 64 k
 in-jobs qs (some r) k = le-leb (length qs) 62 k
 
-pub job-in : (h : Shape) (counter : ℕ → ℕ) (qs : List ℕ) (j : ℕ) → Ranges.jobFits (λ q. joins h (counter q) 64) qs j ≡ true → JobIn h counter qs j
-unfolding Ranges.jobFits
-job-in h counter [] j e = eqb-true j 0 e
-job-in h counter (q ∷ qs) j e = leb-true j (joins h (counter q) 64) e
-
-pub in-job : (h : Shape) (counter : ℕ → ℕ) (qs : List ℕ) (j : ℕ) → JobIn h counter qs j → Ranges.jobFits (λ q. joins h (counter q) 64) qs j ≡ true
-unfolding Ranges.jobFits
-in-job h counter [] j k = eq-eqb j 0 k
-in-job h counter (q ∷ qs) j k = le-leb j (joins h (counter q) 64) k
-
 cache-in : (e : ℕ) (xs : List ℕ) (r : Option Request) → Ranges.cacheFits e xs r ≡ true → Waits e xs r
 unfolding Ranges.cacheFits
 cache-in e xs none h = leb-true (length xs) e h
@@ -164,7 +149,7 @@ range-facts s e = let h = s .shape in let y = every-yes (ranges s) e in record {
   waiting = all-map (λ b. ltb-true b (h .N)) (all-yes _ (s .waiting) (y .1 .1 .1 .1 .1 .1 .1 .0));
   queue = all-map (λ q. ltb-true q (h .P)) (all-yes _ (s .queue) (y .1 .1 .1 .1 .1 .1 .1 .1 .0));
   outstanding = all-map (command-in h) (all-yes _ (s .outstanding) (y .1 .1 .1 .1 .1 .1 .1 .1 .1 .0));
-  begun = job-in h (s .counter) (s .queue) (s .begun) (y .1 .1 .1 .1 .1 .1 .1 .1 .1 .1 .0);
+  begun = leb-true _ _ (y .1 .1 .1 .1 .1 .1 .1 .1 .1 .1 .0);
   cursor = leb-true _ _ (y .1 .1 .1 .1 .1 .1 .1 .1 .1 .1 .1 .0);
   sent = leb-true _ _ (y .1 .1 .1 .1 .1 .1 .1 .1 .1 .1 .1 .1 .0);
   free = leb-true _ _ (y .1 .1 .1 .1 .1 .1 .1 .1 .1 .1 .1 .1 .1 .0);
@@ -196,7 +181,7 @@ facts-range s f = let h = s .shape in yes-every (ranges s) (
                   (
                     yes-all (all-map (in-command h) (f .outstanding)),
                     (
-                      in-job h (s .counter) (s .queue) (s .begun) (f .begun),
+                      le-leb _ _ (f .begun),
                       (
                         le-leb _ _ (f .cursor),
                         (

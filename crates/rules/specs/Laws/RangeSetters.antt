@@ -8,7 +8,7 @@ use Rattle.rules.specs.State.{State, Command, Place, Request}
 use Rattle.rules.specs.Setters.{setPartition, setPlace, setBytes, setCounter, setOrder, setMark, setHolds, setWaiting, setQueue, setBegun, setCursor, setSent, setOutstanding, setRequest}
 use Rattle.lists.specs.All.{All, IfSome}
 use Rattle.rules.specs.Laws.Waiting.{Waits}
-use Rattle.rules.specs.Laws.Range.{PlaceIn, CommandIn, RequestIn, JobsIn, JobIn, InRange}
+use Rattle.rules.specs.Laws.Range.{PlaceIn, CommandIn, RequestIn, JobsIn, InRange}
 
 module _ (s : State) (f : InRange s) where
   pub inPartition : (x : ℕ → ℕ) → ((b : ℕ) → b < s .shape .N → x b < s .shape .P) → InRange (setPartition x s)
@@ -20,8 +20,8 @@ module _ (s : State) (f : InRange s) where
   pub inBytes : (x : ℕ → List ℕ) → InRange (setBytes x s)
   inBytes x = record { shape = f .shape; partitions = f .partitions; places = f .places; counters = f .counters; orders = f .orders; marks = f .marks; holds = f .holds; waiting = f .waiting; queue = f .queue; outstanding = f .outstanding; begun = f .begun; cursor = f .cursor; sent = f .sent; free = f .free; request = f .request; jobs = f .jobs; cache = f .cache }
 
-  pub inCounter : (x : ℕ → ℕ) → ((q : ℕ) → q < s .shape .P → x q < 2 ^ s .shape .L) → (JobIn (s .shape) x (s .queue) (s .begun)) → InRange (setCounter x s)
-  inCounter x a b = record { shape = f .shape; partitions = f .partitions; places = f .places; counters = a; orders = f .orders; marks = f .marks; holds = f .holds; waiting = f .waiting; queue = f .queue; outstanding = f .outstanding; begun = b; cursor = f .cursor; sent = f .sent; free = f .free; request = f .request; jobs = f .jobs; cache = f .cache }
+  pub inCounter : (x : ℕ → ℕ) → ((q : ℕ) → q < s .shape .P → x q < 2 ^ s .shape .L) → InRange (setCounter x s)
+  inCounter x a = record { shape = f .shape; partitions = f .partitions; places = f .places; counters = a; orders = f .orders; marks = f .marks; holds = f .holds; waiting = f .waiting; queue = f .queue; outstanding = f .outstanding; begun = f .begun; cursor = f .cursor; sent = f .sent; free = f .free; request = f .request; jobs = f .jobs; cache = f .cache }
 
   pub inOrder : (x : ℕ → ℕ) → ((q ℓ i : ℕ) → q < s .shape .P → ℓ < s .shape .L → i < slots ℓ → x (cell (s .shape) q ℓ i) < slots ℓ) → InRange (setOrder x s)
   inOrder x a = record { shape = f .shape; partitions = f .partitions; places = f .places; counters = f .counters; orders = a; marks = f .marks; holds = f .holds; waiting = f .waiting; queue = f .queue; outstanding = f .outstanding; begun = f .begun; cursor = f .cursor; sent = f .sent; free = f .free; request = f .request; jobs = f .jobs; cache = f .cache }
@@ -35,10 +35,10 @@ module _ (s : State) (f : InRange s) where
   pub inWaiting : (x : List ℕ) → (All (λ b. b < s .shape .N) x) → (Waits (s .shape .E) x (s .request)) → InRange (setWaiting x s)
   inWaiting x a b = record { shape = f .shape; partitions = f .partitions; places = f .places; counters = f .counters; orders = f .orders; marks = f .marks; holds = f .holds; waiting = a; queue = f .queue; outstanding = f .outstanding; begun = f .begun; cursor = f .cursor; sent = f .sent; free = f .free; request = f .request; jobs = f .jobs; cache = b }
 
-  pub inQueue : (x : List ℕ) → (All (λ q. q < s .shape .P) x) → (JobIn (s .shape) (s .counter) x (s .begun)) → (JobsIn x (s .request)) → InRange (setQueue x s)
-  inQueue x a b c = record { shape = f .shape; partitions = f .partitions; places = f .places; counters = f .counters; orders = f .orders; marks = f .marks; holds = f .holds; waiting = f .waiting; queue = a; outstanding = f .outstanding; begun = b; cursor = f .cursor; sent = f .sent; free = f .free; request = f .request; jobs = c; cache = f .cache }
+  pub inQueue : (x : List ℕ) → (All (λ q. q < s .shape .P) x) → (JobsIn x (s .request)) → InRange (setQueue x s)
+  inQueue x a b = record { shape = f .shape; partitions = f .partitions; places = f .places; counters = f .counters; orders = f .orders; marks = f .marks; holds = f .holds; waiting = f .waiting; queue = a; outstanding = f .outstanding; begun = f .begun; cursor = f .cursor; sent = f .sent; free = f .free; request = f .request; jobs = b; cache = f .cache }
 
-  pub inBegun : (x : ℕ) → (JobIn (s .shape) (s .counter) (s .queue) x) → InRange (setBegun x s)
+  pub inBegun : (x : ℕ) → (x ≤ 64) → InRange (setBegun x s)
   inBegun x a = record { shape = f .shape; partitions = f .partitions; places = f .places; counters = f .counters; orders = f .orders; marks = f .marks; holds = f .holds; waiting = f .waiting; queue = f .queue; outstanding = f .outstanding; begun = a; cursor = f .cursor; sent = f .sent; free = f .free; request = f .request; jobs = f .jobs; cache = f .cache }
 
   pub inCursor : (x : ℕ) → (x ≤ slots (s .shape .L) - 2) → InRange (setCursor x s)

@@ -1,17 +1,17 @@
 -- What a rebuild leaves is in range, and so is the number of jobs that it runs for; those that leave the queue leave it in range.
-use mathlib.Core.Path.{_≡_, refl, sym, subst}
-use mathlib.Core.List.{List, [], _∷_, _++_, map}
+use mathlib.Core.Path.{_≡_}
+use mathlib.Core.List.{List, [], _∷_, map}
 use mathlib.Core.Option.{Option, none, some}
 use Prim.Native.Nat.{ℕ, suc, _+_, _-_, _^_, _≤_, _<_, zero}
 use native.Mathlib.Omega.{arith}
 use lib.ListN.{length, replicate, take, drop}
 use lib.Dec.{eqb}
 use lib.Pow.{pow-pos, pow-mono}
-use Rattle.lists.specs.Search.{indexOf, without}
+use Rattle.lists.specs.Search.{indexOf, without, withoutFirst}
 use Rattle.lists.specs.Lengths.{without-length}
 use Rattle.lists.specs.All.{All, nil, cons, all-keep, all-without, all-getD, map-below, all-replicate, below-below, all-take, all-drop}
 use Rattle.lists.specs.Tables.{putAll-has}
-use Rattle.rules.specs.Laws.Range.{PlaceIn, JobsIn, InRange, JobIn}
+use Rattle.rules.specs.Laws.Range.{PlaceIn, JobsIn, InRange}
 use Rattle.rules.specs.Jobs.{joined, leaveQueue}
 use Rattle.rules.specs.Laws.Orders.{order-below, length-order}
 use Rattle.rules.specs.Laws.Levels.{joins-le, Joins, levels-pos, joined-in}
@@ -23,8 +23,7 @@ use Rattle.rules.specs.Rebuild.{places, Fill, fills, newPlaces, writeLev
 use Rattle.rules.specs.Laws.RangeSetters.{inPlace, inOrder, inMark, inHolds, inWaiting, inBegun, inSent}
 use Rattle.rules.specs.State.{State, Place, Request}
 use Rattle.rules.specs.Laws.Waiting.{leave-waits}
-use Rattle.rules.specs.Questions.{request, number}
-use Rattle.rules.specs.Turn.{rebuild}
+use Rattle.rules.specs.Questions.{request}
 use Rattle.rules.specs.Draws.{newOrder}
 
 pub all-leave : {P : ℕ → Type 0} (bs : List ℕ) {xs : List ℕ} → All P xs → All P (Rebuild.leave bs xs)
@@ -114,27 +113,13 @@ jobs-le qs (some r) h = omega arith
 pub front-joins : (s : State) → InRange s → (q : ℕ) (qs : List ℕ) → s .queue ≡ q ∷ qs → Joins (s .shape) (s .counter q) (joined s q)
 front-joins s f q qs e =
     let a : All (λ p. p < s .shape .P) (q ∷ qs) = rw e at (f .queue) in
-    let b : JobIn (s .shape) (s .counter) (q ∷ qs) (s .begun) = rw e at (f .begun) in
-    joined-in s q qs e (f .counters q (first a)) (jobs-le (s .queue) (s .request) (f .jobs)) b
+    joined-in s q qs e (f .counters q (first a)) (jobs-le (s .queue) (s .request) (f .jobs)) (f .begun)
   where
     first : All (λ p. p < s .shape .P) (q ∷ qs) → q < s .shape .P
     first (cons h t) = h
 
-pub front-fits : (s : State) → InRange s → (q : ℕ) → Front s q → JobIn (s .shape) (s .counter) (s .queue) (joined s q)
-front-fits s f q x = subst (λ qs. JobIn (s .shape) (s .counter) qs (joined s q)) (sym (x .1)) (front-joins s f q (x .0) (x .1) .1)
-
-pub no-job : (h : Shape) (counter : ℕ → ℕ) (qs : List ℕ) → JobIn h counter qs 0
-no-job h counter [] = refl
-no-job h counter (q ∷ qs) = omega arith
-
--- a run is of at most 64 jobs
-pub job-le : (h : Shape) (counter : ℕ → ℕ) (qs : List ℕ) (j : ℕ) → JobIn h counter qs j → j ≤ 64
-job-le h counter [] j k = omega arith
-job-le h counter (q ∷ qs) j k = omega (arith, joins-le h (counter q) 64 (omega arith))
-
-pub more-jobs : (h : Shape) (counter : ℕ → ℕ) (qs xs : List ℕ) (j : ℕ) → JobIn h counter qs j → JobIn h counter (qs ++ xs) j
-more-jobs h counter [] xs j k = rw k (no-job h counter xs)
-more-jobs h counter (q ∷ qs) xs j k = k
+pub front-fits : (s : State) → InRange s → (q : ℕ) → Front s q → joined s q ≤ 64
+front-fits s f q x = omega (arith, front-joins s f q (x .0) (x .1) .1, joins-le (s .shape) (s .counter q) 64 (omega arith))
 
 -- a rebuild
 pub rebuild-in : (s : State) → InRange s → (q : ℕ) → Front s q → (ls : List ℕ) (xs : List Fill) → All (FillIn (s .shape)) xs → InRange (Rebuild.doRebuild q ls xs s)
@@ -149,11 +134,11 @@ rebuild-in s f q front ls xs a = inSent _ (inBegun _ (inHolds _ (inMark _ (inOrd
     1 (omega (arith, pow-mono {i = 2} {j = s .shape .L + 1} (omega (arith, levels-pos (s .shape) (f .shape)))))
 
 pub leave-queue-le : (q j : ℕ) (qs : List ℕ) → length (leaveQueue q j qs) ≤ length qs
-unfolding leaveQueue
+unfolding leaveQueue withoutFirst
 leave-queue-le q zero qs = omega arith
 leave-queue-le q (suc j) qs = omega (arith, leave-queue-le q j (without (eqb q) qs), without-length (eqb q) qs)
 
 pub all-leave-queue : {P : ℕ → Type 0} (q j : ℕ) {qs : List ℕ} → All P qs → All P (leaveQueue q j qs)
-unfolding leaveQueue
+unfolding leaveQueue withoutFirst
 all-leave-queue q zero h = h
 all-leave-queue q (suc j) h = all-leave-queue q j (all-without _ h)

@@ -48,15 +48,18 @@ impl View {
     }
 
     /// The same of a front job that has begun with more jobs than are queued for
-    /// its partition, as no call leaves it.
+    /// its partition, or than may run together, as no call leaves it.
     pub fn met_unqueued(&self, call: &Call, after: &View) -> Vec<Met> {
         let front = self.queue.first();
         let unqueued = front.is_some_and(|q| self.begun > self.jobs_for(*q));
+        let beyond = front.is_some_and(|q| self.begun > self.joined(*q));
         let replaces = matches!(call.ask, Ask::Open(_) | Ask::Load(_) | Ask::Reload);
-        let completes = matches!(call.ask, Ask::Completion { .. });
+        let ends = matches!(call.ask, Ask::Completion { .. }) && after.begun == 0;
         those([
             (Met::Unqueued, unqueued && !replaces),
-            (Met::EndsUnqueued, unqueued && completes && after.begun == 0),
+            (Met::EndsUnqueued, unqueued && ends),
+            (Met::Beyond, beyond && !replaces),
+            (Met::EndsBeyond, beyond && ends),
         ])
     }
 }

@@ -31,7 +31,7 @@ use Rattle.rules.specs.Shape.{slots, Shape, cell}
 use Rattle.rules.specs.State.{State, Command, write, Request, cmd, stored}
 use Rattle.rules.specs.Turn
 use Rattle.reachable.specs.Blocks.{gathered-lt, place-lt, stored-inj, chosen-waits}
-use Rattle.reachable.specs.Consequences.{levels-first, sources-read, block-lt, joined-queued}
+use Rattle.reachable.specs.Consequences.{levels-first, sources-read, block-lt, joined-joins}
 use Rattle.reachable.specs.Invariant.{Reached, Unworn, Unread, Own, Fetched, Reading, Commands, Tidy, SlotCell}
 use Rattle.rules.specs.Form.Loading.{storedAt}
 use Rattle.reachable.specs.Kept.Rebuild.Counts.{room-kept, full-kept}
@@ -94,7 +94,7 @@ module _ (s : State) (f : Reached s) (q : ℕ) (ls : List ℕ) (xs : List Fill) 
           (f .unread b m j hx e″)
         where
           not-above : s .partition b ≡ q → (s .begun ≡ 0 → ⊥) → m ≤ topLevel h (s .counter (s .partition b)) (s .begun) → m ≤ topOf s q
-          not-above v n l = unfold topOf in (rw (joined-begun s q n, ← v) l)
+          not-above v n l = unfold topOf in (rw (joined-begun s (f .running) q (rw (d .step .front) (front-is q (d .step .rest))) n, ← v) l)
 
   -- the request that has passed a level is for another partition
   fetched-kept : Fetched s′
@@ -221,7 +221,7 @@ module _ (s : State) (f : Reached s) (q : ℕ) (ls : List ℕ) (xs : List Fill) 
     full = full-kept s f q ls xs d;
     taken = taken-kept s f q ls xs d;
     begun = begun-kept s f q ls xs d;
-    running = λ n. (q, d .step .rest, (d .step .front, joined-queued s f q (d .step .rest) (d .step .front)));
+    running = λ n. (q, d .step .rest, (d .step .front, joined-joins s f q (d .step .rest) (d .step .front)));
     unbegun = λ e. absurd (omega (arith, jobs s f q ls xs d .0));
     reads = reads-kept s f q ls xs d;
     unheld = f .unheld;

@@ -24,7 +24,7 @@ use Rattle.reachable.specs.Invariant.{Reached, Reads, Begun, Items}
 use Rattle.reachable.specs.Kept.Rebuild.Drawing.{Drawing, Here, Rest, lives, level-lt, nodup-levels, fill-of, order-here, order-else, count-q, levels-some, counter-lt, jobs, count-p}
 use Rattle.reachable.specs.Kept.Rebuild.Holds.{holds-here, holds-else}
 use Rattle.rules.specs.Blocks.{readsOf}
-use Rattle.reachable.specs.Live.{pending, passedBy, undrawn, counted, Gathers, counted-calm, front-eq, joined-begun}
+use Rattle.reachable.specs.Live.{pending, passedBy, undrawn, counted, Gathers, counted-calm, front-is, front-eq, joined-begun}
 use Rattle.reachable.specs.Pending.{leave-queue-same, leave-queue-less, undrawn-calm, undrawn-rest}
 use Rattle.reachable.specs.Consequences.{joined-queued}
 use Rattle.reachable.specs.Terms.{Numbered}
@@ -91,7 +91,7 @@ module _ (s : State) (f : Reached s) (q : ℕ) (ls : List ℕ) (xs : List Fill) 
           go (yes k) (inl g) = absurd (omega (arith, w .2 k, not-above k (g .2 .0) (g .2 .1)))
             where
               not-above : p ≡ q → (s .begun ≡ 0 → ⊥) → ℓ ≤ topLevel h (s .counter p) (s .begun) → ℓ ≤ topOf s q
-              not-above k n l = unfold topOf in (rw (joined-begun s q n, ← k) l)
+              not-above k n l = unfold topOf in (rw (joined-begun s (f .running) q (rw (d .step .front) (front-is q (d .step .rest))) n, ← k) l)
           go (yes k) (inr r) = omega (
             arith,
             same,

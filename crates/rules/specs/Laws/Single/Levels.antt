@@ -9,7 +9,7 @@ use native.Mathlib.Omega.{arith}
 use lib.Dec.{eqb, ltb}
 use borrow.Author.Tests.{eqb-true, eqb-false, eq-eqb}
 use Rattle.lists.specs.Tests.{if_then_else_}
-use Rattle.lists.specs.Search.{keep, below, count, keep-yes, keep-no, without-yes}
+use Rattle.lists.specs.Search.{keep, below, count, withoutFirst, keep-yes, keep-no, without-yes}
 use Rattle.rules.specs.Shape.{Shape, slots}
 use Rattle.rules.specs.State.{State}
 use Rattle.rules.specs.Levels.{filled, isFull, joins, grown, differ, highest, topLevel, sourceLevels, down, writtenLevels}
@@ -98,7 +98,7 @@ module _ (h : Shape) (c : ℕ) (hL : 1 ≤ h .L) (hc : c < 2 ^ h .L) where
 
 -- "The job leaves the queue."
 pub one-leaves : (q : ℕ) (rest : List ℕ) → leaveQueue q 1 (q ∷ rest) ≡ rest
-unfolding leaveQueue
+unfolding leaveQueue withoutFirst
 one-leaves q rest = without-yes (eqb q) q rest (eq-eqb q q refl)
 
 -- ---- When a job runs alone: it is the only one queued for its partition, or all levels are filled, or one is missing
