@@ -7,27 +7,17 @@
 mod folder;
 #[path = "common/hosts.rs"]
 mod hosts;
+#[path = "common/shapes.rs"]
+mod shapes;
 
 use folder::Folder;
 use hosts::{First, Ordered, Watched};
 use plain::rng::Rng;
 use rinwolfedd::{Command, FileHost, Found, Host, Kind, MemoryHost};
 use rinwolfedd::{Reader, Recorded, Shape};
+use shapes::{SHAPES, shape};
 use std::collections::HashSet;
 use std::io::{self, Read};
-
-const fn shape(n: usize, p: usize, l: usize, b: usize, w: usize) -> Shape {
-    Shape::new(n, p, l, b).with_window(w)
-}
-
-const SHAPES: [Shape; 6] = [
-    shape(1, 1, 1, 1, 1),
-    shape(4, 2, 2, 3, 2),
-    shape(16, 1, 6, 2, 3),
-    shape(31, 8, 4, 16, 7),
-    shape(64, 4, 5, 8, 32),
-    shape(64, 64, 2, 5, 32),
-];
 
 /// How many jobs gather; the last two are taken as 63.
 const SIZES: [usize; 10] = [0, 1, 2, 3, 8, 17, 40, 63, 64, usize::MAX];

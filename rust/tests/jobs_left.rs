@@ -6,26 +6,15 @@
 
 #[path = "common/hosts.rs"]
 mod hosts;
+#[path = "common/shapes.rs"]
+mod shapes;
 
 use hosts::{First, Ordered, Watched};
 use plain::rng::Rng;
 use rinwolfedd::{Command, Error, FileHost, Found, Host, MemoryHost};
 use rinwolfedd::{Reader, Recorded, Refusal, Shape, Waits};
+use shapes::{SHAPES, shape};
 use std::collections::HashSet;
-
-const fn shape(n: usize, p: usize, l: usize, b: usize, w: usize) -> Shape {
-    Shape::new(n, p, l, b).with_window(w)
-}
-
-const SHAPES: [Shape; 7] = [
-    shape(1, 1, 1, 1, 1),
-    shape(4, 2, 2, 3, 2),
-    shape(16, 1, 6, 2, 3),
-    shape(31, 8, 4, 16, 7),
-    shape(64, 4, 5, 64, 32),
-    shape(64, 64, 2, 5, 32),
-    shape(256, 16, 5, 3, 32),
-];
 
 /// What may be left; the last two are taken as 62.
 const MOST: [usize; 9] = [0, 1, 2, 3, 8, 21, 62, 63, usize::MAX];
