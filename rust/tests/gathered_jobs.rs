@@ -3,6 +3,8 @@
 //! sends fewer commands in all, and what it sends does not tell the block. What
 //! the host sees word by word is in left_words.rs.
 
+#[path = "common/alike.rs"]
+mod alike;
 #[path = "common/folder.rs"]
 mod folder;
 #[path = "common/hosts.rs"]
@@ -10,10 +12,11 @@ mod hosts;
 #[path = "common/shapes.rs"]
 mod shapes;
 
+use alike::look_ups_are_alike;
 use folder::Folder;
 use hosts::{First, Ordered, Watched};
 use plain::rng::Rng;
-use rinwolfedd::{Command, FileHost, Found, Host, Kind, MemoryHost};
+use rinwolfedd::{Command, FileHost, Found, Host, MemoryHost};
 use rinwolfedd::{Reader, Recorded, Shape};
 use shapes::{SHAPES, shape};
 use std::collections::HashSet;
@@ -267,37 +270,11 @@ fn fewer_commands_are_sent() {
     }
 }
 
-/// With one partition the commands but for their slots come from how full it is
-/// and how many jobs are queued: look-ups of one block and of many, reads and
-/// writes, with other words, are alike at every place.
 #[test]
 fn look_ups_are_alike_however_many_gather() {
     for (jobs, pause) in [(0, 0), (3, 0), (9, 5), (16, 0), (63, 0), (63, 20)] {
-        let seen = [1, 2, 3].map(|seed| {
-            let shape = shape(16, 1, 5, 2, 4);
-            let host = Recorded::new(Ordered::new(First::Oldest));
-            let mut reader = Reader::open(shape, host).unwrap();
-            reader.gather_jobs(jobs);
-            let mut rng = Rng::new(seed);
-            for _ in 0..200 {
-                match seed {
-                    1 => reader.read(5).unwrap(),
-                    2 => reader.write(rng.below(16), &[1; 2]).unwrap(),
-                    _ => reader.read(rng.below(16)).unwrap(),
-                };
-                reader.advance(pause).unwrap();
-            }
-            but_for_slots(reader.host().commands())
-        });
-        assert!(seen[0].len() > 1000 && seen[0] == seen[1] && seen[1] == seen[2]);
+        look_ups_are_alike(|reader| reader.gather_jobs(jobs), pause);
     }
-}
-
-/// The kind, partition and level of commands.
-fn but_for_slots(commands: &[Command]) -> Vec<(Kind, u8, u8)> {
-    let each = commands.iter();
-    each.map(|command| (command.kind, command.partition, command.level))
-        .collect()
 }
 
 /// Jobs that have gathered are saved, but for those of a run that has begun. A

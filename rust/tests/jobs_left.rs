@@ -4,14 +4,17 @@
 //! left. gathered_jobs.rs has readers that let them gather, left_words.rs the words
 //! that both lend.
 
+#[path = "common/alike.rs"]
+mod alike;
 #[path = "common/hosts.rs"]
 mod hosts;
 #[path = "common/shapes.rs"]
 mod shapes;
 
+use alike::look_ups_are_alike;
 use hosts::{First, Ordered, Watched};
 use plain::rng::Rng;
-use rinwolfedd::{Command, Error, FileHost, Found, Host, MemoryHost};
+use rinwolfedd::{Error, FileHost, Found, Host, MemoryHost};
 use rinwolfedd::{Reader, Recorded, Refusal, Shape, Waits};
 use shapes::{SHAPES, shape};
 use std::collections::HashSet;
@@ -250,35 +253,9 @@ fn a_small_cache_refuses_once_jobs_are_done() {
     assert!(refused > 100 && made_room > 100);
 }
 
-/// The kind, partition and level of commands.
-fn but_for_slots(commands: &[Command]) -> Vec<(rinwolfedd::Kind, u8, u8)> {
-    let each = commands.iter();
-    each.map(|command| (command.kind, command.partition, command.level))
-        .collect()
-}
-
-/// With one partition the commands but for their slots come from how full it is,
-/// and so does what a reader sends when: look-ups of one block and of many, reads
-/// and writes, with other words, are alike at every place.
 #[test]
 fn look_ups_are_alike_whatever_is_left() {
     for (left, pause) in [(0, 0), (1, 0), (2, 9), (7, 0), (62, 0), (62, 40)] {
-        let seen = [1, 2, 3].map(|seed| {
-            let shape = shape(16, 1, 5, 2, 4);
-            let host = Recorded::new(Ordered::new(First::Oldest));
-            let mut reader = Reader::open(shape, host).unwrap();
-            reader.leave_jobs(left);
-            let mut rng = Rng::new(seed);
-            for _ in 0..200 {
-                match seed {
-                    1 => reader.read(5).unwrap(),
-                    2 => reader.write(rng.below(16), &[1; 2]).unwrap(),
-                    _ => reader.read(rng.below(16)).unwrap(),
-                };
-                reader.advance(pause).unwrap();
-            }
-            but_for_slots(reader.host().commands())
-        });
-        assert!(seen[0].len() > 1000 && seen[0] == seen[1] && seen[1] == seen[2]);
+        look_ups_are_alike(|reader| reader.leave_jobs(left), pause);
     }
 }
