@@ -13,6 +13,7 @@ use Rattle.rules.specs.Laws.Form.Back.{contentsOf, ordersIn, saved-back}
 use Rattle.rules.specs.Laws.Form.Saveable.{over, Saveable}
 use Rattle.rules.specs.Laws.Kept.{given-in}
 use Rattle.rules.specs.Laws.Range.{InRange}
+use Rattle.rules.specs.Laws.Asked.{loaded-idle}
 use Rattle.rules.specs.Laws.Released.{release-none}
 use Rattle.rules.specs.Questions.{Ask, opening, request, turn, completion, collect, save, load, Call, bounds, number, questions, firstNo}
 use Rattle.rules.specs.Resumes.{savedBy, OfLast}
@@ -21,7 +22,6 @@ use Rattle.rules.specs.Run.{Outcome, act, step}
 use Rattle.rules.specs.State.{State, cmd, closed}
 use Rattle.reachable.specs.Invariant.{Reached}
 use Rattle.reachable.specs.Reached.{Was, live, shut, Brings, closed-out, save-passed, step-was}
-use Rattle.reachable.specs.Resumed.{save-writes, load-brings}
 use Rattle.reachable.specs.Saved.{Rests, rest-facts, saveable, loaded-kept}
 
 -- what a save has put into its buffer: nothing, if it was refused, or the form of the state, which is at rest
@@ -38,6 +38,20 @@ save-keeps s c e n = ap (λ (r : State × Outcome). r .0) (step-accepted s c n) 
 
     keeps : (a : Ask) → a ≡ save → Run.accepted s a (draws (bounds s a) (c .words)) .0 ≡ s
     keeps a e = rw e (unfold Run.accepted act Run.perform in (release-none s (rests .idle)))
+
+-- an accepted save puts the form into its buffer
+pub save-writes : (s : State) (d : Call) → d .ask ≡ save → number s d ≡ 0 → step s d .1 .bytes ≡ savedForm s
+save-writes s d e n = ap (λ (r : State × Outcome). r .1 .bytes) (step-accepted s d n) ∙ writes (d .ask) e
+  where
+    writes : (a : Ask) → a ≡ save → Run.accepted s a (draws (bounds s a) (d .words)) .1 .bytes ≡ savedForm s
+    writes a e = rw e (unfold Run.accepted Run.handed in refl)
+
+-- an accepted load brings what the form has
+pub load-brings : (u : State) (c : Call) (form : List ℕ) → c .ask ≡ load form → number u c ≡ 0 → step u c .0 ≡ loadedForm form
+load-brings u c form e n = ap (λ (r : State × Outcome). r .0) (step-accepted u c n) ∙ brings (c .ask) e
+  where
+    brings : (a : Ask) → a ≡ load form → Run.accepted u a (draws (bounds u a) (c .words)) .0 ≡ loadedForm form
+    brings a e = rw e (unfold Run.accepted act Run.perform in (release-none (loadedForm form) (loaded-idle form)))
 
 save-last : (s : State) (c : Call) → c .ask ≡ save → Dec (number s c ≡ 0) → OfState (step s c .0) (step s c .1 .bytes)
 save-last s c q (no n) = nothing (ap (λ (o : Outcome). o .bytes) (refused-outcome s c n) ∙ unfold Run.refused in refl)

@@ -22,8 +22,7 @@ use Rattle.rules.specs.Draws.{Drawn, draws, Drew}
 use Rattle.rules.specs.Form.Loading.{loadedForm}
 use Rattle.rules.specs.Form.Payload.{savedForm}
 use Rattle.rules.specs.Laws.Answers.{Passed, opens, accepted-passed, step-accepted, step-refused, refuse-keeps, opens-first}
-use Rattle.rules.specs.Laws.Released.{written-release, release-none}
-use Rattle.rules.specs.Laws.Asked.{loaded-idle}
+use Rattle.rules.specs.Laws.Released.{written-release}
 use Rattle.rules.specs.Laws.Decided.{decide-in, stepBounds-pos}
 use Rattle.rules.specs.Laws.Form.Back.{contentsOf, ordersIn, agrees, saved-back, saved-summed, saved-loads}
 use Rattle.rules.specs.Laws.Form.Saveable.{over, Saveable}
@@ -40,6 +39,7 @@ use Rattle.rules.specs.Turn
 use Rattle.rules.specs.Turn.{Step, decide, command, doStep}
 use Rattle.reachable.specs.Decided.{decided}
 use Rattle.reachable.specs.Invariant.{Reached}
+use Rattle.reachable.specs.LastSaved.{save-writes, load-brings}
 use Rattle.reachable.specs.Live
 use Rattle.reachable.specs.Live.{counted, counted-calm}
 use Rattle.reachable.specs.Reached.{Was, live, accepted-kept, brings-other, save-passed, was-reached, reachable, performed-kept, shut, ready-memory}
@@ -228,20 +228,6 @@ module _ (s : State) (f : Reached s) (r : Rests s) where
   pub load-number : (c : Call) → c .ask ≡ load (savedForm s) → (u : State) → needed (s .shape) ≤ c .memory → number u c ≡ 0
   unfolding number
   load-number c e u l = ap (λ a. firstNo (questions u a (c .memory) (c .words) (c .buffer))) e ∙ load-passes (c .memory) (c .words) (c .buffer) u l
-
--- an accepted save puts the form into its buffer
-pub save-writes : (s : State) (d : Call) → d .ask ≡ save → number s d ≡ 0 → step s d .1 .bytes ≡ savedForm s
-save-writes s d e n = ap (λ (r : State × Outcome). r .1 .bytes) (step-accepted s d n) ∙ writes (d .ask) e
-  where
-    writes : (a : Ask) → a ≡ save → Run.accepted s a (draws (bounds s a) (d .words)) .1 .bytes ≡ savedForm s
-    writes a e = rw e (unfold Run.accepted Run.handed in refl)
-
--- an accepted load brings what the form has
-pub load-brings : (u : State) (c : Call) (form : List ℕ) → c .ask ≡ load form → number u c ≡ 0 → step u c .0 ≡ loadedForm form
-load-brings u c form e n = ap (λ (r : State × Outcome). r .0) (step-accepted u c n) ∙ brings (c .ask) e
-  where
-    brings : (a : Ask) → a ≡ load form → Run.accepted u a (draws (bounds u a) (c .words)) .0 ≡ loadedForm form
-    brings a e = rw e (unfold Run.accepted act Run.perform in (release-none (loadedForm form) (loaded-idle form)))
 
 saved-rests : (s : State) → Was s → (d : Call) → d .ask ≡ save → number s d ≡ 0 → Reached s × Rests s
 saved-rests s l d e n =

@@ -20,9 +20,8 @@ use Rattle.rules.specs.Run
 use Rattle.rules.specs.Run.{Outcome, step}
 use Rattle.rules.specs.Shape.{Shape}
 use Rattle.rules.specs.State.{State, closed}
-use Rattle.reachable.specs.LastSaved.{OfState, nothing, own, save-keeps, resumes-was}
+use Rattle.reachable.specs.LastSaved.{OfState, nothing, own, save-keeps, save-writes, resumes-was}
 use Rattle.reachable.specs.Reached.{Was, Brings, save-passed, step-was}
-use Rattle.reachable.specs.Resumed.{save-writes}
 use Rattle.reachable.specs.Saved.{rest-facts}
 use Rattle.hiding.specs.Claim.{Outline, anOpen, aRequest, aTurn, aCompletion, aCollect, aSave, aLoad, outline}
 use Rattle.hiding.specs.Machines.Public

@@ -1,7 +1,7 @@
 -- A collect keeps the invariant.
 use mathlib.Core.Path.{_≡_, refl, ap, sym, _∙_, fun-ext, subst}
 use mathlib.Core.Logic.{_⊎_, inl, inr, ⊎-elim}
-use mathlib.Core.Bool.{Bool, true, false, not, true≢false, _&&_}
+use mathlib.Core.Bool.{Bool, true, false, not, true≢false}
 use mathlib.Core.List.{List, [], _∷_, _++_}
 use mathlib.Core.Option.{some, Option}
 use Prim.Native.Nat.{ℕ, suc, _%_, _^_, _≤_, _<_, zero, _+_}
@@ -14,14 +14,14 @@ use Rattle.lists.specs.Distinct.{Mem}
 use Rattle.lists.specs.Members.{all-mem, keep-mem, nodup-keep, nodup-snoc, nodup-sub, append-mem}
 use Rattle.lists.specs.Lengths.{bit}
 use Rattle.lists.specs.Tables.{put, put-same, put-other, put-has}
-use lib.ListN.{length, length-replicate}
+use lib.ListN.{length}
 use Rattle.rules.specs.Blocks
-use Rattle.lists.specs.Search.{member}
 use Rattle.lists.specs.Tests.{if_then_else_}
 use Rattle.lists.specs.Totals.{total-le}
 use Rattle.rules.specs.Jobs.{queued}
 use Rattle.rules.specs.Collect
 use Rattle.rules.specs.Collect.{finish, emptied}
+use Rattle.rules.specs.Laws.Lengths.{contents-length}
 use Rattle.rules.specs.Laws.Levels.{joins-le, joins-more, queued-front}
 use Rattle.rules.specs.Laws.Range.{InRange, RequestIn}
 use Rattle.rules.specs.Levels.{filled}
@@ -253,22 +253,15 @@ module _ (s : State) (f : Reached s) (r : Request) (inHand : s .request ≡ some
       (all-both (f .commands) (finished-aside s f r inHand done))
 
   whole-kept : (x : ℕ) → length (s′ .bytes x) ≡ h .B
-  unfolding finish Blocks.contents Blocks.isNowhere
+  unfolding finish
   whole-kept x = put-has (λ v. length v ≡ h .B) b _ (s .bytes) x (go (eqb (r .kind) write) refl) (f .tidy .whole x)
     where
       asked : (o : Option Request) → o ≡ some r → IfSome (RequestIn h) o → length (r .bytes) ≡ bytesOf h (r .kind)
       asked o e k = let k′ : RequestIn h r = rw e at k in k′ .bytes
 
-      contents-whole : length (Blocks.contents s b) ≡ h .B
-      contents-whole = by (Blocks.isNowhere (s .place b) && not (member b (s .waiting)))
-        where
-          by : (t : Bool) → length (if t then Blocks.zeros s else s .bytes b) ≡ h .B
-          by true = unfold Blocks.zeros in (length-replicate (h .B) 0)
-          by false = f .tidy .whole b
-
       go : (t : Bool) → eqb (r .kind) write ≡ t → length (if t then r .bytes else Blocks.contents s b) ≡ h .B
       go true e = asked (s .request) inHand (f .range .request) ∙ (unfold bytesOf in (rw e))
-      go false e = contents-whole
+      go false e = contents-length s (f .tidy .whole) b
 
   held-kept : (c : ℕ) → ¬ (s′ .holds c ≡ 0) → SlotCell h c
   held-kept c n = go (s′ .holds c) refl
