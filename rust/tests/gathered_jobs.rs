@@ -18,7 +18,7 @@ use hosts::{First, Ordered, Watched};
 use plain::rng::Rng;
 use rinwolfedd::{Command, FileHost, Found, Host, MemoryHost};
 use rinwolfedd::{Reader, Recorded, Shape};
-use shapes::{SHAPES, shape};
+use shapes::{SHAPES, UNHELD, shape, unheld_words};
 use std::collections::HashSet;
 use std::io::{self, Read};
 
@@ -164,19 +164,10 @@ fn jobs_gather_until_they_are_so_many() {
     }
 }
 
-/// A reader in which nothing is ever held: block i is of partition i, for which
-/// both its jobs are. With one level they run one by one.
+/// A reader in which nothing is ever held. With one level its jobs run one by one.
 fn unheld() -> Reader<Ordered, impl Read> {
-    let mut words: Vec<u16> = (0..64).collect();
-    for i in 0..32 {
-        words.extend([i, i]);
-        // the first job draws its order behind the second request
-        words.extend((i == 1).then_some(0));
-    }
-    words.extend([0; 4000]);
-    let tape: Vec<u8> = words.into_iter().flat_map(u16::to_le_bytes).collect();
-    let host = Ordered::new(First::Oldest);
-    Reader::with_words(shape(64, 64, 1, 1, 32), host, io::Cursor::new(tape)).unwrap()
+    let (host, words) = (Ordered::new(First::Oldest), unheld_words());
+    Reader::with_words(UNHELD, host, io::Cursor::new(words)).unwrap()
 }
 
 /// Look-ups of these blocks, and the jobs left after each.

@@ -16,7 +16,7 @@ use hosts::{First, Ordered, Watched};
 use plain::rng::Rng;
 use rinwolfedd::{Error, FileHost, Found, Host, MemoryHost};
 use rinwolfedd::{Reader, Recorded, Refusal, Shape, Waits};
-use shapes::{SHAPES, shape};
+use shapes::{SHAPES, UNHELD, shape, unheld_words};
 use std::collections::HashSet;
 
 /// What may be left; the last two are taken as 62.
@@ -143,21 +143,11 @@ fn look_ups_wait_for_fewer_commands() {
 }
 
 /// No more than 62 are left, however many look-ups come in a row, and so no
-/// request is refused for want of room in the queue. Here nothing is ever held:
-/// block i is in partition i, for which both its jobs are.
+/// request is refused for want of room in the queue. Here nothing is ever held.
 #[test]
 fn a_queue_is_never_full() {
-    let shape = shape(64, 64, 1, 1, 32);
-    let mut words: Vec<u16> = (0..64).collect();
-    for i in 0..32 {
-        words.extend([i, i]);
-        // the first job draws its order behind the second request
-        words.extend((i == 1).then_some(0));
-    }
-    words.extend([0; 4000]);
-    let tape: Vec<u8> = words.into_iter().flat_map(u16::to_le_bytes).collect();
-    let host = MemoryHost::new(shape, 1).unwrap();
-    let mut reader = Reader::with_words(shape, host, &tape[..]).unwrap();
+    let (host, words) = (MemoryHost::new(UNHELD, 1).unwrap(), unheld_words());
+    let mut reader = Reader::with_words(UNHELD, host, &words[..]).unwrap();
     reader.leave_jobs(usize::MAX);
     for block in 0..32 {
         reader.read(block).unwrap();

@@ -83,23 +83,14 @@ const TOLD: [Mistake; 18] = [
 /// learn.
 const TOLD_BY_RELOADS: [Mistake; 2] = [Mistake::LoadClearsMarks, Mistake::LoadPrefersWaiting];
 
-/// What has to be met in jobs that run together. An order of eight slots, which
+/// What need not be met in jobs that run together. An order of eight slots, which
 /// a source above a level that is not filled would need, has too many tapes. To
 /// have more blocks than the highest level holds, or too many for the partition,
 /// lists would have to be longer.
-const TOGETHER: [Situation; 12] = [
-    Situation::Two,
-    Situation::Three,
-    Situation::Apart,
-    Situation::Cut,
-    Situation::Alone,
-    Situation::SeveralWritten,
-    Situation::SeveralTaken,
-    Situation::LeftBehind,
-    Situation::ReleasedByRun,
-    Situation::BesideRun,
-    Situation::CollectedBesideRun,
-    Situation::HeldByDraw,
+const TOO_LONG: [Situation; 3] = [
+    Situation::SourceAbove,
+    Situation::SeveralStored,
+    Situation::RoomEnds,
 ];
 
 /// A pair, and at how many different runs its lists end.
@@ -264,7 +255,9 @@ impl Met {
         if two < FEWEST_TOGETHER || several < FEWEST_LEVELS {
             return Err(format!("None: jobs together only in {two} and {several}"));
         }
-        let wanted = Situation::AT_RELEASE.into_iter().chain(TOGETHER);
+        let together = Situation::TOGETHER.into_iter();
+        let together = together.filter(|situation| !TOO_LONG.contains(situation));
+        let wanted = Situation::AT_RELEASE.into_iter().chain(together);
         let missing = wanted.filter(|situation| times(*situation) == 0);
         match missing.collect::<Vec<_>>()[..] {
             [] => Ok(()),
