@@ -1,4 +1,6 @@
 // Levels and counters: powers of two, filled levels, and the levels, the writes and the counter of jobs that run together.
+#![tactic(auto)]
+
 ghost use Rattle.std.specs.Prelude.{◌≡◌, suc, ◌+◌, ◌-◌, ◌<◌, ◌≤◌, ◌^◌};
 ghost use Rattle.lists.specs.Search.{keep};
 ghost use Rattle.rules.specs.Shape.{Shape};

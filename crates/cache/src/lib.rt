@@ -1,4 +1,6 @@
 // The blocks that wait in the eviction cache, longest waiting first, in the lent memory.
+#![tactic(auto)]
+
 ghost use Rattle.std.specs.Prelude.{◌≡◌, ◌∷◌, [], ◌++◌, ◌+◌, ◌<◌, ◌≤◌, length, replicate, take};
 ghost use Rattle.lists.specs.Search.{member, keep};
 ghost use Rattle.rules.specs.Ranges.{others};

@@ -1,5 +1,7 @@
 // The exported calls do what the claims take them to do, `Called` of crate `claims`. Each function here calls one of them and ensures it: an
 // exported function that ensured less would leave its function here without a proof.
+#![tactic(auto)]
+
 ghost use Rattle.std.specs.Prelude.{[]};
 ghost use Rattle.rules.specs.State.{cmd};
 ghost use Rattle.rules.specs.Questions.{opening, request as request_of, turn as turn_of, completion as completion_of, collect as collect_of, save as save_of, load as load_of};

@@ -28,6 +28,8 @@ bytes-for (a ∷ as') (c ∷ cs) (Claim.more o e k) (cons h t) (cons l ls) =
     let x = any-words c.words h (rw e l) in
     let r = bytes-for as' cs k t ls in
     (x.0 ∷ r.0, record { bytes = cons x.1.0 r.1.bytes; counts = λ i. (ap length x.1.1 ∙ e) i ∷ r.1.counts i; words = λ i. x.1.1 i ∷ r.1.words i })
+bytes-for [] (c ∷ cs) x6 _ l = elim x6 [ ]
+bytes-for (a ∷ as') [] x6 _ l = elim x6 [ ]
 
 -- the words of a run's calls are those of their bytes
 words-made : (xs : List Made) → words_in (map call_made xs) ≡ map (λ tape. words_of (looked_at tape)) (map (λ (x : Made). x.tape) xs)

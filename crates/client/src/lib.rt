@@ -1,4 +1,5 @@
 // The client's state: small numbers by value, beside the tables in the lent memory.
+#![tactic(auto)]
 ghost use Rattle.std.specs.Prelude.{◌≡◌};
 ghost use Rattle.rules.specs.Ranges.{is_kind};
 ghost use Rattle.client.specs.Moves.{no_request, awaiting as awaiting_of, at_level, at_found, with_request, with_jobs, with_begun, with_cursor, with_sent, with_waiting, with_out};
@@ -13,7 +14,7 @@ pub const WRITE: usize = 2;
 // A request in hand, of one of these kinds; or none, of kind 0. The contents of a write are block N of the memory. While it is held, `found` is 0;
 // then it is one more than the number by which a collect tells where the block was found. `awaits` is how many of the outstanding commands, which are in
 // the order of sending, were sent before it was released or not after its last own read: those of its partition among them it waits for.
-#[derive(Drop)]
+#[derive(Clone, Copy)]
 pub struct Request {
     pub kind: usize,
     pub block: usize,
@@ -25,7 +26,7 @@ pub struct Request {
 }
 
 // How many jobs are queued, blocks wait and commands are outstanding; how many jobs the front one runs for, 0 until it has begun, and how far it is.
-#[derive(Drop)]
+#[derive(Clone, Copy)]
 pub struct Client {
     pub shape: Shape,
     pub request: Request,
@@ -45,7 +46,7 @@ pub fn is_kind(kind: usize) -> bool
 }
 
 // What a search finds: a place, or nothing.
-#[derive(Drop)]
+#[derive(Clone, Copy)]
 pub enum Found {
     At(usize),
     Nothing,

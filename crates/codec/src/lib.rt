@@ -1,4 +1,6 @@
 // The client's state as 76 bytes, and an answer as one number.
+#![tactic(auto)]
+
 ghost use Rattle.std.specs.Prelude.{◌≡◌, ◌*◌, ◌%◌, ◌≤◌, ◌<◌, length, eqb, false};
 ghost use Rattle.lists.specs.Tests.{if◌then◌else◌};
 ghost use Rattle.lists.specs.Tables.{put as put_at};

@@ -1,4 +1,6 @@
 // Collect hands out the contents before the request, for reads and writes.
+#![tactic(auto)]
+
 ghost use Rattle.std.specs.Prelude.{◌≡◌, not, ◌&&◌, List, [], ◌<◌, ◌≤◌, length, take};
 ghost use Rattle.lists.specs.Search.{member};
 ghost use Rattle.rules.specs.State.{Command};

@@ -1,4 +1,6 @@
 // The outstanding commands, in the lent memory.
+#![tactic(auto)]
+
 ghost use Rattle.std.specs.Prelude.{◌≡◌, ◌+◌, ◌-◌, ◌<◌, ◌≤◌, take};
 ghost use Rattle.lists.specs.Search.{any};
 ghost use Rattle.rules.specs.Shape.{slots};

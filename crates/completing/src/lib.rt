@@ -1,4 +1,6 @@
 // Completion names a kind and a slot (partition, level, slot), with B bytes for a read.
+#![tactic(auto)]
+
 ghost use Rattle.std.specs.Prelude.{◌≡◌, [], ◌<◌, ◌≤◌, length, eqb};
 ghost use Rattle.lists.specs.Tests.{if◌then◌else◌};
 ghost use Rattle.rules.specs.Shape.{slots};

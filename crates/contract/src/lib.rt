@@ -1,4 +1,6 @@
 // What a call answers, and the questions about a shape.
+#![tactic(auto)]
+
 ghost use Rattle.std.specs.Prelude.{◌≡◌, ◌+◌, ◌-◌, ◌*◌, true, [], ◌∷◌};
 ghost use Rattle.lists.specs.Search.{member};
 ghost use Rattle.rules.specs.Shape.{within};
@@ -11,7 +13,7 @@ use memory::Shape;
 
 // The number, the words taken, the command sent (zeros for none), where a collected block was found (0, which is nowhere, but for a collect), and the
 // next state.
-#[derive(Drop)]
+#[derive(Clone, Copy)]
 pub struct Answer {
     pub number: usize,
     pub taken: usize,

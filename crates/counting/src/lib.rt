@@ -1,4 +1,6 @@
 // Blocks by their place and jobs by their partition, each counted in one pass: the figures of a page.
+#![tactic(auto)]
+
 ghost use Rattle.std.specs.Prelude.{◌≡◌, [], ◌+◌, ◌≤◌, ◌<◌, length, get_or, replicate};
 ghost use Rattle.rules.specs.Blocks.{is_nowhere};
 ghost use Rattle.lists.specs.Search.{member};

@@ -1,4 +1,6 @@
 // What a turn does next. A request's reads go before a job's commands.
+#![tactic(auto)]
+
 ghost use Rattle.std.specs.Prelude.{◌≡◌, ◌-◌, ◌<◌};
 ghost use Rattle.lists.specs.Search.{keep, count};
 ghost use Rattle.rules.specs.Request.{released_for};
@@ -18,7 +20,7 @@ use levels::Spot;
 
 // There is no command to send; the request lacks an unread dummy, or in a source an unread item; or the step: partition, and but for a rebuild level and
 // slot.
-#[derive(Drop)]
+#[derive(Clone, Copy)]
 pub enum Step {
     Idle,
     NoDummy,
@@ -29,7 +31,7 @@ pub enum Step {
 }
 
 // What a request wants: a read of partition, level and slot, a dummy that is lacking, or nothing.
-#[derive(Drop)]
+#[derive(Clone, Copy)]
 enum Due {
     Read(usize, usize, usize),
     NoDummy,

@@ -1,5 +1,7 @@
 // The seven calls, and the page of a store, for a host program: numbers and byte slices. The state is 76 bytes, the tape pairs of bytes, low byte
 // first; the answer is one number (see codec::pack). Every value of every number is answered; nothing is required.
+#![tactic(auto)]
+
 ghost use Rattle.std.specs.Prelude.{true, ◌≡◌, List, [], ℕ, ◌≤◌, length, take, replicate};
 ghost use Rattle.lists.specs.Tests.{if◌then◌else◌};
 ghost use Rattle.rules.specs.Shape.{within};
@@ -117,8 +119,7 @@ fn hand_back_opened(state: &mut [u8], r: Answer) -> u64
     codec::pack(r)
 }
 
-#[unsafe(no_mangle)]
-pub extern "C" fn rinwolfedd_open(
+pub fn rinwolfedd_open(
     state: &mut [u8],
     memory: &mut [u8],
     n: usize,
@@ -142,8 +143,7 @@ pub extern "C" fn rinwolfedd_open(
     hand_back_opened(state, r)
 }
 
-#[unsafe(no_mangle)]
-pub extern "C" fn rinwolfedd_request(
+pub fn rinwolfedd_request(
     state: &mut [u8],
     memory: &mut [u8],
     kind: usize,
@@ -168,13 +168,7 @@ pub extern "C" fn rinwolfedd_request(
     hand_back(state, r)
 }
 
-#[unsafe(no_mangle)]
-pub extern "C" fn rinwolfedd_turn(
-    state: &mut [u8],
-    memory: &mut [u8],
-    tape: &[u8],
-    buffer: &mut [u8],
-) -> u64
+pub fn rinwolfedd_turn(state: &mut [u8], memory: &mut [u8], tape: &[u8], buffer: &mut [u8]) -> u64
     ensures { Exported turn state.old memory.old tape.now buffer.old result state.new memory.new buffer.new }
 {
     if state.len() != STATE {
@@ -185,8 +179,7 @@ pub extern "C" fn rinwolfedd_turn(
     hand_back_turn(state, memory, r)
 }
 
-#[unsafe(no_mangle)]
-pub extern "C" fn rinwolfedd_completion(
+pub fn rinwolfedd_completion(
     state: &mut [u8],
     memory: &mut [u8],
     kind: usize,
@@ -205,8 +198,7 @@ pub extern "C" fn rinwolfedd_completion(
     hand_back_completion(state, memory, r, kind)
 }
 
-#[unsafe(no_mangle)]
-pub extern "C" fn rinwolfedd_collect(state: &mut [u8], memory: &mut [u8], buffer: &mut [u8]) -> u64
+pub fn rinwolfedd_collect(state: &mut [u8], memory: &mut [u8], buffer: &mut [u8]) -> u64
     ensures { Exported collect state.old memory.old [] buffer.old result state.new memory.new buffer.new }
 {
     if state.len() != STATE {
@@ -218,8 +210,7 @@ pub extern "C" fn rinwolfedd_collect(state: &mut [u8], memory: &mut [u8], buffer
 }
 
 // State and memory are only read: a state at rest stays as it is. The answer has the form's length where another call's has the words taken.
-#[unsafe(no_mangle)]
-pub extern "C" fn rinwolfedd_save(state: &[u8], memory: &[u8], buffer: &mut [u8]) -> u64
+pub fn rinwolfedd_save(state: &[u8], memory: &[u8], buffer: &mut [u8]) -> u64
     ensures { Exported save state.now memory.now [] buffer.old result state.now memory.now buffer.new }
 {
     if state.len() != STATE {
@@ -231,8 +222,7 @@ pub extern "C" fn rinwolfedd_save(state: &[u8], memory: &[u8], buffer: &mut [u8]
 }
 
 // It looks at no state, as an open does: a client is what the form says, or closed.
-#[unsafe(no_mangle)]
-pub extern "C" fn rinwolfedd_load(state: &mut [u8], memory: &mut [u8], form: &[u8]) -> u64
+pub fn rinwolfedd_load(state: &mut [u8], memory: &mut [u8], form: &[u8]) -> u64
     ensures { Loaded form.now state.old memory.old result state.new memory.new }
 {
     if state.len() != STATE {
@@ -254,8 +244,7 @@ fn tell(r: Shown, c: Client) -> u64
 }
 
 // State and memory are only read, so a page may be asked for between any two calls.
-#[unsafe(no_mangle)]
-pub extern "C" fn rinwolfedd_page(state: &[u8], memory: &[u8], buffer: &mut [u8]) -> u64
+pub fn rinwolfedd_page(state: &[u8], memory: &[u8], buffer: &mut [u8]) -> u64
     ensures { Paged state.now memory.now buffer.old result buffer.new }
 {
     if state.len() != STATE {

@@ -1,7 +1,7 @@
 -- A payload, read by where its parts lie: bytes past its end read as 0, and at last it is asked whether there are as many as were read.
 use Rattle.std.specs.Prelude.{◌≡◌, Bool, true, false, eqb}
 use Rattle.std.proofs.Math.Path.{refl, ap, subst}
-use Rattle.std.proofs.Common.{sym, ◌∙◌, true≢false, drop-cons, leb-true, leb-false, le-leb}
+use Rattle.std.proofs.Common.{◌∙◌, drop-cons, leb-true, leb-false, le-leb}
 use mathlib.Core.List.{List, [], ◌∷◌}
 use Rattle.std.proofs.Math.Option.{Option, none, some}
 use Prim.Native.Nat.{ℕ, zero, suc, ◌+◌, ◌*◌, ◌≤◌}

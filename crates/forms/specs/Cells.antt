@@ -1,7 +1,7 @@
 -- The cells that a form's blocks stand in, and what a state loaded from it holds there.
 use Rattle.std.specs.Prelude.{◌≡◌, ◌⊎◌, Bool, true, ◌&&◌, ltb, length}
 use Rattle.std.proofs.Math.Path.{refl, ap}
-use Rattle.std.proofs.Common.{◌∙◌, inl, inr}
+use Rattle.std.proofs.Common.{◌∙◌, inl, inr, sym, subst}
 use mathlib.Core.List.{List, [], ◌∷◌, ◌++◌}
 use Prim.Native.Nat.{ℕ, zero, suc, ◌+◌, ◌-◌, ◌≤◌, ◌<◌}
 use native.Mathlib.Omega.{arith}
@@ -140,7 +140,7 @@ module _ (h : Shape) where
   lay-held t a [] n = tt
   lay-held t a (x ∷ xs) n =
       let e = lay-append t (held_at h a x.0 x.1) (held_from h (suc a) xs) in
-      rw e (
+      subst (λ u. Each (HeldBy u) a (x ∷ xs)) (sym e) (
         λ ℓ i y. lay-else (lay_over t (held_at h a x.0 x.1)) (suc a) xs (cell h x.0 ℓ i) (nodup-apart (cell_at x.0 x.1) (cells_of xs) n (cell h x.0 ℓ i) (cell-mem x.0 x.1 ℓ i y))
             ∙ one-held t a x.0 x.1 ℓ i y,
         lay-held (lay_over t (held_at h a x.0 x.1)) (suc a) xs (nodup-right (cell_at x.0 x.1) (cells_of xs) n),

@@ -179,8 +179,9 @@ module _ (f : Form) (made : Made f) where
   h = f.shape
 
   unmap-some : {P : ℕ × ℕ → Type 0} (ls : List Level) → Some P (map key_of ls) → Some (λ l. P (key_of l)) ls
-  unmap-some (l ∷ ls) (here k) = here k
-  unmap-some (l ∷ ls) (there t) = there (unmap-some ls t)
+  unmap-some {P = P} [] x' = elim x' [ ]
+  unmap-some {P = P} (l ∷ ls) (here k) = here k
+  unmap-some {P = P} (l ∷ ls) (there t) = there (unmap-some {P = P} ls t)
 
   unmap-pairs : {R : ℕ × ℕ → ℕ × ℕ → Type 0} (ls : List Level) → Pairs R (map key_of ls) → Pairs (λ l m. R (key_of l) (key_of m)) ls
   unmap-pairs [] none-pairs = none-pairs

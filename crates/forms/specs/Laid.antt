@@ -52,6 +52,7 @@ module _ (c : ℕ) (Q : ℕ → Type 0) where
   -- ..or one that does cover it
   pub lay-covered : {xs : List (ℕ × List ℕ)} (t : ℕ → ℕ) → All (λ (x : ℕ × List ℕ). Covers c x → Q (get_or x.1 (c - x.0) 0)) xs → Some (Covers c) xs → Q (lay_over t xs c)
   unfolding lay_over
+  lay-covered t nil x3 = elim x3 [ ]
   lay-covered t (cons {x = x} k ks) (here v) = lay-every (put_all x.0 x.1 t) ks (rw (put_all-in x.0 x.1 t c v.0 v.1) (k v))
   lay-covered t (cons {x = x} k ks) (there v) = lay-covered (put_all x.0 x.1 t) ks v
 

@@ -7,7 +7,6 @@ use native.Mathlib.Omega.{arith}
 use Rattle.std.proofs.Math.ListN.{get_or}
 use Rattle.std.proofs.lemmas.Bool.{lt-leb}
 use Rattle.lists.specs.Tests.{every, and-false}
-use Rattle.rules.specs.Form.Numbers.{each}
 use Rattle.rules.specs.Form.Reading.{Level}
 use Rattle.rules.specs.Shape.{Shape, slots, cell}
 use Rattle.forms.specs.At.{bytes_at, numbers_at}

@@ -13,7 +13,7 @@ use Rattle.lists.specs.All.{All, nil, cons, all_map, all_both, all_yes, all-belo
 use Rattle.lists.specs.Distinct.{Mem, NoDup}
 use Rattle.lists.specs.Lengths.{length-below}
 use Rattle.lists.specs.Members.{member-mem, mem-all, all-mem, keep-mem, mem_below, nodup-keep, nodup-below, get_d_map}
-use Rattle.lists.specs.Search.{all, keep, below, member, any}
+use Rattle.lists.specs.Search.{keep, below, member, any}
 use Rattle.lists.specs.Tests.{every-yes}
 use Rattle.rules.specs.Blocks.{is_unread}
 use Rattle.rules.specs.Form.Loading.{block_at, place_of, loaded, lay, marks_of, held_from, block_in, aged, well_placed, is_permutation, are_marks, waits_at, checks, sound}

@@ -5,7 +5,7 @@ use Rattle.std.proofs.Common.{◌∙◌, arith}
 use mathlib.Core.List.{List, [], ◌∷◌, ◌++◌}
 use Rattle.lists.specs.Lengths.{bit}
 use Rattle.lists.specs.Search.{keep, below, count, keep-yes, keep-no}
-use Rattle.rules.specs.Form.Reading.{Spot, at, is_waiting}
+use Rattle.rules.specs.Form.Reading.{Spot, is_waiting}
 use Rattle.rules.specs.Shape.{Shape}
 use Rattle.forms.specs.At.{block_at, block_size, each_at, size_at, wait_count}
 use Rattle.forms.specs.Blocks.{blocks_at, blocks_left, size_left, stands, marked, all_stand, waits-at}

@@ -1,4 +1,6 @@
 // The blocks that a rebuild gathers, ascending.
+#![tactic(auto)]
+
 ghost use Rattle.std.specs.Prelude.{◌≡◌, true, [], ◌+◌, ◌<◌, ◌≤◌, length, take};
 ghost use Rattle.lists.specs.Search.{keep};
 ghost use Rattle.rules.specs.Levels.{filled};

@@ -149,6 +149,8 @@ length_run (c ∷ cs) s = ap suc (length_run cs (step s c).0)
 lends-length : (as' : List Lent) (cs : List Call) → Lends as' cs → length cs ≡ length as'
 lends-length [] [] Claim.none = refl
 lends-length (a ∷ as') (c ∷ cs) (Claim.more x y l) = ap suc (lends-length as' cs l)
+lends-length [] (c ∷ cs) x'' = elim x'' [ ]
+lends-length (a ∷ as') [] x3 = elim x3 [ ]
 
 along-length : (σ : Choice) (os before : List Told) → length (along σ before os) ≡ length os
 along-length σ [] before = refl

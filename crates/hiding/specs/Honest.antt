@@ -37,6 +37,7 @@ Together = (h : Shape) → h.E ≡ h.N → (m w n : ℕ) (as' bs' : List Lent) �
 pub list-plain : Array.Claim → (h : Shape) (m w n : ℕ) (as' : List Lent) (s : State) (cs : List Call) → Lends (first h m w n ∷ as') cs → Resumes [] cs (run s cs) →
     (host : Host) → Honest host cs (run s cs) → (x : Expected) → Plain x cs (run s cs)
 list-plain array h m w n as' s (c ∷ cs) (Claim.more e l k) r host y x = array s host x h c cs (open-ask h c.ask e) r y
+list-plain array h m w n as' s [] x5 r host y x = elim x5 [ ]
 
 pub together-from : Array.Claim → Claim → Together
 together-from array lists h q m w n as' bs' c s s' =
@@ -72,6 +73,8 @@ served-lends : (as' : List Lent) (cs : List Call) → Lends as' cs → (x : Slot
 unfolding served
 served-lends [] [] Claim.none x y s = Claim.none
 served-lends (a ∷ as') (c ∷ cs) (Claim.more {k = k} o e l) x y s = Claim.more (served-outline x y k ∙ o) e (served-lends as' cs l _ _ _)
+served-lends [] (c ∷ cs) x5 x y s = elim x5 [ ]
+served-lends (a ∷ as') [] x6 x y s = elim x6 [ ]
 
 served-words : (cs : List Call) (x : Slots) (y : List ℕ) (s : State) → words_in (served x y s cs) ≡ words_in cs
 unfolding served
@@ -90,6 +93,7 @@ served-gives h m w n as' s t cs g ds l e x = (
   where
     go : (ds : List Call) → Lends (first h m w n ∷ as') ds → AtOnce x (served x [] s ds) (run s (served x [] s ds))
     go (c ∷ ds) (Claim.more o e l) = served-at-once s x [] h c ds (open-ask h c.ask o)
+    go [] x'' = elim x'' [ ]
 
 -- Put the host's bytes into a run: its tape stays, what is told stays, and the host is honest
 pub honest-run : (h : Shape) (m w n : ℕ) (as' : List Lent) (s : State) (t : List ℕ) (cs : List Call) → Gives s (first h m w n ∷ as') t cs → (x : Slots) →
@@ -121,6 +125,8 @@ lending-lends (a ∷ as') (k ∷ ks) (ws ∷ wss) e l =
 words-lent : (as' : List Lent) (cs : List Call) → Lends as' cs → map length (words_in cs) ≡ map (λ (a : Lent). a.words) as'
 words-lent [] [] Claim.none = refl
 words-lent (a ∷ as') (c ∷ cs) (Claim.more o e l) = ap₂ (λ x xs. x ∷ xs) e (words-lent as' cs l)
+words-lent [] (c ∷ cs) x'' = elim x'' [ ]
+words-lent (a ∷ as') [] x3 = elim x3 [ ]
 
 -- Every tape, whatever the contents of the requests and whatever the host had before: some words of 16 bits give it in a run with an honest host, in
 -- which each load is of the run's own form

@@ -1,4 +1,6 @@
 // The first-in first-out queue of jobs, in the lent memory, and the jobs that run together.
+#![tactic(auto)]
+
 ghost use Rattle.std.specs.Prelude.{◌≡◌, ◌∷◌, [], ◌++◌, ◌+◌, ◌<◌, ◌≤◌, length};
 ghost use Rattle.rules.specs.Jobs.{queued as queued_of, begun_with, leave_queue};
 ghost use Rattle.rules.specs.Setters.{set_queue};
@@ -11,7 +13,7 @@ ghost use Rattle.jobs.specs.Runs.{Runs, RunOf};
 use client::Client;
 
 // The jobs that run together as the front one: the counter of their partition, how many they are, and the highest level that they write.
-#[derive(Drop)]
+#[derive(Clone, Copy)]
 pub struct Run {
     pub counter: usize,
     pub joined: usize,

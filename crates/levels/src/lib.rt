@@ -1,4 +1,6 @@
 // Levels and their slots: which is read next, what they hold.
+#![tactic(auto)]
+
 ghost use Rattle.std.specs.Prelude.{◌≡◌, ◌+◌, ◌-◌, ◌*◌, ◌<◌, ◌≤◌, length};
 ghost use Rattle.lists.specs.Tests.{if◌then◌else◌};
 ghost use Rattle.rules.specs.Shape.{slots, cell as cell_of};
@@ -19,7 +21,7 @@ use client::{Client, Found};
 use memory::Shape;
 
 // A slot: level and number; or none.
-#[derive(Drop)]
+#[derive(Clone, Copy)]
 pub enum Spot {
     At(usize, usize),
     Nothing,

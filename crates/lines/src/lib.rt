@@ -1,4 +1,6 @@
 // What a line of a session says. A line is told by the letter that is its first field; numbers and contents are stored in lent bytes.
+#![tactic(auto)]
+
 ghost use Rattle.std.specs.Prelude.{◌≡◌, List, ℕ, ◌/◌, ◌≤◌, length, drop};
 ghost use Rattle.std.proofs.Math.Option.{some};
 ghost use Rattle.lines.specs.Lines.{line_of, tape_of, at_most, number as number_of, digit as digit_of, digits as digits_of, hex_digit, begins as begins_of, contents as contents_of, numbers as numbers_of, up_to, pair as pair_of, opened, read, written, bare, contents_room, tape_room};
@@ -15,7 +17,7 @@ pub const WORDS: usize = 8192;
 pub const TAPE: usize = 16384;
 
 // What a line asks for. Of a write: its block, and how many bytes its contents are.
-#[derive(Drop)]
+#[derive(Clone, Copy)]
 pub enum Line {
     Open(Shape),
     Read(usize),

@@ -1,1 +1,2 @@
 // Laws of lists that several crates use; the definitions are in specs/.
+#![tactic(auto)]

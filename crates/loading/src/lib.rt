@@ -1,4 +1,6 @@
 // Load brings the state of a form back. All is asked before anything is written.
+#![tactic(auto)]
+
 mod blocks;
 mod records;
 mod slots;

@@ -79,7 +79,7 @@ module _ {C E X D S O K Q : Type 0} (W : Machine C X S) (R : Machine E D O)
       there s r (c ∷ cs) k (x ∷ t) p =
           let m = codes s r c cs k in
           let a = m.code_ok x p.0 in
-          let b = there _ _ cs (m.next x p.0) t p.1 in
+          let b = there (W.next s c x) (R.next r (asked c (code s c x).0) (code s c x).1) cs (m.next x p.0) t p.1 in
           ((a.0, b.0), (a.1, b.1))
 
       there_back : (s : W.State) (r : R.State) (cs : List C) → Rel s r cs → (t : List X) → Tape W Any s cs t →
@@ -89,14 +89,14 @@ module _ {C E X D S O K Q : Type 0} (W : Machine C X S) (R : Machine E D O)
       there_back s r (c ∷ cs) k [] p = absurd p
       there_back s r (c ∷ cs) k (x ∷ t) p =
           let m = codes s r c cs k in
-          rw (m.decode-code x p.0) (ap (λ u. x ∷ u) (there_back _ _ cs (m.next x p.0) t p.1))
+          rw (m.decode-code x p.0) (ap (λ u. x ∷ u) (there_back (W.next s c x) (R.next r (asked c (code s c x).0) (code s c x).1) cs (m.next x p.0) t p.1))
 
       alike : (s : W.State) (r : R.State) (cs : List C) → Rel s r cs → (t : List X) → Tape W Any s cs t → Watch W s cs t ≡ shown r cs (code_all s cs t)
       alike s r [] k t p = refl
       alike s r (c ∷ cs) k [] p = absurd p
       alike s r (c ∷ cs) k (x ∷ t) p =
           let m = codes s r c cs k in
-          ap₂ (λ v vs. v ∷ vs) (m.same x p.0) (alike _ _ cs (m.next x p.0) t p.1)
+          ap₂ (λ v vs. v ∷ vs) (m.same x p.0) (alike (W.next s c x) (R.next r (asked c (code s c x).0) (code s c x).1) cs (m.next x p.0) t p.1)
 
       -- back: the states of R by the code of the chunk are those by its parts
       back : (s : W.State) (r : R.State) (cs : List C) → Rel s r cs → (ks : List K) (ds : List D) → Coded r cs (ks, ds) →
@@ -113,7 +113,7 @@ module _ {C E X D S O K Q : Type 0} (W : Machine C X S) (R : Machine E D O)
           let l = m.decode-ok (a, d) q in
           let e = m.code-decode (a, d) q in
           let n : Rel (W.next s c (decode s c (a, d))) (R.next r (asked c a) d) cs = rw e at (m.next (decode s c (a, d)) l) in
-          let z = back _ _ cs n ks ds (p.0.1, p.1.1) in
+          let z = back (W.next s c (decode s c (a, d))) (R.next r (asked c a) d) cs n ks ds (p.0.1, p.1.1) in
           ((l, z.0), λ i. ((e i).0 ∷ (z.1 i).0, (e i).1 ∷ (z.1 i).1))
 
       -- W's tapes are the coded ones

@@ -83,7 +83,7 @@ unfolding shuffle order_bounds
 draws-ok zero o a h r agree =
     let z : place zero o a h r agree ≡ 0 = omega (arith, place-le zero o a h r agree) in
     let e : get_or o 0 0 ≡ get_or a 0 0 = rw z at (place_ok zero o a h r agree).1 in
-    (tt, ext_get_or 0 o a (sym r.0) (λ k. elim k [ zero ↦ λ l. e | suc k ↦ λ l. sym (agree (suc k) (omega arith) l) ]))
+    (tt, ext_get_or 0 o a (sym r.0) (λ k. elim k as (λ k. k < length o → get_or o k 0 ≡ get_or a k 0) [ zero ↦ λ l. e | suc k ↦ λ l. sym (agree (suc k) (omega arith) l) ]))
 draws-ok (suc i) o a h r agree =
     let j = place (suc i) o a h r agree in
     let q = place_ok (suc i) o a h r agree in

@@ -1,4 +1,5 @@
 // Numbers and blocks in lent bytes.
+#![tactic(auto)]
 ghost use Rattle.std.specs.Prelude.{◌≡◌, ◌+◌, ◌*◌, ◌<◌, length};
 ghost use Rattle.memory.specs.Words.{word_at, set_word};
 
@@ -32,7 +33,7 @@ pub mod blocks;
 pub mod tables;
 
 // A shape: N blocks, P partitions, L levels, B bytes a block, E places in the eviction cache, W commands outstanding.
-#[derive(Drop)]
+#[derive(Clone, Copy)]
 pub struct Shape {
     pub n: usize,
     pub p: usize,

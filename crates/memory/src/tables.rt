@@ -26,7 +26,7 @@ pub fn cells(h: Shape) -> usize
 }
 
 // The tables, in the order in which they lie. Each has numbers of two bytes.
-#[derive(Drop)]
+#[derive(Clone, Copy)]
 pub enum Table {
     Queue,
     Kinds,

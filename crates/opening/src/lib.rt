@@ -1,4 +1,6 @@
 // Open draws a partition for each block, 0 upward.
+#![tactic(auto)]
+
 ghost use Rattle.std.specs.Prelude.{◌≡◌, true, [], ◌≤◌, length};
 ghost use Rattle.rules.specs.Shape.{within};
 ghost use Rattle.rules.specs.State.{closed as closed_state};

@@ -1,5 +1,7 @@
 // The partition reader of document 001 (Figure 6): the level where a look-up's block resides, the conditions of the levels of its partition, and the slot
 // that is read of a level. A level is marked for shuffling, and is being shuffled, while it is a source of the front job. Last: which levels are worn.
+#![tactic(auto)]
+
 ghost use Rattle.std.specs.Prelude.{true, false, ◌≡◌, ◌<◌, ◌≤◌};
 ghost use Rattle.lists.specs.Search.{any, below};
 ghost use Rattle.rules.specs.Shape.{slots};
@@ -18,7 +20,7 @@ ghost use Rattle.reading.specs.Slots.{Reads, Placed, LevelFound};
 use client::{Client, Found};
 
 // ReadPartition, 2): a level is empty; is not marked for shuffling; is marked, but all its blocks have been cached in; or none of these.
-#[derive(Drop)]
+#[derive(Clone, Copy)]
 pub enum Condition {
     Empty,
     Unmarked,

@@ -1,4 +1,6 @@
 // The question with which the other four calls begin: memory long enough, each number of the state in its range?
+#![tactic(auto)]
+
 ghost use Rattle.std.specs.Prelude.{◌≡◌, true, ◌≤◌, length};
 ghost use Rattle.rules.specs.Questions.{ready};
 ghost use Rattle.memory.specs.Fits.{shape_of};

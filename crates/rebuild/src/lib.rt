@@ -1,4 +1,6 @@
 // A rebuild's writes to the tables: the sources hold nothing more, each written level gets a new order, and its blocks their places.
+#![tactic(auto)]
+
 ghost use Rattle.std.specs.Prelude.{◌≡◌, suc, min, ◌+◌, ◌-◌, ◌*◌, ◌^◌, ◌<◌, ◌≤◌, length, take, drop, replicate};
 ghost use Rattle.lists.specs.All.{All};
 ghost use Rattle.lists.specs.Distinct.{NoDup};
@@ -22,7 +24,7 @@ ghost use Rattle.rebuild.specs.Laying.{rebuilt, Unlaid, Lays};
 use client::Client;
 
 // What the levels written so far have taken: words of the tape, and blocks of the list.
-#[derive(Drop)]
+#[derive(Clone, Copy)]
 pub struct Spent {
     pub words: usize,
     pub blocks: usize,

@@ -1,4 +1,6 @@
 // A held request that nothing holds any longer is released: the place of its block is looked up.
+#![tactic(auto)]
+
 ghost use Rattle.std.specs.Prelude.{◌≡◌, suc, ◌<◌, ◌≤◌};
 ghost use Rattle.rules.specs.State.{found_number};
 ghost use Rattle.rules.specs.Blocks.{look_up};

@@ -1,4 +1,6 @@
 // The page on the state of the store, written into a lent buffer.
+#![tactic(auto)]
+
 ghost use Rattle.std.specs.Prelude.{◌≡◌, [], ◌∷◌, ◌+◌, ◌*◌, ◌≤◌, ◌<◌, length, get_or};
 ghost use Rattle.client.specs.View.{state_of};
 ghost use Rattle.ready.specs.Usable.{Usable};
@@ -12,7 +14,7 @@ use counting::{ALL, NOWHERE, QUEUED, STORED, TABLE, WAITING};
 use printing::columns::LINE;
 
 // The number, and how many bytes the page has; none if it is refused.
-#[derive(Drop)]
+#[derive(Clone, Copy)]
 pub struct Shown {
     pub number: usize,
     pub length: usize,

@@ -1,4 +1,6 @@
 // Request (read or write, block, contents) takes two draws below P: the block's next partition, then an eviction partition.
+#![tactic(auto)]
+
 ghost use Rattle.std.specs.Prelude.{◌≡◌, true, ◌&&◌, ◌||◌, [], ◌≤◌, ◌<◌, length, ltb};
 ghost use Rattle.lists.specs.Search.{member};
 ghost use Rattle.rules.specs.Shape.{within};

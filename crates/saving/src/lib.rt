@@ -1,4 +1,6 @@
 // Save writes the form of a state that is at rest: its payload first, and then its blocks.
+#![tactic(auto)]
+
 mod payload;
 mod sizes;
 

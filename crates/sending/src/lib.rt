@@ -1,4 +1,6 @@
 // The steps of a turn: each sends one command, if enough is lent for it. The turn releases a request after it.
+#![tactic(auto)]
+
 ghost use Rattle.std.specs.Prelude.{true, ◌≡◌, suc, ◌+◌, ◌<◌, ◌≤◌, length, take};
 ghost use Rattle.lists.specs.Search.{keep};
 ghost use Rattle.lists.specs.Tests.{if◌then◌else◌};
@@ -30,7 +32,7 @@ use jobs::Run;
 
 // What a rebuild goes by: how many jobs run together, the highest level that they write, the counter after them; the place in the cache of the block that
 // has waited longest for their partition, and how many such blocks are taken at most.
-#[derive(Drop)]
+#[derive(Clone, Copy)]
 pub struct Plan {
     pub joined: usize,
     pub top: usize,

@@ -1,4 +1,6 @@
 // The answer to one line of a session: the calls that it asks for, and the text that it prints.
+#![tactic(auto)]
+
 ghost use Rattle.std.specs.Prelude.{◌≡◌, ◌+◌, ◌*◌, ◌-◌, ◌≤◌, ◌<◌, length};
 ghost use Rattle.rules.specs.Shape.{slots};
 ghost use Rattle.rules.specs.State.{cmd};
@@ -25,14 +27,14 @@ pub const HOST: usize = 16384;
 pub const MEMORY: usize = 133120;
 
 // What is kept from line to line: the client, and how many words of the tape are taken.
-#[derive(Drop)]
+#[derive(Clone, Copy)]
 pub struct Session {
     pub client: Client,
     pub taken: usize,
 }
 
 // After a line: what is kept, and where the text ends that it printed.
-#[derive(Drop)]
+#[derive(Clone, Copy)]
 pub struct Printed {
     pub session: Session,
     pub at: usize,

@@ -1,11 +1,11 @@
 -- A turn carries a history on.
-use Rattle.std.specs.Prelude.{◌≡◌, Bool, ℕ, ◌+◌, ◌-◌, ◌≤◌, ◌<◌, length, take, drop}
+use Rattle.std.specs.Prelude.{◌≡◌, Bool, ℕ, ◌+◌, ◌-◌, ◌≤◌, ◌<◌, length, take, drop, get_or}
 use Rattle.std.proofs.Math.Path.{refl, ap}
 use Rattle.std.proofs.Common.{sym, ◌∙◌, true≢false, add-one, arith, take-append-drop, get_or-take, length-take-le, eqb-true}
 use Rattle.std.proofs.Math.Bool.{true, false}
 use mathlib.Core.List.{List, [], ◌∷◌, ◌++◌, append-nil}
 use Rattle.std.proofs.Math.ListN.{length-append}
-use Rattle.std.proofs.Math.Seq.{take-suc}
+use Rattle.std.proofs.Math.Seq.{take-suc, take-append_seam}
 use Rattle.std.proofs.Math.Dec.{eqb}
 use Rattle.client.specs.View.{state_of}
 use Rattle.report.specs.Page.{shown}
@@ -65,14 +65,14 @@ module _ (f : List (List ℕ) → S.Given) (long : (l : List ℕ) (ls : List (Li
 
 -- the state at which a whole line is answered
 abbrev pub moved : ℕ → State → State
-moved n s = record { session = s.session; tape = s.tape; first = s.first; done = s.done; from = n; to = s.to; len = 0; output = s.output }
+moved n s = record { session = s.session; tape = s.tape; first = s.first; done = s.done; failed = s.failed; from = n; to = s.to; len = 0; output = s.output }
 
 -- the state at which a part of a line is taken, and at which a line does not fit
 abbrev pub with_len : ℕ → State → State
-with_len k s = record { session = s.session; tape = s.tape; first = s.first; done = s.done; from = s.from; to = s.to; len = k; output = s.output }
+with_len k s = record { session = s.session; tape = s.tape; first = s.first; done = s.done; failed = s.failed; from = s.from; to = s.to; len = k; output = s.output }
 
 abbrev pub with_done : State → State
-with_done s = record { session = s.session; tape = s.tape; first = s.first; done = true; from = s.from; to = s.to; len = s.len; output = s.output }
+with_done s = record { session = s.session; tape = s.tape; first = s.first; done = true; failed = s.failed; from = s.from; to = s.to; len = s.len; output = s.output }
 
 module _ (host past : List ℕ) (s : State) (chunk line : List ℕ) (b : Buffers) (h : History host past s chunk line b) (going : s.done ≡ false) where
   -- a newline is found, and the line is answered
@@ -108,6 +108,20 @@ module _ (host past : List ℕ) (s : State) (chunk line : List ℕ) (b : Buffers
 
         ended : r.done ≡ true → (ls : List (List ℕ)) → until r.done (kept_in r e) ls ≡ until r.done (kept_in r e) []
         ended z ls = ap (λ t. until t (kept_in r e) ls) z ∙ sym (ap (λ t. until t (kept_in r e) []) z)
+
+    -- a line that ends the session: whatever comes prints nothing
+    pub whole-shut : r.done ≡ true → (more : List ℕ) → given host ((past ++ take (i + 1) (waiting s chunk)) ++ more) ≡ given host (past ++ take (i + 1) (waiting s chunk))
+    unfolding p
+    whole-shut z more = rw with_newline (nothing-follows host (past ++ (p ++ (10 ∷ []))) [] (until r.done (kept_in r e)) next more (ended (cut [] more)))
+      where
+        one : (ls : List (List ℕ)) → coming s.first (kept_in s b) ((take s.len line ++ p) ∷ ls) ≡ behind_text d.text (until r.done (kept_in r e) ls)
+        one ls = ap (λ l. coming s.first (kept_in s b) (l ∷ ls)) (sym w.text) ∙ d.gives ls
+
+        next : Follows host (past ++ (p ++ (10 ∷ []))) (until r.done (kept_in r e)) []
+        next = line-follows host past (take s.len line) (coming s.first (kept_in s b)) (h.goes going) p (first_plain i (waiting s chunk) w.plain) (until r.done (kept_in r e)) d.text one (kept_in r e) (until_none r.done (kept_in r e))
+
+        ended : (ls : List (List ℕ)) → until r.done (kept_in r e) ls ≡ until r.done (kept_in r e) []
+        ended ls = ap (λ t. until t (kept_in r e) ls) z ∙ sym (ap (λ t. until t (kept_in r e) []) z)
 
   -- none is found, and more is read
   module _ (k : ℕ) (line' : List ℕ) (w : Goes (waiting s chunk) (take s.len line) k line') (r : State) (chunk' out' : List ℕ) (f : Refilled (with_len k s) r) where
@@ -150,14 +164,24 @@ module _ (host past : List ℕ) (s : State) (chunk line : List ℕ) (b : Buffers
         nothing : coming s.first (kept_in s b) (cut (take s.len line) (waiting s chunk)) ≡ coming s.first (kept_in s b) []
         nothing = past-cut (coming s.first (kept_in s b)) (long-gives s.first (kept_in s b)) (waiting s chunk) (take s.len line) w
 
+  -- .. whatever comes behind it
+  pub long-shut : Past (waiting s chunk) (take s.len line) → (more : List ℕ) → given host (past ++ (waiting s chunk ++ more)) ≡ given host past
+  long-shut w more = nothing-follows host past (take s.len line) (coming s.first (kept_in s b)) (h.goes going) (waiting s chunk ++ more) (past-cut (coming s.first (kept_in s b)) (long-gives s.first (kept_in s b)) (waiting s chunk ++ more) (take s.len line) longer)
+    where
+      longer : Past (waiting s chunk ++ more) (take s.len line)
+      longer = record {
+        more = omega (arith, w.more, length-append (waiting s chunk) more);
+        plain = λ j l e. w.plain j l (ap (λ t. get_or t j 0) (sym (take-append_seam (waiting s chunk) more)) ∙ get_or-take (length (waiting s chunk)) (waiting s chunk ++ more) j 0 (omega (arith, w.more)) ∙ e);
+      }
+
 -- ---- What a turn promises
 
 module _ (s : State) (chunk line : List ℕ) (b : Buffers) (going : s.done ≡ false) where
   module _ (k i : ℕ) (line' : List ℕ) (w : Ended (waiting s chunk) (take s.len line) k i line') (r : State) (e : Buffers) where
-    rest-waits : r.from ≡ s.from + i + 1 → r.to ≡ s.to → waiting r chunk ≡ drop (i + 1) (waiting s chunk)
+    pub rest-waits : r.from ≡ s.from + i + 1 → r.to ≡ s.to → waiting r chunk ≡ drop (i + 1) (waiting s chunk)
     rest-waits f t = (λ j. take (t j - f j) (drop (f j) chunk)) ∙ waits-behind chunk s.from s.to i
 
-    line-turned : Ready r e.tape → total r.output ≤ total s.output + text_room → Stays (moved (s.from + i + 1) s) r → r.first ≡ false
+    unfoldable pub line-turned : Ready r e.tape → total r.output ≤ total s.output + text_room → Stays (moved (s.from + i + 1) s) r → r.first ≡ false
         → Does (coming s.first (kept_in s b)) (take k line') s.output b.out (until r.done (kept_in r e)) r.output e.out → Turned s chunk line b r chunk line' e
     line-turned ready size stays first d = record {
       ready = ready;
@@ -169,13 +193,13 @@ module _ (s : State) (chunk line : List ℕ) (b : Buffers) (going : s.done ≡ f
       history = λ host past h. whole-history host past s chunk line b h going k i line' w r chunk line' e d first stays.len;
     }
 
-    pub respond-turned : s.first ≡ false → e.tape ≡ b.tape → Responds (moved (s.from + i + 1) s) (take k line') b r e → Turned s chunk line b r chunk line' e
+    unfoldable pub respond-turned : s.first ≡ false → e.tape ≡ b.tape → Responds (moved (s.from + i + 1) s) (take k line') b r e → Turned s chunk line b r chunk line' e
     respond-turned first tape p = line-turned p.ready p.size p.stays (p.first ∙ first) (responds-does (moved (s.from + i + 1) s) (take k line') b r e first tape p)
 
-    pub begin-turned : s.first ≡ true → Begun (moved (s.from + i + 1) s) (take k line') b r e → Turned s chunk line b r chunk line' e
+    unfoldable pub begin-turned : s.first ≡ true → Begun (moved (s.from + i + 1) s) (take k line') b r e → Turned s chunk line b r chunk line' e
     begin-turned first p = line-turned p.ready p.size p.stays p.first (begun-does (moved (s.from + i + 1) s) (take k line') b r e first going p)
 
-  pub part_turned : Served s.session (take s.tape b.tape) → s.tape ≤ tape_room → (k : ℕ) (line' : List ℕ) → Goes (waiting s chunk) (take s.len line) k line' → (r : State) (chunk' out' : List ℕ) → Refilled (with_len k s) r → Turned s chunk line b r chunk' line' (buffers b.tape b.memory b.host out')
+  unfoldable pub part_turned : Served s.session (take s.tape b.tape) → s.tape ≤ tape_room → (k : ℕ) (line' : List ℕ) → Goes (waiting s chunk) (take s.len line) k line' → (r : State) (chunk' out' : List ℕ) → Refilled (with_len k s) r → Turned s chunk line b r chunk' line' (buffers b.tape b.memory b.host out')
   part_turned v t k line' w r chunk' out' f = record {
     ready = record { served = rw (f.session, f.tape) v; tape = omega (arith, f.tape); from = omega (arith, f.from); to = f.to; len = omega (arith, f.len, w.room); at = omega (arith, f.at) };
     size = omega (arith, f.at, f.gone);
@@ -186,7 +210,7 @@ module _ (s : State) (chunk line : List ℕ) (b : Buffers) (going : s.done ≡ f
     history = λ host past h. part-history host past s chunk line b h going k line' w r chunk' out' f;
   }
 
-  pub long-turned : Ready s b.tape → (line' : List ℕ) → Past (waiting s chunk) (take s.len line) → Turned s chunk line b (with_done s) chunk line' b
+  unfoldable pub long-turned : Ready s b.tape → (line' : List ℕ) → Past (waiting s chunk) (take s.len line) → Turned s chunk line b (with_done s) chunk line' b
   long-turned p line' w = record {
     ready = record { served = p.served; tape = p.tape; from = p.from; to = p.to; len = p.len; at = p.at };
     size = omega arith;

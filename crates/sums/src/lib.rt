@@ -1,4 +1,6 @@
 // The blocks of a form: 508 bytes of its payload each, and their sum.
+#![tactic(auto)]
+
 pub mod bytes;
 
 ghost use Rattle.std.specs.Prelude.{◌≡◌, ◌+◌, ◌*◌, ◌<◌, ◌≤◌, length, take, drop, ◌==◌};

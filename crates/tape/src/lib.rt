@@ -1,4 +1,6 @@
 // The tape: 16-bit words as pairs of bytes, low byte first. An odd last byte is no word.
+#![tactic(auto)]
+
 ghost use Rattle.std.specs.Prelude.{◌≡◌, suc, ◌%◌, ◌<◌, ◌≤◌, length, get_or, leb};
 ghost use Rattle.lists.specs.Search.{keep};
 ghost use Rattle.rules.specs.Draws.{limit};

@@ -1,4 +1,6 @@
 // Turn sends one command.
+#![tactic(auto)]
+
 ghost use Rattle.rules.specs.Questions.{turn as turn_of};
 ghost use Rattle.client.specs.View.{state_of};
 ghost use Rattle.contract.specs.Meets.{Meets};

@@ -66,6 +66,10 @@ same-calls (a ∷ as') s (c ∷ cs) (d ∷ ds) (Fixed.more {ws = ws} x u) (Fixed
     let q : vs ≡ ws = sym (ap (head_or []) e) in
     let v' : Lends (step s (lend (at s a) ws)).0 as' ds = subst (λ zs. Lends (step s (lend (at s a) zs)).0 as' ds) q v in
     ap₂ (λ zs (xs : List Call). lend (at s a) zs ∷ xs) (sym q) (same-calls as' (step s (lend (at s a) ws)).0 cs ds u v' (ap tail_of e))
+same-calls [] s [] (d ∷ ds) _ x10 e = elim x10 [ ]
+same-calls [] s (c ∷ cs) ds x7 _ e = elim x7 [ ]
+same-calls (a ∷ as') s [] ds x6 _ e = elim x6 [ ]
+same-calls (a ∷ as') s (c ∷ cs) [] _ x10 e = elim x10 [ ]
 
 module _ (e n : ℕ) (le : e ≤ n) (he : 1 ≤ e) where
   -- from one state over caches of n and of e places, e at most n
@@ -100,6 +104,10 @@ module _ (e n : ℕ) (le : e ≤ n) (he : 1 ≤ e) where
           let same : cs ≡ ds = same-calls as' closed cs ds (rw x at u) (rw y at v) (ap tail_of w) in
           let r : Agree (step (with_e n s) large).0 cs (step (with_e e s) small).0 ds = rw (x, y, same) (agree_refl (without_forms ds (run closed ds))) in
           equal o r
+  cache-run [] i s f rn re [] (d ∷ ds) _ x14 w = elim x14 [ ]
+  cache-run [] i s f rn re (c ∷ cs) ds x11 _ w = elim x11 [ ]
+  cache-run (a ∷ as') i s f rn re [] ds x10 _ w = elim x10 [ ]
+  cache-run (a ∷ as') i s f rn re (c ∷ cs) [] _ x14 w = elim x14 [ ]
 
 -- ---- From the open
 
@@ -190,6 +198,8 @@ loading-listing p (load form) = refl
 twins-words : {A : Type 0} {f : Ask → A} (cs ds : List Call) → Claim.Twins f cs ds → words_in cs ≡ words_in ds
 twins-words [] [] Claim.none = refl
 twins-words (c ∷ cs) (d ∷ ds) (Claim.more t ts) = ap₂ (λ (x : List ℕ) xs. x ∷ xs) t.words (twins-words cs ds ts)
+twins-words {A = A} {f = f} [] (d ∷ ds) x'' = elim x'' [ ]
+twins-words {A = A} {f = f} (c ∷ cs) [] x3 = elim x3 [ ]
 
 same-own : (cs ds : List Call) → Claim.Twins (loading []) cs ds → (p : ℕ × ℕ) → own p cs ≡ own p ds
 same-own [] [] Claim.none p = refl
@@ -198,12 +208,16 @@ same-own (c ∷ cs) (d ∷ ds) (Claim.more t ts) p =
     let outlines : outline c.ask ≡ outline d.ask = sym (loading-outline [] c.ask) ∙ ap outline t.ask ∙ loading-outline [] d.ask in
     ap₂ (λ (x : Listed) xs. x ∷ xs) (λ i. record { ask = ask i; memory = t.memory i; words = length (t.words i); buffer = t.buffer i })
     (same-own cs ds ts (last_of c) ∙ (λ i. own (last_save (outlines i) (t.memory i) (t.buffer i)) ds))
+same-own [] (d ∷ ds) x'' p = elim x'' [ ]
+same-own (c ∷ cs) [] x3 p = elim x3 [ ]
 
 like-own : (cs ds : List Call) → Claim.Twins outline cs ds → (p : ℕ × ℕ) → Twins.Twins (own p cs) (own p ds)
 like-own [] [] Claim.none p = Twins.none
 like-own (c ∷ cs) (d ∷ ds) (Claim.more t ts) p =
     Twins.more (record { ask = own_bare p c.ask ∙ ap (λ x. bare_listing (zeroed p x)) t.ask ∙ sym (own_bare p d.ask); memory = t.memory; words = ap length t.words; buffer = t.buffer })
     (subst (λ q. Twins.Twins (own (last_of c) cs) (own q ds)) (λ i. last_save (t.ask i) (t.memory i) (t.buffer i)) (like-own cs ds ts (last_of c)))
+like-own [] (d ∷ ds) x'' p = elim x'' [ ]
+like-own (c ∷ cs) [] x3 p = elim x3 [ ]
 
 rest-lends : (s : State) (a : Listed) (as' : List Listed) (c : Call) (cs : List Call) → Lends s (a ∷ as') (c ∷ cs) → Lends (step s c).0 as' cs
 rest-lends s a as' c cs (Fixed.more e l) = l
@@ -215,6 +229,8 @@ unfolding run
 agree-told [] [] s s' done = done
 agree-told (c ∷ cs) (d ∷ ds) s s' (full z) = full (sym (form-number d.ask (step s' d).1) ∙ z)
 agree-told (c ∷ cs) (d ∷ ds) s s' (equal z r) = equal (sym (form-told c.ask (step s c).1) ∙ ap told z ∙ form-told d.ask (step s' d).1) (agree-told cs ds (step s c).0 (step s' d).0 r)
+agree-told [] (d ∷ ds) s s' x'' = elim x'' [ ]
+agree-told (c ∷ cs) [] s s' x3 = elim x3 [ ]
 
 same-told : (xs ys zs : List Outcome) → AgreeUntil8 told xs ys → map told ys ≡ map told zs → AgreeUntil8 told xs zs
 unfolding head_or tail_of
@@ -223,6 +239,8 @@ same-told [] [] (z ∷ zs) done e = absurd (omega (arith, ap length e))
 same-told (x ∷ xs) (y ∷ ys) [] a e = absurd (omega (arith, ap length e))
 same-told (x ∷ xs) (y ∷ ys) (z ∷ zs) (full q) e = let o : told y ≡ told z = ap (head_or (told y)) e in full (ap (λ (o : ℕ × ℕ × Command). o.0) (sym o) ∙ q)
 same-told (x ∷ xs) (y ∷ ys) (z ∷ zs) (equal q r) e = equal (q ∙ ap (head_or (told y)) e) (same-told xs ys zs r (ap tail_of e))
+same-told [] (y ∷ ys) zs a e = elim a [ ]
+same-told (x ∷ xs) [] zs a e = elim a [ ]
 
 -- The second claim
 pub smaller : Smaller

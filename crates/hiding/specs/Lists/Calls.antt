@@ -2,7 +2,7 @@
 use Rattle.std.specs.Prelude.{◌≡◌, false, ◌↔◌, List, [], replicate, eqb}
 use Rattle.std.proofs.Math.Path.{refl}
 use Rattle.std.proofs.Common.{◌∙◌, sym}
-use Rattle.std.proofs.Math.Logic.{Iff·rfl}
+use Rattle.std.proofs.Math.Logic.Iff
 use Prim.Native.Nat.{ℕ, zero, suc}
 use Rattle.std.proofs.Math.Dec.{eqb-suc-zero}
 use Rattle.lists.specs.Tests.{if◌then◌else◌}
@@ -108,12 +108,12 @@ module _ (h : Shape) where
     where
       go : (j : ℕ) → number_r s l m w n ≡ j → Agrees (later l m w n) (on s) s (lent (ask s l) m w n)
       go zero e = record {
-        legal = λ d. rw e Iff·rfl;
+        legal = λ d. rw e Iff.rfl;
         next = λ d. rw e;
         tells = λ d. rw e;
       }
       go (suc j) e = record {
-        legal = λ d. rw (e, eqb-suc-zero j) Iff·rfl;
+        legal = λ d. rw (e, eqb-suc-zero j) Iff.rfl;
         next = λ d. rw (e, eqb-suc-zero j) (refused-is s l);
         tells = λ d. rw (e, eqb-suc-zero j);
       }
@@ -145,12 +145,12 @@ module _ (h : Shape) where
     where
       go : (j : ℕ) → number closed (open_call h m w) ≡ j → Agrees (Public.first m w) unopened s (lent (opening h) m w n)
       go zero e = let f = open_any s m w n ∙ e in record {
-        legal = λ d. rw (e, f) Iff·rfl;
+        legal = λ d. rw (e, f) Iff.rfl;
         next = λ d. rw (e, f);
         tells = λ d. rw (e, f);
       }
       go (suc j) e = let f = open_any s m w n ∙ e in record {
-        legal = λ d. rw (e, f, eqb-suc-zero j) Iff·rfl;
+        legal = λ d. rw (e, f, eqb-suc-zero j) Iff.rfl;
         next = λ d. rw (e, f, eqb-suc-zero j);
         tells = λ d. rw (e, f, eqb-suc-zero j);
       }

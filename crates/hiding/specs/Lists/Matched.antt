@@ -3,7 +3,7 @@
 use Rattle.std.specs.Prelude.{◌≡◌, refl, Bool, true, ◌↔◌, List, [], ◌∷◌, map, ℕ, length, replicate}
 use Rattle.std.proofs.Common.{ap, ap₂, sym, ◌∙◌, subst, eq-eqb, lt-ltb}
 use Rattle.std.proofs.Math.Path.{fun_ext}
-use Rattle.std.proofs.Math.Logic.{Iff·rfl}
+use Rattle.std.proofs.Math.Logic.Iff
 use Rattle.std.proofs.lemmas.List.{length-replicate}
 use Rattle.rules.specs.Shape.{Shape}
 use Rattle.rules.specs.State.{State, closed}
@@ -49,10 +49,10 @@ module _ (h : Shape) (reach : Reachable h) where
   Rest (Ideal.off i) o = HiddenOn i o
 
   rest : (o : Orders) (m : Mid) → Hidden₁ h reach m o ↔ Rest (public_view h m).0 o
-  rest o Middle.unopened = Iff·rfl
-  rest o Middle.shut = Iff·rfl
-  rest o (Middle.on s it) = Iff·rfl
-  rest o (Middle.off s it) = Iff·rfl
+  rest o Middle.unopened = Iff.rfl
+  rest o Middle.shut = Iff.rfl
+  rest o (Middle.on s it) = Iff.rfl
+  rest o (Middle.off s it) = Iff.rfl
 
   only₁ : (o : Orders) → Empty o → o ≡ (λ (k : Key). [])
   only₁ o a = fun_ext (λ k. none-arranges (o k) (a k))
@@ -226,6 +226,8 @@ same-list h [] [] Claim.none p ks = refl
 same-list h (a ∷ as') (b ∷ bs') (Claim.more s c) p [] = refl
 same-list h (a ∷ as') (b ∷ bs') (Claim.more s c) p (k ∷ ks) =
     ap₂ (λ x xs. x ∷ xs) (same_asked h a b s p k) (same-list h as' bs' c (last_in a) ks ∙ ap (λ q. map (public_entry h) (asked_all asked (zeros q bs') ks)) (same-last h a b s))
+same-list h [] (b ∷ bs') x'' p ks = elim x'' [ ]
+same-list h (a ∷ as') [] x3 p ks = elim x3 [ ]
 
 same_turn : (h : Shape) {a b : Outline} (p q : ℕ × ℕ) → Alike h a b → is_turn (ask_in closed (zeroed p a)) ≡ is_turn (ask_in closed (zeroed q b))
 unfolding is_turn
@@ -240,6 +242,8 @@ same_turn h p q loads = refl
 pub same-public : (h : Shape) (as' bs' : List Lent) → Compared h as' bs' → (p q : ℕ × ℕ) → map public_in (zeros p as') ≡ map public_in (zeros q bs')
 same-public h [] [] Claim.none p q = refl
 same-public h (a ∷ as') (b ∷ bs') (Claim.more s c) p q = ap₂ (λ (x : Bool × ℕ) xs. x ∷ xs) (λ i. (same_turn h p q s.ask i, s.words i)) (same-public h as' bs' c (last_in a) (last_in b))
+same-public h [] (b ∷ bs') x'' p q = elim x'' [ ]
+same-public h (a ∷ as') [] x3 p q = elim x3 [ ]
 
 no-open : (h : Shape) {a b : Outline} (p : ℕ × ℕ) → Alike h a b → IsLater (zeroed p a) × IsLater (zeroed p b)
 no-open h p (well_formed f g) = (tt, tt)
@@ -255,6 +259,8 @@ no-opens h [] [] Claim.none p q = (tt, tt)
 no-opens h (a ∷ as') (b ∷ bs') (Claim.more s c) p q =
     let y = no-opens h as' bs' c (last_in a) (last_in b) in
     (((no-open h p s.ask).0, y.0), ((no-open h q s.ask).1, y.1))
+no-opens h [] (b ∷ bs') x'' p q = elim x'' [ ]
+no-opens h (a ∷ as') [] x3 p q = elim x3 [ ]
 
 -- The tapes of words of two compared lists, chunk by chunk
 pub words-matched : (h : Shape) → Reachable h → (m w n : ℕ) (as' bs' : List Lent) → Compared h as' bs' →

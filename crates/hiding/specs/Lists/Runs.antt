@@ -61,6 +61,7 @@ unfolding run
 open-run h m w n as' (c ∷ cs) (Claim.more o e l) s s' =
     let q = open-ask h c.ask o in
     ap (λ (r : State × Outcome). r.1 ∷ run r.0 cs) (open-first s c h q ∙ sym (open-first s' c h q))
+open-run h m w n as' [] x' s s' = elim x' [ ]
 
 pub gives-from : (h : Shape) (m w n : ℕ) (as' : List Lent) (s s' : State) (t : List ℕ) (cs : List Call) → Gives s (first h m w n ∷ as') t cs → Gives s' (first h m w n ∷ as') t cs
 gives-from h m w n as' s s' t cs g =
@@ -130,6 +131,8 @@ zero-twins [] [] Claim.none p = Twins.none
 zero-twins (a ∷ as') (c ∷ cs) (Claim.more {k = k} o e l) p =
     Twins.more (record { ask = own_bare p k ∙ ap (λ x. bare_listing (zeroed p x)) o; memory = refl; words = e; buffer = refl })
     (subst (λ q. Twins (own (last_of c) cs) (zeros q as')) (ap (λ x. last_save x a.memory a.buffer) o) (zero-twins as' cs l (last_of c)))
+zero-twins [] (c ∷ cs) x'' p = elim x'' [ ]
+zero-twins (a ∷ as') [] x3 p = elim x3 [ ]
 
 -- .. and the bytes of another run
 own-twins : (as' : List Lent) (cs ds : List Call) → Lends as' cs → Lends as' ds → (p : ℕ × ℕ) → Twins (own p cs) (own p ds)
@@ -137,6 +140,10 @@ own-twins [] [] [] Claim.none Claim.none p = Twins.none
 own-twins (a ∷ as') (c ∷ cs) (d ∷ ds) (Claim.more {k = k} o e l) (Claim.more {k = k'} o' e' l') p =
     Twins.more (record { ask = own_bare p k ∙ ap (λ x. bare_listing (zeroed p x)) (o ∙ sym o') ∙ sym (own_bare p k'); memory = refl; words = e ∙ sym e'; buffer = refl })
     (subst (λ q. Twins (own (last_of c) cs) (own q ds)) (ap (λ x. last_save x a.memory a.buffer) (o ∙ sym o')) (own-twins as' cs ds l l' (last_of c)))
+own-twins [] [] (d ∷ ds) _ x7 p = elim x7 [ ]
+own-twins [] (c ∷ cs) ds x5 _ p = elim x5 [ ]
+own-twins (a ∷ as') [] ds x5 _ p = elim x5 [ ]
+own-twins (a ∷ as') (c ∷ cs) [] _ x9 p = elim x9 [ ]
 
 -- the calls of a list with its bytes, lent the words of a run
 abbrev pub follow : State → List Listed → List Call → List Call
@@ -166,6 +173,8 @@ follows (a ∷ as') (c ∷ cs) l s =
 zeros-lengths : (as' : List Lent) (cs : List Call) → Lends as' cs → (p : ℕ × ℕ) → Lengths (zeros p as') cs
 zeros-lengths [] [] Claim.none p = tt
 zeros-lengths (a ∷ as') (c ∷ cs) (Claim.more o e l) p = (e, zeros-lengths as' cs l (last_in a))
+zeros-lengths [] (c ∷ cs) x'' p = elim x'' [ ]
+zeros-lengths (a ∷ as') [] x3 p = elim x3 [ ]
 
 pub own-lengths : (cs : List Call) (p : ℕ × ℕ) → Lengths (own p cs) cs
 own-lengths [] p = tt
@@ -213,11 +222,18 @@ zeroed-last s p a_load = refl
 zeros-lends : (as' : List Lent) (cs : List Call) (s : State) (p : ℕ × ℕ) → Fixed.Lends s (zeros p as') cs → Lends as' cs × Resumes (saved_in s p) cs (run s cs)
 unfolding run
 zeros-lends [] [] s p Fixed.none = (Claim.none, tt)
-zeros-lends (a ∷ as') (c ∷ cs) s p (Fixed.more {ws = ws} e l) =
-    let d = Fixed.lend (at s (zero_of p a)) ws in
-    let r = zeros-lends as' cs (step s d).0 (last_in a) l in
-    let q : saved_by d.ask (step s d).1 ≡ saved_in (step s d).0 (last_in a) = step-saved s d ∙ ap (λ o. saved_in (step s d).0 (last_save o a.memory a.buffer)) (outline-zeroed s p a.ask) in
-    (Claim.more (outline-zeroed s p a.ask) e r.0, (zeroed-last s p a.ask, subst (λ y. Resumes y cs (run (step s d).0 cs)) (sym q) r.1))
+zeros-lends (a ∷ as') (c ∷ cs) s p x = go s p c x (λ s' l. zeros-lends as' cs s' (last_in a) l)
+  where
+    go : (s : State) (p : ℕ × ℕ) (c : Call) → Fixed.Lends s (zeros p (a ∷ as')) (c ∷ cs)
+        → ((s' : State) → Fixed.Lends s' (zeros (last_in a) as') cs → Lends as' cs × Resumes (saved_in s' (last_in a)) cs (run s' cs))
+        → Lends (a ∷ as') (c ∷ cs) × Resumes (saved_in s p) (c ∷ cs) (run s (c ∷ cs))
+    go s p c (Fixed.more {ws = ws} e l) rest =
+        let d = Fixed.lend (at s (zero_of p a)) ws in
+        let r = rest (step s d).0 l in
+        let q : saved_by d.ask (step s d).1 ≡ saved_in (step s d).0 (last_in a) = step-saved s d ∙ ap (λ o. saved_in (step s d).0 (last_save o a.memory a.buffer)) (outline-zeroed s p a.ask) in
+        (Claim.more (outline-zeroed s p a.ask) e r.0, (zeroed-last s p a.ask, subst (λ y. Resumes y cs (run (step s d).0 cs)) (sym q) r.1))
+zeros-lends [] (c ∷ cs) s p x'' = elim x'' [ ]
+zeros-lends (a ∷ as') [] s p x3 = elim x3 [ ]
 
 pub zeros-tape : (as' : List Lent) (t : List ℕ) → Fixed.Tape closed (zeros (0, 0) as') t → Tape closed as' t
 zeros-tape as' t p =
@@ -273,6 +289,10 @@ own_same (a ∷ as') (c ∷ cs) (d ∷ ds) (Claim.more {k = k} o x l) (Claim.mor
     let j : k ≡ k' = ap (head_or turn) e in
     ap₂ (λ (z : Listed) zs. z ∷ zs) (λ i. record { ask = listing p (j i); memory = a.memory; words = (x ∙ sym y) i; buffer = a.buffer })
     (own_same as' cs ds l l' (ap tail_of e) (last_of c) ∙ ap (λ (z : Ask). own (last_save (outline z) a.memory a.buffer) ds) j)
+own_same [] [] (d ∷ ds) _ x10 e p = elim x10 [ ]
+own_same [] (c ∷ cs) ds x7 _ e p = elim x7 [ ]
+own_same (a ∷ as') [] ds x6 _ e p = elim x6 [ ]
+own_same (a ∷ as') (c ∷ cs) [] _ x10 e p = elim x10 [ ]
 
 pub decides : (h : Shape) (m w n : ℕ) (as' : List Lent) (s : State) (t : List ℕ) (cs ds : List Call) →
     Gives s (first h m w n ∷ as') t cs → Gives s (first h m w n ∷ as') t ds → asks_in cs ≡ asks_in ds → run s cs ≡ run s ds

@@ -145,6 +145,8 @@ tape-length (a ∷ as') (c ∷ cs) (Claim.more {k = k} {ws = ws} q e l) p (o ∷
     let turns : is_turn k ≡ is_turn (ask_in closed (zeroed p a.ask)) = turn-zeroed p k ∙ ap (λ (x : Outline). is_turn (ask_in closed (zeroed p x))) q in
     length-append (used (lend a k ws) o) (tape_of cs os)
     ∙ ap₂ (λ i j. i + j) (used-length (lend a k ws) o ∙ (λ i. counted (turns i) (e i) (told o))) (tape-length as' cs l (last_in a) os)
+tape-length [] (c ∷ cs) x'' p os = elim x'' [ ]
+tape-length (a ∷ as') [] x3 p os = elim x3 [ ]
 
 long : (h : Shape) (m w n : ℕ) (as' bs' : List Lent) → Compared h as' bs' → (s s' : State) (t u : List ℕ) (cs ds : List Call) →
     Gives s (first h m w n ∷ as') t cs → Gives s' (first h m w n ∷ bs') u ds → map told (run s cs) ≡ map told (run s' ds) → length t ≡ length u

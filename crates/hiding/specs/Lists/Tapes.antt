@@ -162,17 +162,23 @@ pub record Chunks (s : State) (as' : List Listed) (cs : List Call) : Type 0 wher
 pub run-chunks : (as' : List Listed) (cs : List Call) (s : State) → Lends s as' cs → Short cs → Was s → Chunks s as' cs
 unfolding run tape_of
 run-chunks [] [] s Fixed.none p v = record { chunks = []; legal = tt; flat = refl; runs = refl }
-run-chunks (a ∷ as') (c ∷ cs) s (Fixed.more {ws = ws} e l) (cons p q) v =
-    let d = used (lend (at s a) ws) (step s (lend (at s a) ws)).1 in
-    let k = chunk s v (at s a) ws e p in
-    let r = run-chunks as' cs (step s (lend (at s a) ws)).0 l q (at-was s a ws v) in
-    let n : (step s (lent_on (at s a) d)).0 ≡ (step s (lend (at s a) ws)).0 = ap (λ (x : State × Outcome). x.0) k.same in
-    record {
-      chunks = d ∷ r.chunks;
-      legal = (k.legal, subst (λ s'. Tape words Any s' as' r.chunks) (sym n) r.legal);
-      flat = ap (λ xs. d ++ xs) r.flat;
-      runs = ap₂ (λ o os. o ∷ os) (ap (λ (x : State × Outcome). x.1) k.same) (ap (λ s'. outcomes s' as' r.chunks) n ∙ r.runs);
-    }
+run-chunks (a ∷ as') (c ∷ cs) s l (cons p q) v = go s c l p v (λ s' l' v'. run-chunks as' cs s' l' q v')
+  where
+    go : (s : State) (c : Call) → Lends s (a ∷ as') (c ∷ cs) → ShortWords c.words → Was s → ((s' : State) → Lends s' as' cs → Was s' → Chunks s' as' cs)
+        → Chunks s (a ∷ as') (c ∷ cs)
+    go s c (Fixed.more {ws = ws} e l) p v rest =
+        let d = used (lend (at s a) ws) (step s (lend (at s a) ws)).1 in
+        let k = chunk s v (at s a) ws e p in
+        let r = rest (step s (lend (at s a) ws)).0 l (at-was s a ws v) in
+        let n : (step s (lent_on (at s a) d)).0 ≡ (step s (lend (at s a) ws)).0 = ap (λ (x : State × Outcome). x.0) k.same in
+        record {
+          chunks = d ∷ r.chunks;
+          legal = (k.legal, subst (λ s'. Tape words Any s' as' r.chunks) (sym n) r.legal);
+          flat = ap (λ xs. d ++ xs) r.flat;
+          runs = ap₂ (λ o os. o ∷ os) (ap (λ (x : State × Outcome). x.1) k.same) (ap (λ s'. outcomes s' as' r.chunks) n ∙ r.runs);
+        }
+run-chunks [] (c ∷ cs) s x6 p v = elim x6 [ ]
+run-chunks (a ∷ as') [] s x5 p v = elim x5 [ ]
 
 -- and each tape of the machine is one of a run
 pub chunks-run : (as' : List Listed) (s : State) (ds : List (List ℕ)) → Tape words Any s as' ds → (cs : List Call) × Gives s as' (concat ds) cs

@@ -208,12 +208,25 @@ pub twins-alike : (as' bs' : List Listed) → Twins as' bs' → (cs ds : List Ca
     → bare s ≡ bare s' → Was s → Was s' → Alike s cs s' ds
 unfolding run tape_of head_or tail_of
 twins-alike [] [] none [] [] s s' Fixed.none Fixed.none w e l l' = (refl, refl)
-twins-alike (a ∷ as') (b ∷ bs') (more t ts) (c ∷ cs) (d ∷ ds) s s' (Fixed.more {ws = ws} x u) (Fixed.more {ws = vs} y v) w e l l' =
-    let k = twin-like a b t s s' e l l' ws in
-    let same : vs ≡ ws = sym (ap (head_or []) w) in
-    let v' : Lends (step s' (lend (at s' b) ws)).0 bs' ds = subst (λ zs. Lends (step s' (lend (at s' b) zs)).0 bs' ds) same v in
-    let r = twins-alike as' bs' ts cs ds (step s (lend (at s a) ws)).0 (step s' (lend (at s' b) ws)).0 u v' (ap tail_of w) k.next (at-was s a ws l) (at-was s' b ws l') in
-    subst (λ zs. Alike s (lend (at s a) ws ∷ cs) s' (lend (at s' b) zs ∷ ds)) (sym same) (
-      ap₂ (λ o os. o ∷ os) k.tells r.0,
-      ap₂ ◌++◌ (twin-used a b t s s' e l l' ws) r.1,
-    )
+twins-alike (a ∷ as') (b ∷ bs') (more t ts) (c ∷ cs) (d ∷ ds) s s' m m' w e l l' =
+    go s s' c d m m' w e l l' (λ r r' u v n x x'. twins-alike as' bs' ts cs ds r r' u v (ap tail_of w) n x x')
+  where
+    go : (s s' : State) (c d : Call) → Lends s (a ∷ as') (c ∷ cs) → Lends s' (b ∷ bs') (d ∷ ds) → words_in (c ∷ cs) ≡ words_in (d ∷ ds)
+        → bare s ≡ bare s' → Was s → Was s'
+        → ((r r' : State) → Lends r as' cs → Lends r' bs' ds → bare r ≡ bare r' → Was r → Was r' → Alike r cs r' ds)
+        → Alike s (c ∷ cs) s' (d ∷ ds)
+    go s s' c d (Fixed.more {ws = ws} x u) (Fixed.more {ws = vs} y v) w e l l' rest =
+        let k = twin-like a b t s s' e l l' ws in
+        let same : vs ≡ ws = sym (ap (head_or []) w) in
+        let v' : Lends (step s' (lend (at s' b) ws)).0 bs' ds = subst (λ zs. Lends (step s' (lend (at s' b) zs)).0 bs' ds) same v in
+        let r = rest (step s (lend (at s a) ws)).0 (step s' (lend (at s' b) ws)).0 u v' k.next (at-was s a ws l) (at-was s' b ws l') in
+        subst (λ zs. Alike s (lend (at s a) ws ∷ cs) s' (lend (at s' b) zs ∷ ds)) (sym same) (
+          ap₂ (λ o os. o ∷ os) k.tells r.0,
+          ap₂ ◌++◌ (twin-used a b t s s' e l l' ws) r.1,
+        )
+twins-alike [] [] none [] (d ∷ ds) s s' _ x46 w e l l' = elim x46 [ ]
+twins-alike [] [] none (c ∷ cs) ds s s' x40 _ w e l l' = elim x40 [ ]
+twins-alike [] (b ∷ bs') x15 cs ds s s' _ _ w e l l' = elim x15 [ ]
+twins-alike (a ∷ as') [] x11 cs ds s s' _ _ w e l l' = elim x11 [ ]
+twins-alike (a ∷ as') (b ∷ bs') (more t ts) [] ds s s' x29 _ w e l l' = elim x29 [ ]
+twins-alike (a ∷ as') (b ∷ bs') (more t ts) (c ∷ cs) [] s s' _ x33 w e l l' = elim x33 [ ]

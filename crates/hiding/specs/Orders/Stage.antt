@@ -2,7 +2,7 @@
 use Rattle.std.specs.Prelude.{◌≡◌, Bool, true, false, ◌&&◌, ◌↔◌, List, [], ◌∷◌, ℕ, zero, suc, replicate, ltb}
 use Rattle.std.proofs.Math.Path.{refl, fun_ext}
 use Rattle.std.proofs.Common.{sym, ◌∙◌}
-use Rattle.std.proofs.Math.Logic.{Iff·rfl}
+use Rattle.std.proofs.Math.Logic.Iff
 use Rattle.std.proofs.lemmas.List.{length-replicate}
 use Rattle.std.proofs.Math.Dec.{eqb}
 use Rattle.lists.specs.Tests.{if◌then◌else◌}
@@ -90,13 +90,13 @@ module _ (h : Shape) (reach : Reachable h) where
   Base₁ m c = Trades {D = List ℕ} {E = List ℕ} {H = Orders} (Hidden₁ m) (Drawn₁ m c) (mid-legal h m c) (λ e. Hidden₁ (mid-next h m c e))
 
   abbrev pub start₁ : (n : ℕ) → Trades {D = List ℕ} {E = List ℕ} {H = Orders} Empty (Drew (bounds_open h n)) (Drew (bounds_open h n)) (λ e. Hidden₁ (Middle.open_m h n e))
-  start₁ zero = stays (λ d. Iff·rfl) (λ d o p. fresh-hidden h d o)
-  start₁ (suc n) = stays (λ d. Iff·rfl) (λ d o p. Iff·rfl)
+  start₁ zero = stays (λ d. Iff.rfl) (λ d o p. fresh-hidden h d o)
+  start₁ (suc n) = stays (λ d. Iff.rfl) (λ d o p. Iff.rfl)
 
   -- a refused load hides what was hidden
   pub closed-hidden : (t : Bool) (s : State) (it : Items) (o : Orders) → HiddenOn s o ↔ Hidden₁ (if t then Middle.off s it else Middle.on s it) o
-  closed-hidden true s it o = Iff·rfl
-  closed-hidden false s it o = Iff·rfl
+  closed-hidden true s it o = Iff.rfl
+  closed-hidden false s it o = Iff.rfl
 
   abbrev pub base_if : (n : ℕ) (s : State) (it : Items) (l : Later) →
       Trades {D = List ℕ} {E = List ℕ} {H = Orders} (HiddenOn s) (Drew (bounds_if n (hide s) l)) (legal_if n (hide s) l) (λ e. Hidden₁ (on_m n s it l e))
@@ -105,10 +105,10 @@ module _ (h : Shape) (reach : Reachable h) where
 
   abbrev pub base₁ : (m : Mid) (c : Entry) → Base₁ m c
   base₁ Middle.unopened (first m w) = start₁ (number_open h m w)
-  base₁ Middle.unopened (later l m w n) = stays (λ d. Iff·rfl) (λ d o p. Iff·rfl)
-  base₁ Middle.shut c = stays (λ d. Iff·rfl) (λ d o p. Iff·rfl)
-  base₁ (Middle.off s it) c = stays (λ d. Iff·rfl) (λ d o p. Iff·rfl)
-  base₁ (Middle.on s it) (first m w) = stays (λ d. Iff·rfl) (λ d o p. Iff·rfl)
+  base₁ Middle.unopened (later l m w n) = stays (λ d. Iff.rfl) (λ d o p. Iff.rfl)
+  base₁ Middle.shut c = stays (λ d. Iff.rfl) (λ d o p. Iff.rfl)
+  base₁ (Middle.off s it) c = stays (λ d. Iff.rfl) (λ d o p. Iff.rfl)
+  base₁ (Middle.on s it) (first m w) = stays (λ d. Iff.rfl) (λ d o p. Iff.rfl)
   base₁ (Middle.on s it) (later l m w n) = base_if (number_p (hide s) (public_later h l) m w n) s it l
 
   abbrev pub shown₁ : Mid → Orders → Entry → List ℕ → Seen
@@ -127,16 +127,16 @@ module _ (h : Shape) (reach : Reachable h) where
   Rel₁ r q = (q ≡ view r) × Reach r
 
   pub legal₁ : (r : Real) (c : Entry) (d : List ℕ) → Reach r → real-legal h r c d ↔ Drawn₁ (view r).0 c d
-  legal₁ unopened (first m w) d k = rw (open-number h m w) Iff·rfl
-  legal₁ unopened (later l m w n) d k = Iff·rfl
-  legal₁ shut c d k = Iff·rfl
-  legal₁ (off s) c d k = Iff·rfl
-  legal₁ (on s) (first m w) d k = Iff·rfl
+  legal₁ unopened (first m w) d k = rw (open-number h m w) Iff.rfl
+  legal₁ unopened (later l m w n) d k = Iff.rfl
+  legal₁ shut c d k = Iff.rfl
+  legal₁ (off s) c d k = Iff.rfl
+  legal₁ (on s) (first m w) d k = Iff.rfl
   legal₁ (on s) (later l m w n) d k = rw (number-hide h reach s k l m w n) (go (number_p (hide s) (public_later h l) m w n))
     where
       go : (j : ℕ) → Drew (bounds_r j s l) d ↔ Drew (bounds_if j (hide s) l) d
-      go zero = rw (bounds-hide h reach s k l) Iff·rfl
-      go (suc j) = Iff·rfl
+      go zero = rw (bounds-hide h reach s k l) Iff.rfl
+      go (suc j) = Iff.rfl
 
   abbrev pub full₁ : Machine Entry (List ℕ) Seen
   full₁ = full (mid h) Any Hidden₁ Drawn₁ shown₁ (λ m c e i p. tt) trade₁

@@ -1,7 +1,7 @@
 -- The first stage: the orders are hidden from the middle machine. What each of its calls trades.
 use Rattle.std.specs.Prelude.{◌≡◌, refl, Bool, true, false, ◌&&◌, ◌↔◌, List, [], ◌∷◌, ℕ, zero, suc, ◌+◌, ◌-◌, ◌^◌, ◌<◌, length, get_or, replicate, take, drop, ltb}
 use Rattle.std.proofs.Common.{ap, ◌∙◌, subst, arith, take-append-drop, pow_pos, ltb-true}
-use Rattle.std.proofs.Math.Logic.{Iff·rfl}
+use Rattle.std.proofs.Math.Logic.Iff
 use Rattle.std.proofs.Math.Option.{Option, none, some}
 use Rattle.lists.specs.Members.{member-mem}
 use Rattle.lists.specs.Tables.{put, put_all}
@@ -95,10 +95,10 @@ module _ (h : Shape) (mark : ℕ → ℕ) (q ℓ : ℕ) where
   AfterRead x j a = Arranges (unread_in h (put (cell h q ℓ x) 0 mark) j) a
 
   pub read_here : (x : ℕ) → Mem x unread_here → (a : List ℕ) → Arranges (less x unread_here) a ↔ AfterRead x (q, ℓ) a
-  read_here x m a = rw (unread-read h mark q ℓ x m, update_same (q, ℓ) (less x unread_here) (unread_in h mark)) Iff·rfl
+  read_here x m a = rw (unread-read h mark q ℓ x m, update_same (q, ℓ) (less x unread_here) (unread_in h mark)) Iff.rfl
 
   pub read-rest : (x : ℕ) → Mem x unread_here → (j : Key) → ¬ (j ≡ (q, ℓ)) → (a : List ℕ) → Before j a ↔ AfterRead x j a
-  read-rest x m j n a = rw (unread-read h mark q ℓ x m, update_other (q, ℓ) (less x unread_here) (unread_in h mark) j n) Iff·rfl
+  read-rest x m j n a = rw (unread-read h mark q ℓ x m, update_other (q, ℓ) (less x unread_here) (unread_in h mark) j n) Iff.rfl
 
   -- a trade of all orders; what it leaves of them may depend on what is drawn
   abbrev pub OrdersTrade : (List ℕ → Type 0) → (List ℕ → Type 0) → (List ℕ → Key → List ℕ → Type 0) → Type 0
@@ -124,10 +124,10 @@ module _ (h : Shape) (mark : ℕ → ℕ) (q ℓ : ℕ) where
 
   module _ (a : q < h.P) (b : ℓ < h.L) where
     pub written-here : (o : List ℕ) → Arranges (below (slots ℓ)) o ↔ AfterWritten (q, ℓ) o
-    written-here o = rw (unread-written h mark q ℓ a b, update_same (q, ℓ) (below (slots ℓ)) (unread_in h mark)) Iff·rfl
+    written-here o = rw (unread-written h mark q ℓ a b, update_same (q, ℓ) (below (slots ℓ)) (unread_in h mark)) Iff.rfl
 
     pub written-rest : (j : Key) → ¬ (j ≡ (q, ℓ)) → (o : List ℕ) → Before j o ↔ AfterWritten j o
-    written-rest j n o = rw (unread-written h mark q ℓ a b, update_other (q, ℓ) (below (slots ℓ)) (unread_in h mark) j n) Iff·rfl
+    written-rest j n o = rw (unread-written h mark q ℓ a b, update_other (q, ℓ) (below (slots ℓ)) (unread_in h mark) j n) Iff.rfl
 
     -- a rebuild writes the level anew: what is left of its old order is drawn, and the new one is hidden
     abbrev pub rebuild-trade : OrdersTrade (Drew (order_bounds (slots ℓ))) (Arranges unread_here) (λ e. AfterWritten)
@@ -147,11 +147,11 @@ marked h q ℓ mark = put_all (cell h q ℓ 0) (replicate (slots ℓ) 1) mark
 
 pub marks-none : (h : Shape) (q : ℕ) (mark : ℕ → ℕ) (o : Orders) → HiddenAt h mark o ↔ HiddenAt h (new_marks h q [] mark) o
 unfolding new_marks write_levels
-marks-none h q mark o = Iff·rfl
+marks-none h q mark o = Iff.rfl
 
 pub marks-more : (h : Shape) (q ℓ : ℕ) (ls : List ℕ) (mark : ℕ → ℕ) (o : Orders) → HiddenAt h (new_marks h q ls (marked h q ℓ mark)) o ↔ HiddenAt h (new_marks h q (ℓ ∷ ls) mark) o
 unfolding new_marks write_levels
-marks-more h q ℓ ls mark o = Iff·rfl
+marks-more h q ℓ ls mark o = Iff.rfl
 
 pub no-orders : (d : List ℕ) → Drew (orders_bounds []) d ↔ None d
 unfolding orders_bounds
@@ -185,29 +185,29 @@ trade-orders h q a (ℓ ∷ ls) (cons b t) mark o d = trade-orders h q a ls t (m
 
 -- a call that leaves the marks leaves the orders
 pub untouched : (s s' : State) → s'.shape ≡ s.shape → s'.mark ≡ s.mark → (o : Orders) → HiddenOn s o ↔ HiddenOn s' o
-untouched s s' a b o = rw (a, b) Iff·rfl
+untouched s s' a b o = rw (a, b) Iff.rfl
 
 module _ (s : State) where
   pub read-state : (q ℓ x : ℕ) (o : Orders) → ((j : Key) → AfterRead s.shape s.mark q ℓ x j (o j)) ↔ HiddenOn (do_step (read_for_request q ℓ x) [] s) o
   unfolding do_step Turn.mark_read Turn.send
-  read-state q ℓ x o = Iff·rfl
+  read-state q ℓ x o = Iff.rfl
 
   pub job-state : (q ℓ x : ℕ) (o : Orders) → ((j : Key) → AfterRead s.shape s.mark q ℓ x j (o j)) ↔ HiddenOn (do_step (read_for_job q ℓ x) [] s) o
   unfolding do_step Turn.mark_read Turn.send
-  job-state q ℓ x o = Iff·rfl
+  job-state q ℓ x o = Iff.rfl
 
   pub rebuild-state : (q : ℕ) (ls : List ℕ) (place : ℕ → Place) (waiting : List ℕ) (o : Orders) →
       HiddenAt s.shape (new_marks s.shape q ls s.mark) o ↔ HiddenOn (rebuild_p q ls place waiting s) o
   unfolding rebuild_p Turn.send
-  rebuild-state q ls place waiting o = Iff·rfl
+  rebuild-state q ls place waiting o = Iff.rfl
 
   pub write-state : (q t x : ℕ) (o : Orders) → HiddenOn s o ↔ HiddenOn (do_step (write_next q t x) [] s) o
   unfolding do_step Turn.send
-  write-state q t x o = Iff·rfl
+  write-state q t x o = Iff.rfl
 
   pub accept-state : (k b : ℕ) (bs e : List ℕ) (o : Orders) → HiddenOn s o ↔ HiddenOn (accept k b bs e s) o
   unfolding accept
-  accept-state k b bs e o = Iff·rfl
+  accept-state k b bs e o = Iff.rfl
 
   pub complete-state : (c : Command) (bs : List ℕ) (o : Orders) → HiddenOn s o ↔ HiddenOn (complete c bs s) o
   complete-state c bs o = untouched s (complete c bs s) (ap (λ (x : Rest). x.shape) e) (ap (λ (x : Rest). x.mark) e) o
@@ -217,12 +217,12 @@ module _ (s : State) where
 
   pub collect-state : (r : Option Request) (o : Orders) → HiddenOn s o ↔ HiddenOn (collected_m r s) o
   unfolding collected_m
-  collect-state none o = Iff·rfl
-  collect-state (some r) o = Iff·rfl
+  collect-state none o = Iff.rfl
+  collect-state (some r) o = Iff.rfl
 
   pub rebuild-step : (q : ℕ) (ls d : List ℕ) → Drew (step_bounds (rebuild q ls)) d ↔ Drew (orders_bounds ls) d
   unfolding step_bounds
-  rebuild-step q ls d = Iff·rfl
+  rebuild-step q ls d = Iff.rfl
 
 -- the rank of the request's item
 abbrev pub wanted_rank : State → Items → ℕ → ℕ → ℕ
@@ -248,8 +248,8 @@ quiet (write_next q t x) u d = none-drew d
 
 abbrev pub trade_step : (s : State) (it : Items) (x : Step) → OpenP s.shape s.mark x →
     Trades {D = List ℕ} {E = List ℕ} {H = Orders} (HiddenOn s) (Drew (step_bounds x)) (legal_step (hide s) x) (λ e. HiddenOn (next_step_m s x e))
-trade_step s it idle k = stays (quiet idle tt) (λ e o p. Iff·rfl)
-trade_step s it no_dummy k = stays (quiet no_dummy tt) (λ e o p. Iff·rfl)
+trade_step s it idle k = stays (quiet idle tt) (λ e o p. Iff.rfl)
+trade_step s it no_dummy k = stays (quiet no_dummy tt) (λ e o p. Iff.rfl)
 trade_step s it (read_for_request q ℓ x) k =
     renamed (HiddenOn s) (legal_step (hide s) (read_for_request q ℓ x)) (quiet (read_for_request q ℓ x) tt) (λ e. read-state s q ℓ (get_or e 0 0))
     (request-trade s.shape s.mark q ℓ (wanted_rank s it q ℓ) k)
@@ -264,10 +264,10 @@ trade_step s it (write_next q t x) k = stays (quiet (write_next q t x) tt) (λ e
 
 abbrev pub trade_if : (n : ℕ) (s : State) (it : Items) (l : Later) →
     Trades {D = List ℕ} {E = List ℕ} {H = Orders} (HiddenOn s) (Drew (bounds_if n (hide s) l)) (legal_if n (hide s) l) (λ e. HiddenOn (next_m n s l e))
-trade_if (suc n) s it l = stays none-drew (λ e o p. Iff·rfl)
-trade_if zero s it (later-request k b bs) = stays (λ d. Iff·rfl) (λ e o p. accept-state s k b bs e o)
+trade_if (suc n) s it l = stays none-drew (λ e o p. Iff.rfl)
+trade_if zero s it (later-request k b bs) = stays (λ d. Iff.rfl) (λ e o p. accept-state s k b bs e o)
 trade_if zero s it later-turn = trade_step s it (decide_p (hide s)) (decide_p-open (hide s))
 trade_if zero s it (later-completion c bs) = stays none-drew (λ e o p. complete-state s c bs o)
 trade_if zero s it later-collect = stays none-drew (λ e o p. collect-state s s.request o)
-trade_if zero s it later-save = stays none-drew (λ e o p. Iff·rfl)
-trade_if zero s it (later-reload m n) = stays none-drew (λ e o p. Iff·rfl)
+trade_if zero s it later-save = stays none-drew (λ e o p. Iff.rfl)
+trade_if zero s it (later-reload m n) = stays none-drew (λ e o p. Iff.rfl)

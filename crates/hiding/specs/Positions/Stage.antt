@@ -3,7 +3,7 @@ use Rattle.std.specs.Prelude.{◌≡◌, Bool, ◌↔◌, length, replicate, eqb
 use Rattle.std.proofs.Math.Path.{refl, ap, sym}
 use Rattle.std.proofs.Common.{◌∙◌, subst, true≢false, arith, ltb-true, lt-ltb}
 use Rattle.std.proofs.Math.Bool.{true, false}
-use Rattle.std.proofs.Math.Logic.{Iff·rfl}
+use Rattle.std.proofs.Math.Logic.Iff
 use mathlib.Core.List.{List, [], ◌∷◌}
 use Rattle.std.proofs.Math.Option.{Option, none, some, map}
 use Prim.Native.Nat.{ℕ, zero, suc, ◌<◌}
@@ -186,26 +186,26 @@ module _ (h : Shape) where
   Drawn₂ (Ideal.on i) (later l m w n) e = legal_if (number_p i (public_later h l) m w n) i l e
 
   abbrev pub start₂ : (n : ℕ) → Trades {D = List ℕ} {E = List ℕ} {H = Positions} Zero (Drew (bounds_open h n)) None (λ e. Hidden₂ (open_i h n))
-  start₂ zero = renamed Zero None (λ d. Iff·rfl) (fresh-placed h) (settled h.N h.P)
-  start₂ (suc n) = stays none-drew (λ d o p. Iff·rfl)
+  start₂ zero = renamed Zero None (λ d. Iff.rfl) (fresh-placed h) (settled h.N h.P)
+  start₂ (suc n) = stays none-drew (λ d o p. Iff.rfl)
 
   -- a refused load hides what was hidden
   pub closed-placed : (t : Bool) (i : State) (pos : Positions) → PlacedIn i.shape pos ↔ Hidden₂ (if t then Ideal.off i else Ideal.on i) pos
-  closed-placed true i pos = Iff·rfl
-  closed-placed false i pos = Iff·rfl
+  closed-placed true i pos = Iff.rfl
+  closed-placed false i pos = Iff.rfl
 
   abbrev pub base_p : (n : ℕ) (i : State) (l : Later) →
       Trades {D = List ℕ} {E = List ℕ} {H = Positions} (PlacedIn i.shape) (legal_if n i l) (legal_if n i (public_later h l)) (λ e. Hidden₂ (on_i n i (public_later h l) e))
   base_p zero i l = trade_p h i zero l
-  base_p (suc n) i l = stays (λ d. Iff·rfl) (λ e pos p. closed-placed (closes (public_later h l)) i pos)
+  base_p (suc n) i l = stays (λ d. Iff.rfl) (λ e pos p. closed-placed (closes (public_later h l)) i pos)
 
   abbrev pub base₂ : (i : Ideal) (c : Entry) →
       Trades {D = List ℕ} {E = List ℕ} {H = Positions} (Hidden₂ i) (Drawn₂ i c) (ideal-legal h i (public_entry h c)) (λ e. Hidden₂ (ideal-next h i (public_entry h c) e))
   base₂ Ideal.unopened (first m w) = start₂ (number_open h m w)
-  base₂ Ideal.unopened (later l m w n) = stays (λ d. Iff·rfl) (λ d o p. Iff·rfl)
-  base₂ Ideal.shut c = stays (λ d. Iff·rfl) (λ d o p. Iff·rfl)
-  base₂ (Ideal.off i) c = stays (λ d. Iff·rfl) (λ d o p. Iff·rfl)
-  base₂ (Ideal.on i) (first m w) = stays (λ d. Iff·rfl) (λ d o p. Iff·rfl)
+  base₂ Ideal.unopened (later l m w n) = stays (λ d. Iff.rfl) (λ d o p. Iff.rfl)
+  base₂ Ideal.shut c = stays (λ d. Iff.rfl) (λ d o p. Iff.rfl)
+  base₂ (Ideal.off i) c = stays (λ d. Iff.rfl) (λ d o p. Iff.rfl)
+  base₂ (Ideal.on i) (first m w) = stays (λ d. Iff.rfl) (λ d o p. Iff.rfl)
   base₂ (Ideal.on i) (later l m w n) = base_p (number_p i (public_later h l) m w n) i l
 
   abbrev pub shown₂ : Ideal → Positions → Entry → List ℕ → Seen
@@ -244,12 +244,12 @@ module _ (h : Shape) where
   public_view (off s it) = (Ideal.off (hide s), positions s)
 
   pub legal₂ : (m : Mid) (c : Entry) (e : List ℕ) → mid-legal h m c e ↔ Drawn₂ (public_view m).0 c e
-  legal₂ unopened (first m w) e = Iff·rfl
-  legal₂ unopened (later l m w n) e = Iff·rfl
-  legal₂ shut c e = Iff·rfl
-  legal₂ (off s it) c e = Iff·rfl
-  legal₂ (on s it) (first m w) e = Iff·rfl
-  legal₂ (on s it) (later l m w n) e = Iff·rfl
+  legal₂ unopened (first m w) e = Iff.rfl
+  legal₂ unopened (later l m w n) e = Iff.rfl
+  legal₂ shut c e = Iff.rfl
+  legal₂ (off s it) c e = Iff.rfl
+  legal₂ (on s it) (first m w) e = Iff.rfl
+  legal₂ (on s it) (later l m w n) e = Iff.rfl
 
   abbrev pub full₂ : Machine Entry (List ℕ) Seen
   full₂ = full outside Inv₂ Hidden₂ Drawn₂ shown₂ keep₂ trade₂

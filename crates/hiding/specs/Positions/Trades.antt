@@ -2,7 +2,7 @@
 use Rattle.std.specs.Prelude.{◌≡◌, Bool, true, false, ◌↔◌, List, [], ◌∷◌, ℕ, zero, suc, length, ltb}
 use Rattle.std.proofs.Math.Path.{refl}
 use Rattle.std.proofs.Common.{ap, ltb-true}
-use Rattle.std.proofs.Math.Logic.{Iff·rfl}
+use Rattle.std.proofs.Math.Logic.Iff
 use Rattle.std.proofs.Math.Option.{Option, none, some}
 use Rattle.rules.specs.Open.{fresh}
 use Rattle.rules.specs.Turn
@@ -23,17 +23,17 @@ PlacedIn h pos = Placed h.N h.P pos
 -- the public part of a call has the same draws, and leaves the shape
 module _ (h : Shape) (i : State) where
   pub legal-public : (n : ℕ) (l : Later) (e : List ℕ) → legal_if n i l e ↔ legal_if n i (public_later h l) e
-  legal-public (suc n) l e = Iff·rfl
+  legal-public (suc n) l e = Iff.rfl
   legal-public zero (later-request k b bs) e = go (formed h k b (length bs))
     where
       go : (t : Bool) → legal_if zero i (later-request k b bs) e ↔ legal_if zero i (public_ask t k b (length bs)) e
-      go true = Iff·rfl
-      go false = Iff·rfl
-  legal-public zero later-turn e = Iff·rfl
-  legal-public zero (later-completion c bs) e = Iff·rfl
-  legal-public zero later-collect e = Iff·rfl
-  legal-public zero later-save e = Iff·rfl
-  legal-public zero (later-reload m n) e = Iff·rfl
+      go true = Iff.rfl
+      go false = Iff.rfl
+  legal-public zero later-turn e = Iff.rfl
+  legal-public zero (later-completion c bs) e = Iff.rfl
+  legal-public zero later-collect e = Iff.rfl
+  legal-public zero later-save e = Iff.rfl
+  legal-public zero (later-reload m n) e = Iff.rfl
 
   step-shape : (x : Step) (e : List ℕ) → (next_step_i i x e).shape ≡ i.shape
   unfolding do_step Turn.mark_read Turn.send rebuild_p
@@ -59,7 +59,7 @@ module _ (h : Shape) (i : State) where
   next-shape zero (later-reload m n) e = refl
 
   pub placed-next : (n : ℕ) (l : Later) (e : List ℕ) (pos : Positions) → PlacedIn i.shape pos ↔ PlacedIn (next_i n i l e).shape pos
-  placed-next n l e pos = rw (next-shape n l e) Iff·rfl
+  placed-next n l e pos = rw (next-shape n l e) Iff.rfl
 
   abbrev pub TradeP : ℕ → Later → Type 0
   TradeP n l = Trades {D = List ℕ} {E = List ℕ} {H = Positions} (PlacedIn i.shape) (legal_if n i l) (legal_if n i (public_later h l)) (λ e. PlacedIn (next_i n i (public_later h l) e).shape)
@@ -89,4 +89,4 @@ module _ (h : Shape) (i : State) where
 
 pub fresh-placed : (h : Shape) (e : List ℕ) (pos : Positions) → PlacedIn h pos ↔ PlacedIn (hide (fresh h [])).shape pos
 unfolding fresh
-fresh-placed h e pos = Iff·rfl
+fresh-placed h e pos = Iff.rfl

@@ -217,7 +217,7 @@ module _ {b q : ℕ} where
   after-awaits : {xs : List Command} (ds : List Call) (s : State) → Awaits xs b q s → Between s ds → Awaits (uncompleted s ds xs) b q (after s ds)
   unfolding uncompleted after
   after-awaits [] s f w = f
-  after-awaits (d ∷ ds) s f w = after-awaits ds (step s d).0 (step-awaits s d f w.0 w.1) w.2
+  after-awaits {xs = xs} (d ∷ ds) s f w = after-awaits {xs = if eqb (number s d) 0 then completes d.ask xs else xs} ds (step s d).0 (step-awaits s d f w.0 w.1) w.2
 
   -- a finished request awaits nothing of its partition
   finished-done : {xs : List Command} (s : State) → Awaits xs b q s → in_hand (finished s) s.request ≡ true → All (λ c. c.partition ≡ q → ⊥) xs

@@ -253,6 +253,9 @@ module _ (s : State) (f : InRange s) where
   pub perform-in : (a : Ask) (m : ℕ) (ws : List ℕ) (k : ℕ) (js : List ℕ) → Passed (questions s a m ws k) → Drew (bounds s a) js → InRange (Run.perform s a js)
   unfolding Run.perform questions bounds Request.accept
   perform-in (opening h) m ws k js p d = fresh_in_lem h js p.0 d
+  perform-in (request j b bs) m ws k [] p d = elim d [ ]
+  perform-in (request j b bs) m ws k (x ∷ []) p d = elim d.1 [ ]
+  perform-in (request j b bs) m ws k (x ∷ y ∷ z ∷ js) p d = elim d.1.1 [ ]
   perform-in (request j b bs) m ws k (x ∷ y ∷ []) p (a, (c, _)) = in_request s f _
       (record { kind = and_r (Questions.ready s m) (is_kind j) p.0; block = ltb-true b s.shape.N p.1.1.0; bytes = eqb-true _ _ p.1.1.1.0; next = a; evict = c; level = omega arith; found = tt; awaits = omega arith })
       (leb-true (length s.queue) 62 p.1.1.1.1.0)

@@ -86,6 +86,7 @@ lay-has P g c fs z h = lay-over P g c (λ c. 0) fs z h
 
 lay-some : (g : ℕ → ℕ) (c : ℕ) {xs : List (ℕ × List ℕ)} (t : ℕ → ℕ) → All (Fits g) xs → Some (Covers c) xs → lay_over t xs c ≡ g c
 unfolding lay_over
+lay-some g c t nil k = elim k [ ]
 lay-some g c t (cons {x = x} f fs) (here k) = lay-over (λ v. v ≡ g c) g c (put_all x.0 x.1 t) fs (put_all-in x.0 x.1 t c k.0 k.1 ∙ fit_at g x c f k.0 k.1) refl
 lay-some g c t (cons {x = x} f fs) (there k) = lay-some g c (put_all x.0 x.1 t) fs k
 

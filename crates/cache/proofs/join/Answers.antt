@@ -1,0 +1,11 @@
+use Prim.Native.Nat.{◌<◌}
+use native.Mathlib.Omega.{arith}
+use Rattle.memory.specs.Fits.{fit-lt}
+use Rattle.cache.proofs.join.Goals as goal
+
+pub set_waiting-requires : goal.set_waiting-requires
+set_waiting-requires c =
+    let h = c.args.c.shape in
+    let w = c.waiting-x in
+    let l : w.result < h.n = rw w.ensures (fit-lt h.n _ (omega arith)) in
+    omega arith

@@ -1,0 +1,31 @@
+use mathlib.Core.Path.{ap, ◌∙◌}
+use Prim.Native.Nat.{◌+◌, ◌*◌, ◌-◌, ◌≤◌}
+use native.Mathlib.Omega.{arith}
+use Rattle.rules.specs.Shape.{slots}
+use Rattle.memory.specs.Words.{word_at}
+use Rattle.memory.specs.Fits.{shape_of}
+use Rattle.levels.specs.Slots.{cell-lt}
+use Rattle.levels.specs.Items.{items_from, items-found}
+use Rattle.levels.proofs.item.Goals as goal
+use Rattle.levels.proofs.item.Goals.{After-cell-base}
+
+-- the level's slots are within the tables
+level-end : (c : After-cell-base) → let a = c.args in c.cell-base.result + c.pow2-n.result ≤ a.c.shape.p * slots a.c.shape.l
+level-end c =
+    let a = c in
+    omega (arith, cell-lt (shape_of a.args.c.shape) a.args.q a.args.l c.cell-base.result (c.pow2-n.result - 1) c.cell-base.ensures.0 a.requires.1 a.requires.2 (omega arith))
+
+pub order_bytes-order-requires : goal.order_bytes-order-requires
+order_bytes-order-requires c = (c.requires.0, level-end (goal.at.order_bytes-order-requires c).After-cell-base)
+
+pub holds_bytes-holds-requires : goal.holds_bytes-holds-requires
+holds_bytes-holds-requires c = (c.requires.0, level-end (goal.at.holds_bytes-holds-requires c).After-cell-base)
+
+pub mark_bytes-marks-requires : goal.mark_bytes-marks-requires
+mark_bytes-marks-requires c = (c.requires.0, level-end (goal.at.mark_bytes-marks-requires c).After-cell-base)
+
+pub returns : goal.returns
+returns c =
+    c.lowest_item.ensures
+    ∙ ap (λ y. items_from c.pow2-n.result y (word_at c.order_bytes-order.result.now) (word_at c.holds_bytes-holds.result.now) (word_at c.mark_bytes-marks.result.now) 0) c.bound.ensures
+    ∙ items-found c.args.c c.args.m.now c.args.q c.args.l c.pow2-n.result c.cell-base.result _ _ _ c.pow2-n.ensures.0 c.cell-base.ensures.0 c.requires.2 c.order_bytes-order.ensures c.holds_bytes-holds.ensures c.mark_bytes-marks.ensures c.args.source

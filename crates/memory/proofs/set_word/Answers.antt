@@ -1,0 +1,7 @@
+use mathlib.Core.Path.{refl}
+use Rattle.memory.specs.Words.{set_word}
+use Rattle.memory.proofs.set_word.Goals as goal
+
+pub returns : goal.returns
+unfolding set_word
+returns c = refl

@@ -1,0 +1,43 @@
+use Rattle.std.proofs.Common.{◌≡◌, refl, ℕ, ◌*◌, ◌/◌, ◌≤◌, length, take, sym, ◌∙◌, arith, rules}
+use Rattle.std.proofs.Math.Option.{none, some}
+use Rattle.std.proofs.lemmas.Result.{IfOk-weaker}
+use Rattle.tape.specs.Tape.{words_of}
+use Rattle.lines.specs.Lines.{tape_of}
+use Rattle.lines.specs.Stored.{words-in, words-out}
+use Rattle.session.specs.Answers.{fresh-served}
+use Rattle.stream.specs.Laws.{words-first}
+use Rattle.stream.proofs.begin.Goals as goal
+
+pub returns-then-k-le-WORDS-clause-begun : goal.returns-then-k-le-WORDS-clause-begun
+returns-then-k-le-WORDS-clause-begun g c =
+    let p = c.requires.0 in
+    let n = c.read_tape-k.result in
+    let t = c.read_tape-k.new.tape in
+    let few : n ≤ length t / 2 = omega arith in
+    let is : tape_of c.args.line.now ≡ some (take n (words_of t)) = sym c.read_tape-k.ensures ∙ words-in n t few in
+    let new = c.start-t.ensures in
+    record {
+      ready = record { served = rw new (fresh-served (take (n * 2) t)); tape = omega arith; from = p.from; to = p.to; len = p.len; at = p.at };
+      size = omega arith;
+      stays = record { from = refl; to = refl; len = refl; silent = refl };
+      first = refl;
+      begins = rw is (words-first n t few, new, refl, refl, refl);
+    }
+
+pub respond-requires : goal.respond-requires
+respond-requires g c =
+    let p = c.requires.0 in
+    (record { served = rw c.start-t.ensures (fresh-served _); tape = omega arith; from = p.from; to = p.to; len = p.len; at = p.at }, c.requires.1)
+
+pub returns-clause-begun : goal.returns-clause-begun
+returns-clause-begun g c =
+    let n = c.read_tape-k.result in
+    let t = c.read_tape-k.new.tape in
+    let no : tape_of c.args.line.now ≡ none = sym c.read_tape-k.ensures ∙ words-out n t (omega arith) in
+    IfOk-weaker c.respond.result _ _ (λ r e. record {
+      ready = e.ready;
+      size = e.size;
+      stays = record { from = e.stays.from; to = e.stays.to; len = e.stays.len; silent = e.stays.silent };
+      first = e.first;
+      begins = rw no (e.tape, e.ended, rw c.start-t.ensures at e.gives);
+    }) c.respond.ensures.responds

@@ -1,0 +1,8 @@
+use Rattle.std.proofs.Common.{arith}
+use Rattle.sums.specs.Words.{word-is}
+use Rattle.sums.proofs.word.Goals as goal
+
+pub returns : goal.returns
+returns c =
+    let a = c.args in
+    omega (arith, word-is a.body.now a.at c.requires, c.wide.ensures, c.wide-2.ensures, c.wide-3.ensures, c.wide-4.ensures)

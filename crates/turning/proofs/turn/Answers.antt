@@ -1,0 +1,14 @@
+use Rattle.rules.specs.Questions.{turn}
+use Rattle.client.specs.View.{state_of}
+use Rattle.releasing.specs.Released.{releasable}
+use Rattle.releasing.specs.Performs.{settled-meets}
+use Rattle.turning.proofs.turn.Goals as goal
+
+pub settle-requires : goal.settle-requires
+settle-requires c = λ z. releasable _ _ (c.perform-r.ensures.accepted z).ready
+
+pub returns : goal.returns
+returns c =
+    let p = c.perform-r in
+    let a = c.args in
+    settled-meets a.c (state_of a.c a.m.now) turn a.m.now a.tape.now a.buffer.now p.result c.settle.result _ _ p.ensures c.settle.ensures
