@@ -1,7 +1,8 @@
-"""Writes crates/rules/specs/Setters.antt: one setter for each field of a state, since antt has no record update."""
+"""Writes Setters.antt of crate rules: one setter for each field of a state, since antt has no record update."""
 from pathlib import Path
 
 TOP = Path(__file__).resolve().parent.parent
+FILE = TOP / 'crates/rules/specs/Setters.antt'
 
 FIELDS = {
     'shape': 'Shape',
@@ -22,23 +23,22 @@ FIELDS = {
 }
 
 HEAD = '''-- A state with one field changed. WRITTEN BY gen/setters.py: antt has no record update.
-use mathlib.Core.List.{List}
-use mathlib.Core.Option.{Option}
-use Prim.Native.Nat.{ℕ}
-use Rattle·rules·specs.specs.Shape.{Shape}
-use Rattle·rules·specs.specs.State.{Command, Place, Request, State}
+use Rattle.std.specs.Prelude.{List, ℕ}
+use Rattle.std.proofs.Math.Option.{Option}
+use Rattle.rules.specs.Shape.{Shape}
+use Rattle.rules.specs.State.{Command, Place, Request, State}
 
-infixl 5 _▷_
+infixl 5 ◌▷◌
 -- `s ▷ f ▷ g` is s, then f, then g
-abbrev pub _▷_ : State → (State → State) → State
+abbrev pub ◌▷◌ : State → (State → State) → State
 s ▷ f = f s
 '''
 
 
 def setter(field, kind):
-    name = 'set' + field.capitalize()
+    name = 'set_' + field
     argument = f'({kind})' if '→' in kind else kind
-    values = '; '.join(f'{other} = x' if other == field else f'{other} = s .{other}' for other in FIELDS)
+    values = '; '.join(f'{other} = x' if other == field else f'{other} = s.{other}' for other in FIELDS)
     return f'''
 abbrev pub {name} : {argument} → State → State
 {name} x s = record {{ {values} }}
@@ -46,4 +46,4 @@ abbrev pub {name} : {argument} → State → State
 
 
 text = HEAD + ''.join(setter(field, kind) for field, kind in FIELDS.items())
-(TOP / 'crates/rules/specs/Setters.antt').write_text(text, encoding='utf-8')
+FILE.write_text(text, encoding='utf-8')

@@ -1,7 +1,8 @@
-"""Writes crates/memory/specs/Tables.antt: the tables that lie in the lent memory, by name and as one record."""
+"""Writes Tables.antt of crate memory: the tables that lie in the lent memory, by name and as one record."""
 from pathlib import Path
 
 TOP = Path(__file__).resolve().parent.parent
+FILE = TOP / 'crates/memory/specs/Tables.antt'
 
 # name, in the order in which they lie: how many entries it has, and what an entry is
 TABLES = {
@@ -9,9 +10,9 @@ TABLES = {
     'kinds': ('32', 'partition and kind of the outstanding commands'),
     'spots': ('32', 'level and slot of the outstanding commands'),
     'counter': ('64', 'of a partition'),
-    'partition': ('h .N', 'of a block'),
-    'place': ('h .N', 'of a block'),
-    'waiting': ('h .N', 'the waiting blocks, longest waiting first'),
+    'partition': ('h.N', 'of a block'),
+    'place': ('h.N', 'of a block'),
+    'waiting': ('h.N', 'the waiting blocks, longest waiting first'),
     'order': ('cells h', "slot of an item, by the item's cell"),
     'holds': ('cells h', "block in a slot, by the slot's cell"),
     'mark': ('cells h', 'whether a slot is unread, by its cell'),
@@ -21,33 +22,29 @@ TABLES = {
 FIELDS = {name: 'ℕ → ℕ' for name in TABLES} | {'blocks': 'ℕ → List ℕ', 'tail': 'List ℕ'}
 
 HEAD = f'''-- The tables that lie in the lent memory, one after the other, then the blocks; what is past them is the tail. Written by gen/tables.py.
-use mathlib.Core.Path.{{_≡_, refl}}
-use mathlib.Core.List.{{List, [], _∷_}}
-use Prim.Native.Nat.{{ℕ}}
-use lib.Dec.{{eqb}}
-use lib.ListN.{{drop}}
-use Rattle·lists.specs.Tests.{{if_then_else_}}
-use Rattle·rules.specs.Shape.{{Shape}}
-use Rattle·rules.specs.Memory.{{needed}}
-use Rattle·memory·specs.specs.Words.{{window}}
-use Rattle·memory·specs.specs.Blocks.{{cells, block_table}}
-use Rattle·memory·specs.specs.Layout.{{starts_at, sizeAt}}
-use Rattle·memory·specs.specs.declared.tables.Table.{{Table}}
-use Rattle·memory·specs.specs.declared.tables.Table.the-variants.{{{', '.join(name.capitalize() for name in TABLES)}}}
+use Rattle.std.specs.Prelude.{{◌≡◌, refl, List, [], ◌∷◌, ℕ, eqb, drop}}
+use Rattle.lists.specs.Tests.{{if◌then◌else◌}}
+use Rattle.rules.specs.Shape.{{Shape}}
+use Rattle.rules.specs.Memory.{{needed}}
+use Rattle.memory.specs.Words.{{window}}
+use Rattle.memory.specs.Blocks.{{cells, block_table}}
+use Rattle.memory.specs.Layout.{{starts_at, size_at}}
+use Rattle.memory.specs.declared.tables.Table.{{Table}}
+use Rattle.memory.specs.declared.tables.Table.TheVariants.{{{', '.join(name.capitalize() for name in TABLES)}}}
 '''
 
 # what is the same whatever the tables are
 LAYOUT = '''-- where a table starts, and how many entries it has, in numbers of two bytes
-abbrev pub startOf : Shape → Table → ℕ
-startOf h t = starts_at 0 (index t) (sizes h)
+abbrev pub start_of : Shape → Table → ℕ
+start_of h t = starts_at 0 (index t) (sizes h)
 
-abbrev pub sizeOf : Shape → Table → ℕ
-sizeOf h t = sizeAt (index t) (sizes h)
+abbrev pub size_of : Shape → Table → ℕ
+size_of h t = size_at (index t) (sizes h)
 '''
 
 CHANGED = '''-- the tables of the memory
-unfoldable pub tablesOf : Shape → List ℕ → Tables
-tablesOf h m = tables_by (λ t. window (startOf h t) (sizeOf h t) m) (block_table h m) (drop (needed h) m)
+unfoldable pub tables_of : Shape → List ℕ → Tables
+tables_of h m = tables_by (λ t. window (start_of h t) (size_of h t) m) (block_table h m) (drop (needed h) m)
 
 -- x where it stands for table t, y where it stands for another
 abbrev pub pick : Table → Table → (ℕ → ℕ) → (ℕ → ℕ) → ℕ → ℕ
@@ -55,7 +52,7 @@ pick t u x y = if eqb (index t) (index u) then x else y
 
 -- the tables with table t changed
 abbrev pub with_table : Table → (ℕ → ℕ) → Tables → Tables
-with_table t x y = tables_by (λ u. pick t u x (tableAt u y)) (y .blocks) (y .tail)
+with_table t x y = tables_by (λ u. pick t u x (table_at u y)) y.blocks y.tail
 '''
 
 
@@ -88,17 +85,17 @@ tables_by f b l = record {{
 
 
 def changed(field, kind):
-    setter = 'with' + field.capitalize()
+    setter = 'with_' + field
     argument = f'({kind})' if '→' in kind else kind
-    values = '; '.join(f'{other} = x' if other == field else f'{other} = t .{other}' for other in FIELDS)
+    values = '; '.join(f'{other} = x' if other == field else f'{other} = t.{other}' for other in FIELDS)
     return f'''abbrev pub {setter} : {argument} → Tables → Tables
 {setter} x t = record {{ {values} }}
 '''
 
 
 def start(name):
-    return f'''abbrev pub {name}At : Shape → ℕ
-{name}At h = startOf h {variant(name)}
+    return f'''abbrev pub {name}_at : Shape → ℕ
+{name}_at h = start_of h {variant(name)}
 '''
 
 
@@ -118,17 +115,17 @@ text = '\n'.join([
     record(),
     titled('-- all tables at once, and one of them', [
         tables_by(),
-        by_table('abbrev pub tableAt', 'Table → Tables → ℕ → ℕ', lambda name: f'tableAt {variant(name)} x = x .{name}'),
-        by_table('pub table-by', '(f : Table → ℕ → ℕ) (b : ℕ → List ℕ) (l : List ℕ) (t : Table) → tableAt t (tables_by f b l) ≡ f t',
+        by_table('abbrev pub table_at', 'Table → Tables → ℕ → ℕ', lambda name: f'table_at {variant(name)} x = x.{name}'),
+        by_table('pub table-by', '(f : Table → ℕ → ℕ) (b : ℕ → List ℕ) (l : List ℕ) (t : Table) → table_at t (tables_by f b l) ≡ f t',
                  lambda name: f'table-by f b l {variant(name)} = refl'),
     ]),
     CHANGED,
     titled('-- a table changed to what it is', [
-        by_table('pub table-own', '(t : Table) (x : Tables) → with_table t (tableAt t x) x ≡ x', lambda name: f'table-own {variant(name)} x = refl'),
+        by_table('pub table-own', '(t : Table) (x : Tables) → with_table t (table_at t x) x ≡ x', lambda name: f'table-own {variant(name)} x = refl'),
     ]),
     titled('-- where each table starts, and the tables with one of them changed, by its own name', [
         *(start(name) for name in TABLES),
         *(changed(*field) for field in FIELDS.items()),
     ]),
 ])
-(TOP / 'crates/memory/specs/Tables.antt').write_text(text, encoding='utf-8')
+FILE.write_text(text, encoding='utf-8')

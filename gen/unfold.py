@@ -1,27 +1,26 @@
-"""Writes crates/rules/specs/Unfold.antt: one name that unfolds all definitions, for proofs by computation."""
+"""Writes Unfold.antt of crate rules: one name that unfolds all definitions, for proofs by computation."""
 import re
 from pathlib import Path
 
-TOP = Path(__file__).resolve().parent.parent
+CRATES = Path(__file__).resolve().parent.parent / 'crates'
+FILE = CRATES / 'rules/specs/Unfold.antt'
 
-# crate: its files with definitions, and how the written file names their folder
+# folder: its files with definitions
 FILES = {
-    'lists': ('Rattle·lists.specs', 'Tests Search Tables Totals'),
-    'rules': ('Rattle·rules·specs.specs', '''
+    'lists/specs': 'Tests Search Tables Totals',
+    'rules/specs': '''
         Shape State Ranges Memory Draws Levels Jobs Blocks Open Request Reader Rebuild Turn Completion Collect
-        Form/Numbers Form/Sums Form/Payload Form/Longest Form/Reading Form/Loading Questions Run Figures'''),
+        Form/Numbers Form/Sums Form/Payload Form/Longest Form/Reading Form/Loading Questions Run Figures''',
 }
 
 HEAD = '''-- One name under which all definitions unfold: a proof by computation says `unfolding model`. Written by gen/unfold.py.
-use mathlib.Core.List.{List, [], _∷_, _++_}
-use Prim.Native.Nat.{ℕ}
-use lib.ListN.{replicate}
+use Rattle.std.specs.Prelude.{List, [], ◌∷◌, ◌++◌, ℕ, replicate}
 '''
 
-TAIL = '''use Rattle·rules·specs.specs.Shape.{Shape}
-use Rattle·rules·specs.specs.State.{Command, Found, found_nowhere}
-use Rattle·rules·specs.specs.Questions.{Ask, Call}
-use Rattle·rules·specs.specs.Run.{Outcome}
+TAIL = '''use Rattle.rules.specs.Shape.{Shape}
+use Rattle.rules.specs.State.{Command, Found, found_nowhere}
+use Rattle.rules.specs.Questions.{Ask, Call}
+use Rattle.rules.specs.Run.{Outcome}
 
 unfoldable pub model : Unit {0}
 unfolding %s
@@ -46,12 +45,13 @@ out_found n k c bs x = record { number = n; taken = k; command = c; bytes = bs; 
 '''
 
 text, names = HEAD, []
-for crate, (folder, files) in FILES.items():
+for folder, files in FILES.items():
     for file in files.split():
-        source = (TOP / 'crates' / crate / 'specs' / f'{file}.antt').read_text(encoding='utf-8')
+        source = (CRATES / folder / f'{file}.antt').read_text(encoding='utf-8')
         found = re.findall(r'^\s*unfoldable pub (\S+) :', source, re.M)
         if found:
-            text += f'use {folder}.{file.replace("/", ".")}.{{{", ".join(found)}}}\n'
+            module = f'{folder}/{file}'.replace('/', '.')
+            text += f'use Rattle.{module}.{{{", ".join(found)}}}\n'
             names += found
 text += TAIL % ' '.join(names)
-(TOP / 'crates/rules/specs/Unfold.antt').write_text(text, encoding='utf-8')
+FILE.write_text(text, encoding='utf-8')

@@ -10,7 +10,7 @@ use std::fmt::Display;
 pub mod reads;
 
 /// The lines of a header.
-pub const HEADER_LINES: usize = 7;
+pub const HEADER_LINES: usize = 6;
 
 /// The lines before the sessions with this text, which a program of plain/
 /// writes. Of the names that not all sessions need, it brings in those that the
@@ -20,18 +20,20 @@ pub fn header(program: &str, sessions: &str) -> String {
         let used = names.iter().filter(|(text, _)| sessions.contains(text));
         used.map(|(_, name)| format!(", {name}")).collect()
     };
-    let found = used(&[("foundCache", "foundCache"), ("foundLevel", "foundLevel")]);
+    let found = used(&[
+        ("found_cache", "found_cache"),
+        ("found_level", "found_level"),
+    ]);
     let calls = used(&[("call (save)", "save"), ("call (load ", "load")]);
-    let out = used(&[("outFound", "outFound"), ("zerosThen", "zerosThen")]);
+    let out = used(&[("out_found", "out_found"), ("zeros_then", "zeros_then")]);
     format!(
         "\
 -- Random sessions, with the outcomes of an independent implementation. Written by plain/src/bin/{program}.rs.
-use mathlib.Core.Path.{{_≡_, refl}}
-use mathlib.Core.List.{{List, [], _∷_}}
-use Rattle·rules·specs.specs.State.{{cmd, closed{found}}}
-use Rattle·rules·specs.specs.Questions.{{opening, request, turn, completion, collect{calls}, Call}}
-use Rattle·rules·specs.specs.Run.{{Outcome, run}}
-use Rattle·rules·specs.specs.Unfold.{{model, shape, call, out{out}}}
+use Rattle.std.specs.Prelude.{{◌≡◌, refl, List, [], ◌∷◌}}
+use Rattle.rules.specs.State.{{cmd, closed{found}}}
+use Rattle.rules.specs.Questions.{{opening, request, turn, completion, collect{calls}, Call}}
+use Rattle.rules.specs.Run.{{Outcome, run}}
+use Rattle.rules.specs.Unfold.{{model, shape, call, out{out}}}
 "
     )
 }
@@ -70,7 +72,7 @@ fn bytes(bytes: &[u8]) -> String {
         match part {
             [byte] => text += &format!("{byte} ∷ "),
             zeros => {
-                text += &format!("zerosThen {} (", zeros.len());
+                text += &format!("zeros_then {} (", zeros.len());
                 closing += ")";
             }
         }
@@ -121,8 +123,8 @@ fn outcome(o: &Outcome) -> String {
     let all = format!("{} {} {command} {bytes}", o.number, o.taken);
     match o.found {
         Found::Nowhere => format!("out {all}"),
-        Found::Cache => format!("outFound {all} foundCache"),
-        Found::Level(level) => format!("outFound {all} (foundLevel {level})"),
+        Found::Cache => format!("out_found {all} found_cache"),
+        Found::Level(level) => format!("out_found {all} (found_level {level})"),
     }
 }
 

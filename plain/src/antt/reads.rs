@@ -14,23 +14,23 @@ pub struct Told {
     pub reads: Vec<Reads>,
 }
 
+/// Where the sessions are.
+const CHECKED: &str = "Rattle.rules.specs.Checked";
+
 const COMMENT: &str = "\
 -- The partition reader's lists at each release, compared with an independent implementation. Written by plain/src/bin/sessions.rs.
 -- Document 02, P6. The reads are those that turns told from the release to its collect, in sessions with look-ups while a partition is rebuilt.
 ";
 
 const NAMES: &str = "\
-use mathlib.Core.Path.{_≡_, refl}
-use mathlib.Core.Bool.{Bool, true, false, not, _&&_}
-use mathlib.Core.List.{List, [], _∷_}
-use mathlib.Core.Option.{Option, none, some}
-use Prim.Native.Nat.{ℕ}
-use Rattle·rules·specs.specs.Reader.{readPartition}
-use Rattle·rules·specs.specs.Request.{held}
-use Rattle·rules·specs.specs.Questions.{Call}
-use Rattle·rules·specs.specs.Run.{step}
-use Rattle·rules·specs.specs.State.{State, Request, closed}
-use Rattle·rules·specs.specs.Unfold.{model}
+use Rattle.std.specs.Prelude.{◌≡◌, refl, Bool, true, false, not, ◌&&◌, List, [], ◌∷◌, ℕ}
+use Rattle.std.proofs.Math.Option.{Option, none, some}
+use Rattle.rules.specs.Reader.{read_partition}
+use Rattle.rules.specs.Request.{held}
+use Rattle.rules.specs.Questions.{Call}
+use Rattle.rules.specs.Run.{step}
+use Rattle.rules.specs.State.{State, Request, closed}
+use Rattle.rules.specs.Unfold.{model}
 ";
 
 const DEFINITIONS: &str = "\
@@ -39,16 +39,16 @@ unfoldable released : Option Request → Bool
 released none = false
 released (some r) = not (held r)
 
-unfoldable listOf : State → Option Request → List (ℕ × ℕ)
-listOf s none = []
-listOf s (some r) = readPartition s (r .block)
+unfoldable list_of : State → Option Request → List (ℕ × ℕ)
+list_of s none = []
+list_of s (some r) = read_partition s r.block
 
 -- the lists of a run, one for each call after which a request is released that was not before
 unfoldable lists : State → List Call → List (List (ℕ × ℕ))
 lists s [] = []
-lists s (c ∷ cs) = elim (released (step s c .0 .request) && not (released (s .request))) \
-[ true ↦ listOf (step s c .0) (step s c .0 .request) ∷ lists (step s c .0) cs \
-| false ↦ lists (step s c .0) cs ]
+lists s (c ∷ cs) = elim (released (step s c).0.request && not (released s.request)) \
+[ true ↦ list_of (step s c).0 (step s c).0.request ∷ lists (step s c).0 cs \
+| false ↦ lists (step s c).0 cs ]
 ";
 
 /// The file with these sessions' reads.
@@ -66,7 +66,7 @@ fn calls(told: &[Told]) -> String {
         .map(|told| format!("session{}-calls", told.number));
     let names = names.collect::<Vec<String>>().join(", ");
     let file = &told[0].file;
-    format!("use Rattle·rules·specs.specs.Checked.{file}.{{{names}}}\n")
+    format!("use {CHECKED}.{file}.{{{names}}}\n")
 }
 
 fn theorem(told: &Told) -> String {
@@ -83,7 +83,7 @@ fn theorem(told: &Told) -> String {
         "
 -- {met}
 reads{number} : lists closed session{number}-calls ≡ {reads}
-unfolding model session{number}-calls released listOf lists
+unfolding model session{number}-calls released list_of lists
 reads{number} = refl
 "
     )
