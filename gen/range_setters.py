@@ -2,7 +2,7 @@
 from pathlib import Path
 
 TOP = Path(__file__).resolve().parent.parent
-FILE = TOP / 'crates/rules/specs/Laws/RangeSetters.antt'
+FILE = TOP / 'crates/rules/proofs/Laws/RangeSetters.antt'
 
 # the fields of InRange
 FACTS = 'shape partitions places counters orders marks holds waiting queue outstanding begun cursor sent free request jobs cache'.split()

@@ -6,5 +6,5 @@ top=$(cd "${1:-$(dirname "$0")/..}" && pwd)
 cd "$(dirname "$0")/.."
 for program in sessions saved_sessions; do
     CARGO_TARGET_DIR=${CARGO_TARGET_DIR:-$PWD/target/cargo} cargo run --quiet --release --offline --locked \
-        --manifest-path plain/Cargo.toml --bin $program -- "$top/crates/rules/specs/Checked"
+        --manifest-path plain/Cargo.toml --bin $program -- "$top/crates/rules/proofs/Checked"
 done

@@ -1,6 +1,5 @@
 -- Where the contents of a block are: a clause for each place it may have.
 use Rattle.std.specs.Prelude.{◌≡◌, ◌⊎◌, true, List, ℕ, ◌<◌}
-use Rattle.std.proofs.Common.{◌∙◌, ⊎_elim}
 use Rattle.lists.specs.Distinct.{Mem}
 use Rattle.lists.specs.Search.{any}
 use Rattle.rules.specs.Blocks
@@ -37,12 +36,3 @@ pub record Contents (s : State) (last has : Slots) (array : ℕ → List ℕ) : 
   pub values : Values s array
   pub written : Written s last array
   pub settled : Settled s has array
-
--- The host may take the bytes last sent at any moment
-pub moved : {s : State} {last has : Slots} {array : ℕ → List ℕ} → Contents s last has array → (x : Slots) → ((q ℓ i : ℕ) → (x q ℓ i ≡ has q ℓ i) ⊎ (x q ℓ i ≡ last q ℓ i)) → Contents s last x array
-moved {s = s} k x f = record {
-  absent = k.absent;
-  values = k.values;
-  written = k.written;
-  settled = λ b ℓ i hb e u n. ⊎_elim (λ z. z ∙ k.settled b ℓ i hb e u n) (λ z. z ∙ k.written b ℓ i hb e u) (f (s.partition b) ℓ i);
-}

@@ -14,8 +14,8 @@ use borrow.Author.Tests.{eq-eqb, ne_eqb}
 use Rattle.rules.specs.Shape.{Shape}
 use Rattle.rules.specs.Levels.{is_full, joins, grown, differ, top_level}
 use Rattle.rules.specs.Laws.Levels.{Joins}
-use Rattle.rules.specs.Laws.Single.Bits.{highest-one}
-use Rattle.rules.specs.Laws.Single.Levels.{one-top}
+use Rattle.rules.proofs.Laws.Single.Bits.{highest-one}
+use Rattle.rules.proofs.Laws.Single.Levels.{one-top}
 use Rattle.rules.specs.Laws.Single.Rules.{trailing_ones, target, sources}
 
 -- j jobs may run together from the counter c of so many levels

@@ -8,7 +8,7 @@ use Rattle.lists.specs.Tables.{put, put_other}
 use Rattle.lists.specs.Leaving.{without-first-none, without-first-yes, without-first-no, without-first-behind}
 use Rattle.rules.specs.Setters.{set_waiting}
 use Rattle.rules.specs.Rebuild.{leave}
-use Rattle.rules.specs.Laws.Leaving.{leave-first}
+use Rattle.rules.proofs.Laws.Leaving.{leave-first}
 use Rattle.memory.specs.declared.Shape.{Shape}
 use Rattle.memory.specs.Tables as M
 use Rattle.memory.specs.Tables.{tables_of}

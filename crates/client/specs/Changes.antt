@@ -12,8 +12,8 @@ use Rattle.rules.specs.Shape.{Shape, slots, cell}
 use Rattle.rules.specs.State.{nowhere, stored}
 use Rattle.rules.specs.Blocks.{is_nowhere}
 use Rattle.rules.specs.Setters.{set_partition, set_place, set_bytes, set_counter, set_order, set_mark, set_holds, set_request}
-use Rattle.rules.specs.Laws.Levels.{two-slots}
-use Rattle.rules.specs.Laws.Layout.{offset-lt}
+use Rattle.rules.proofs.Laws.Levels.{two-slots}
+use Rattle.rules.proofs.Laws.Layout.{offset-lt}
 use Rattle.memory.specs.Tables.{Tables, with_partition, with_place, with_counter, with_order, with_mark, with_holds, with_blocks}
 use Rattle.memory.specs.Closing.{closed_up, closed-low, closed_in, closed-past}
 use Rattle.memory.specs.Fits.{shape_of, fit, fit-in, fit-lt}

@@ -15,9 +15,11 @@ use Rattle.rules.specs.Shape.{Shape, within, slots, cell}
 use Rattle.rules.specs.State as R
 use Rattle.rules.specs.State.{read, write, nowhere, stored}
 use Rattle.rules.specs.Ranges.{is_kind, bytes_of, in_range}
-use Rattle.rules.specs.Laws.Levels.{levels-pos, partitions-pos}
-use Rattle.rules.specs.Laws.Waiting.{Waits, waits-le, others-room, room-others}
-use Rattle.rules.specs.Laws.Range.{PlaceIn, FoundIn, CommandIn, RequestIn, JobsIn, InRange, range-facts, facts-range}
+use Rattle.rules.proofs.Laws.Levels.{levels-pos, partitions-pos}
+use Rattle.rules.specs.Laws.Waiting.{Waits}
+use Rattle.rules.proofs.Laws.Waiting.{waits-le, others-room, room-others}
+use Rattle.rules.specs.Laws.Range.{PlaceIn, FoundIn, CommandIn, RequestIn, JobsIn, InRange}
+use Rattle.rules.proofs.Laws.Range.{range-facts, facts-range}
 use Rattle.memory.specs.Tables.{Tables}
 use Rattle.memory.specs.Fits.{shape_of, fit, fit-lt}
 use Rattle.client.specs.declared.Client.{Client}

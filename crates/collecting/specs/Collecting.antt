@@ -20,7 +20,7 @@ use Rattle.rules.specs.Request.{held, release}
 use Rattle.rules.specs.Reader.{costs, levels_left}
 use Rattle.rules.specs.Collect.{finished, emptied, finish, collected, answer, carried}
 use Rattle.rules.specs.Questions.{collect, Call, in_hand, questions, number}
-use Rattle.rules.specs.Laws.Answers.{accepted-passed}
+use Rattle.rules.proofs.Laws.Answers.{accepted-passed}
 use Rattle.rules.specs.Laws.Waiting.{Waits}
 use Rattle.memory.specs.Tables.{Tables, tables_of, with_blocks, with_holds, with_place, with_partition}
 use Rattle.memory.specs.Fits.{shape_of}

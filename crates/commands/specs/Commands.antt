@@ -21,7 +21,7 @@ use Rattle.memory.specs.Fits.{shape_of, fit, fit-in}
 use Rattle.client.specs.declared.Client.{Client}
 use Rattle.client.specs.View.{level_of, spot_of, command_by, rows, view, state_of, write_from}
 use Rattle.client.specs.Rows.{drop_at, rows-push, rows_take, any-miss, Shifted, shifted_none, shifted-more, shifted-all}
-use Rattle.rules.specs.Laws.Layout.{offset-lt}
+use Rattle.rules.proofs.Laws.Layout.{offset-lt}
 use Rattle.client.specs.Changes.{level-is, level-le}
 use Rattle.client.specs.Ready.{command-range}
 use Rattle.client.specs.Moves.{with_out, Room, Stands, stands}

@@ -24,11 +24,11 @@ use Rattle.rules.specs.Draws.{draws}
 use Rattle.rules.specs.Questions.{completion, ready, bounds, questions, first_no, number}
 use Rattle.rules.specs.Run.{perform, refuse, sent_command, handed, handed_found, taken_of, numbers_of}
 use Rattle.rules.specs.Laws.Range.{CommandIn}
-use Rattle.rules.specs.Laws.Single.Job.{alone-levels}
-use Rattle.rules.specs.Laws.Single.Levels.{joins-one, one_holds}
+use Rattle.rules.proofs.Laws.Single.Job.{alone-levels}
+use Rattle.rules.proofs.Laws.Single.Levels.{joins-one, one_holds}
 use Rattle.rules.specs.Laws.Single.Rules.{target}
-use Rattle.rules.specs.Laws.Kept.{complete-in}
-use Rattle.rules.specs.Laws.Shapes.{complete-keeps}
+use Rattle.rules.proofs.Laws.Kept.{complete-in}
+use Rattle.rules.proofs.Laws.Shapes.{complete-keeps}
 use Rattle.memory.specs.Tables.{tables_of, with_blocks, with_counter}
 use Rattle.memory.specs.Fits.{shape_of, fit, fit-lt}
 use Rattle.client.specs.declared.Client.{Client}

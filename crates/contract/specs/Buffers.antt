@@ -9,8 +9,9 @@ use Rattle.lists.specs.Tests.{if◌then◌else◌, and_l}
 use Rattle.rules.specs.Shape.{Shape}
 use Rattle.rules.specs.Blocks.{slot_bytes}
 use Rattle.rules.specs.Collect.{answer}
-use Rattle.rules.specs.Laws.Answers.{Passed, opens}
-use Rattle.rules.specs.Laws.Lengths.{Whole, slot-length, contents-length}
+use Rattle.rules.specs.Laws.Answers.{opens}
+use Rattle.rules.proofs.Laws.Answers.{Passed}
+use Rattle.rules.proofs.Laws.Lengths.{Whole, slot-length, contents-length}
 use Rattle.rules.specs.Memory.{needed}
 use Rattle.rules.specs.Questions.{Ask, opening, request, turn, completion, collect, save, load, ready, questions, in_hand}
 use Rattle.rules.specs.Ranges.{is_kind}

@@ -11,7 +11,7 @@ use Rattle.rules.specs.Draws.{draws}
 use Rattle.rules.specs.Memory.{needed}
 use Rattle.rules.specs.Questions.{Ask, opening, request, turn, completion, collect, save, load, Call, bounds, number}
 use Rattle.rules.specs.Run.{Outcome, step, act, refuse, refused, accepted, sent_command, handed, handed_found, taken_of, numbers_of}
-use Rattle.rules.specs.Laws.Answers.{step-refused, step-accepted}
+use Rattle.rules.proofs.Laws.Answers.{step-refused, step-accepted}
 use Rattle.memory.specs.Words.{window, window-past}
 use Rattle.memory.specs.Blocks.{block_table}
 use Rattle.memory.specs.Tables.{tables_of, order_at, mark_at, holds_at}

@@ -14,7 +14,8 @@ use Rattle.rules.specs.Reader.{costs, levels_left, slot_read}
 use Rattle.rules.specs.Rebuild.{unread}
 use Rattle.rules.specs.Turn as Turn
 use Rattle.rules.specs.Turn.{request_step, read_step, first_read, job_step, gather_step, rebuild_step, next_write, write_step}
-use Rattle.rules.specs.Laws.Bits.{slots_at, write-here, write-later, write-none}
+use Rattle.rules.specs.Laws.Bits.{slots_at}
+use Rattle.rules.proofs.Laws.Bits.{write-here, write-later, write-none}
 use Rattle.memory.specs.Fits.{shape_of, fit}
 use Rattle.memory.specs.Tables.{tables_of}
 use Rattle.client.specs.declared.Client.{Client}

@@ -13,11 +13,12 @@ use Rattle.rules.specs.Form.Loading.{loads}
 use Rattle.rules.specs.Form.Sums.{summed}
 use Rattle.rules.specs.Questions.{Ask, opening, request, turn, completion, collect, save, load, Call, bounds, number}
 use Rattle.rules.specs.Run.{Outcome, act, accepted, refused, sent_command, handed_found, taken_of, numbers_of}
-use Rattle.rules.specs.Laws.Shapes.{act-shape}
-use Rattle.rules.specs.Laws.Answers.{opens, number-le, step-number, step-accepted, refused-outcome, accepted-passed}
-use Rattle.rules.specs.Laws.Drawn.{taken-lent}
+use Rattle.rules.proofs.Laws.Shapes.{act-shape}
+use Rattle.rules.specs.Laws.Answers.{opens}
+use Rattle.rules.proofs.Laws.Answers.{number-le, step-number, step-accepted, refused-outcome, accepted-passed}
+use Rattle.rules.proofs.Laws.Drawn.{taken-lent}
 use Rattle.rules.specs.Laws.Range.{InRange}
-use Rattle.rules.specs.Laws.Kept.{accepted-in}
+use Rattle.rules.proofs.Laws.Kept.{accepted-in}
 use Rattle.memory.specs.Words.{word_at}
 use Rattle.memory.specs.Fits.{shape_of}
 use Rattle.memory.specs.declared.Shape as M

@@ -7,7 +7,7 @@ use Rattle.lists.specs.Search.{is_none}
 use Rattle.rules.specs.State as R
 use Rattle.rules.specs.State.{State}
 use Rattle.rules.specs.Questions.{Ask, opening, request, turn, completion, collect, save, load}
-use Rattle.rules.specs.Laws.Asked.{asked}
+use Rattle.rules.proofs.Laws.Asked.{asked}
 use Rattle.memory.specs.Words.{word_at, word_at-lt}
 use Rattle.client.specs.declared.Client.{Client}
 use Rattle.client.specs.declared.Request.{Request}

@@ -9,7 +9,7 @@ use Rattle.lists.specs.Tests.{if◌then◌else◌}
 use Rattle.lists.specs.Search.{is_none}
 use Rattle.rules.specs.State.{write}
 use Rattle.rules.specs.Setters.{set_request}
-use Rattle.rules.specs.Laws.Asked.{asked}
+use Rattle.rules.proofs.Laws.Asked.{asked}
 use Rattle.client.specs.declared.Client.{Client}
 use Rattle.client.specs.declared.Request.{Request}
 use Rattle.client.specs.View.{state_of, view, hand_by, request_of}

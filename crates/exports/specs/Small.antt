@@ -13,13 +13,14 @@ use Rattle.rules.specs.Ranges.{is_kind}
 use Rattle.rules.specs.Turn.{Step, idle, no_dummy, read_for_request, read_for_job, rebuild, write_next, decide, command}
 use Rattle.rules.specs.Questions.{Ask, opening, request, turn, completion, collect, save, load, questions}
 use Rattle.rules.specs.Run.{sent_command, handed_found}
-use Rattle.rules.specs.Laws.Answers.{Passed}
+use Rattle.rules.proofs.Laws.Answers.{Passed}
 use Rattle.rules.specs.Laws.Range.{InRange, FoundIn, RequestIn, JobsIn}
-use Rattle.rules.specs.Laws.Levels.{levels-pos}
-use Rattle.rules.specs.Laws.Waiting.{waits-le}
+use Rattle.rules.proofs.Laws.Levels.{levels-pos}
+use Rattle.rules.proofs.Laws.Waiting.{waits-le}
 use Rattle.rules.specs.Setters.{set_request}
-use Rattle.rules.specs.Laws.Decided.{StepIn, decide-in}
-use Rattle.rules.specs.Laws.Kept.{given-in}
+use Rattle.rules.specs.Laws.Decided.{StepIn}
+use Rattle.rules.proofs.Laws.Decided.{decide-in}
+use Rattle.rules.proofs.Laws.Kept.{given-in}
 use Rattle.memory.specs.Fits.{shape_of, parts-le, fit}
 use Rattle.memory.specs.Tables.{tables_of}
 use Rattle.client.specs.declared.Client.{Client}

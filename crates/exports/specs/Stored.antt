@@ -12,9 +12,9 @@ use Rattle.lists.specs.Tables.{put}
 use Rattle.lists.specs.Tests.{if◌then◌else◌}
 use Rattle.rules.specs.Draws.{draws}
 use Rattle.rules.specs.Laws.Answers.{opens}
-use Rattle.rules.specs.Laws.Asked.{asked, turn-asked, completion-asked}
+use Rattle.rules.proofs.Laws.Asked.{asked, turn-asked, completion-asked}
 use Rattle.rules.specs.Laws.Range.{InRange}
-use Rattle.rules.specs.Laws.Shapes.{act-shape, unawaited, complete-keeps}
+use Rattle.rules.proofs.Laws.Shapes.{act-shape, unawaited, complete-keeps}
 use Rattle.rules.specs.Questions.{Ask, turn, completion, bounds, ready}
 use Rattle.rules.specs.Run.{act, perform, sent_command, numbers_of}
 use Rattle.rules.specs.Shape.{Shape}

@@ -20,7 +20,7 @@ use Rattle.rules.specs.Form.Numbers.{each, slot_width}
 use Rattle.rules.specs.Form.Payload.{filled_levels}
 use Rattle.rules.specs.Form.Reading.{Spot, absent, Level, Form}
 use Rattle.rules.specs.Form.Sums.{out_of_blocks}
-use Rattle.rules.specs.Laws.Form.Reads.{small}
+use Rattle.rules.proofs.Laws.Form.Reads.{small}
 use Rattle.rules.specs.Shape.{Shape, within, slots}
 use Rattle.memory.specs.Fits.{fits}
 use Rattle.rules.specs.Memory.{needed}

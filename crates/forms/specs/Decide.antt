@@ -14,7 +14,7 @@ use Rattle.lists.specs.Distinct.{Mem, NoDup}
 use Rattle.lists.specs.Members.{all-mem, mem-all, dec_mem}
 use Rattle.lists.specs.Tests.{and_l, and_r, and-true, every-yes, yes-every}
 use Rattle.rules.specs.Form.Reading.{Spot, absent, waits, at, Level}
-use Rattle.rules.specs.Laws.Layout.{cell-from}
+use Rattle.rules.proofs.Laws.Layout.{cell-from}
 use Rattle.rules.specs.Shape.{Shape, slots, cell}
 use Rattle.forms.specs.Blocks.{is_free, stands, marked, all_stand}
 use Rattle.forms.specs.Cells.{PlacedIn, placed_in, placed-facts, facts-placed, cell_at, cells_of}

@@ -16,7 +16,7 @@ use Rattle.lists.specs.Tests.{or_left, or_right, or-true}
 use Rattle.rules.specs.Form.Loading.{block_at, loaded, stored_at, waits_at}
 use Rattle.rules.specs.Form.Payload.{filled_levels, Waiter}
 use Rattle.rules.specs.Form.Reading.{Spot, absent, waits, at, Level, Form, is_waiting}
-use Rattle.rules.specs.Laws.Form.Tables.{Some, here, there, some-map, some-each, mem-some, all-each}
+use Rattle.rules.proofs.Laws.Form.Tables.{Some, here, there, some-map, some-each, mem-some, all-each}
 use Rattle.rules.specs.Levels.{filled}
 use Rattle.rules.specs.Shape.{Shape, within, slots, cell}
 use Rattle.forms.specs.At.{wait_count}

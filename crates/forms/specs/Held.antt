@@ -14,7 +14,7 @@ use Rattle.lists.specs.Search.{keep, below, keep-yes, keep-no}
 use Rattle.lists.specs.Tests.{and-true, and-false}
 use Rattle.rules.specs.Form.Loading.{block_at, place_of, loaded, is_in, stored_at}
 use Rattle.rules.specs.Form.Reading.{Spot, absent, waits, at, Form}
-use Rattle.rules.specs.Laws.Layout.{cell-from, cell-inj, stride-le, offset-lt}
+use Rattle.rules.proofs.Laws.Layout.{cell-from, cell-inj, stride-le, offset-lt}
 use Rattle.rules.specs.Shape.{Shape, slots, cell}
 use Rattle.forms.specs.Cells.{SpotIn, PlacedIn, cell_at, cells_of}
 use Rattle.forms.specs.Facts.{counter_of, Made, keep-blocks}

@@ -12,8 +12,8 @@ use Rattle.lists.specs.Tables.{put_all, put_all-in, put_all-before, put_all-has}
 use Rattle.rules.specs.Form.Loading.{lay_over}
 use Rattle.rules.specs.Form.Numbers.{each}
 use Rattle.rules.specs.Form.Payload.{filled_levels}
-use Rattle.rules.specs.Laws.Form.Tables.{Some, here, there, Covers, all-each, all-mapped}
-use Rattle.rules.specs.Laws.Layout.{stride-le}
+use Rattle.rules.proofs.Laws.Form.Tables.{Some, here, there, Covers, all-each, all-mapped}
+use Rattle.rules.proofs.Laws.Layout.{stride-le}
 use Rattle.rules.specs.Levels.{filled}
 use Rattle.rules.specs.Shape.{Shape, slots, cell}
 

@@ -10,7 +10,7 @@ use Rattle.lists.specs.Tests.{every, if◌then◌else◌}
 use Rattle.rules.specs.Form.Numbers.{each}
 use Rattle.rules.specs.Form.Payload.{filled_levels}
 use Rattle.rules.specs.Form.Reading.{Level}
-use Rattle.rules.specs.Laws.Layout.{stride-le}
+use Rattle.rules.proofs.Laws.Layout.{stride-le}
 use Rattle.rules.specs.Levels.{filled}
 use Rattle.rules.specs.Shape.{Shape, slots, cell}
 use Rattle.forms.specs.At.{bytes_at, level_at, level_size, each_at, size_at}

@@ -18,10 +18,11 @@ use Rattle.rules.specs.Form.Loading.{block_at, place_of, loaded, lay, orders_of,
 use Rattle.rules.specs.Form.Numbers.{form_of}
 use Rattle.rules.specs.Form.Payload.{Waiter}
 use Rattle.rules.specs.Form.Reading.{Spot, absent, waits, at, Level, Form}
-use Rattle.rules.specs.Laws.Form.Tables.{Some, here, there, some-map, all-mapped, Covers}
-use Rattle.rules.specs.Laws.Layout.{cell-from, cell-inj}
-use Rattle.rules.specs.Laws.Levels.{partitions-pos}
-use Rattle.rules.specs.Laws.Range.{InRange, PlaceIn, facts-range}
+use Rattle.rules.proofs.Laws.Form.Tables.{Some, here, there, some-map, all-mapped, Covers}
+use Rattle.rules.proofs.Laws.Layout.{cell-from, cell-inj}
+use Rattle.rules.proofs.Laws.Levels.{partitions-pos}
+use Rattle.rules.specs.Laws.Range.{InRange, PlaceIn}
+use Rattle.rules.proofs.Laws.Range.{facts-range}
 use Rattle.rules.specs.Levels.{filled}
 use Rattle.rules.specs.Shape.{Shape, within, slots, cell}
 use Rattle.rules.specs.State.{State}

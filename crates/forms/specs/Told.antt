@@ -20,9 +20,10 @@ use Rattle.rules.specs.Form.Loading.{block_at, place_of, loaded, lay, marks_of, 
 use Rattle.rules.specs.Form.Numbers.{form_of}
 use Rattle.rules.specs.Form.Payload.{Waiter}
 use Rattle.rules.specs.Form.Reading.{Spot, absent, waits, at, Level, Form}
-use Rattle.rules.specs.Laws.Form.Tables.{all-mapped, Covers}
-use Rattle.rules.specs.Laws.Layout.{cell-from}
-use Rattle.rules.specs.Laws.Range.{InRange, PlaceIn, range-facts}
+use Rattle.rules.proofs.Laws.Form.Tables.{all-mapped, Covers}
+use Rattle.rules.proofs.Laws.Layout.{cell-from}
+use Rattle.rules.specs.Laws.Range.{InRange, PlaceIn}
+use Rattle.rules.proofs.Laws.Range.{range-facts}
 use Rattle.rules.specs.Levels.{filled}
 use Rattle.rules.specs.Shape.{Shape, slots, cell}
 use Rattle.rules.specs.State.{State}

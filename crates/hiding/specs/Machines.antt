@@ -1,6 +1,5 @@
 pub mod Public
 pub mod Ideal
 pub mod Middle
-pub mod Release
 pub mod Rules
 pub mod Needs

@@ -7,7 +7,7 @@ use Rattle.lists.specs.Tests.{if◌then◌else◌}
 use Rattle.lists.specs.Tables.{put, put_other}
 use Rattle.rules.specs.Jobs.{leave_queue}
 use Rattle.rules.specs.Setters.{set_queue}
-use Rattle.rules.specs.Laws.Queue.{leave_none, leave_own, leave-other, leave-done}
+use Rattle.rules.proofs.Laws.Queue.{leave_none, leave_own, leave-other, leave-done}
 use Rattle.memory.specs.declared.Shape.{Shape}
 use Rattle.memory.specs.Tables.{tables_of, with_queue}
 use Rattle.memory.specs.Fits.{shape_of, fit, fit-lt}

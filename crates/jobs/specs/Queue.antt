@@ -6,8 +6,8 @@ use mir.Val.{bool_byte}
 use Rattle.lists.specs.Tests.{if◌then◌else◌}
 use Rattle.rules.specs.Setters.{set_queue}
 use Rattle.rules.specs.Jobs.{queued}
-use Rattle.rules.specs.Laws.Levels.{queued-le}
-use Rattle.rules.specs.Laws.Queue.{queued-none, queued-more}
+use Rattle.rules.proofs.Laws.Levels.{queued-le}
+use Rattle.rules.proofs.Laws.Queue.{queued-none, queued-more}
 use Rattle.memory.specs.declared.Shape.{Shape}
 use Rattle.memory.specs.Tables.{tables_of, with_queue}
 use Rattle.memory.specs.Fits.{shape_of}

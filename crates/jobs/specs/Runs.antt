@@ -6,7 +6,8 @@ use Rattle.rules.specs.State.{State}
 use Rattle.lists.specs.Search.{keep}
 use Rattle.rules.specs.Levels.{filled, joins, grown, top_level, down, written_levels}
 use Rattle.rules.specs.Jobs.{queued, begun_with, joined, top_of, levels_of}
-use Rattle.rules.specs.Laws.Levels.{Joins, joined_in}
+use Rattle.rules.specs.Laws.Levels.{Joins}
+use Rattle.rules.proofs.Laws.Levels.{joined_in}
 use Rattle.bits.specs.Runs.{Together, together}
 use Rattle.memory.specs.Tables.{tables_of}
 use Rattle.memory.specs.Fits.{shape_of, fit, fit-lt}

@@ -9,7 +9,7 @@ use Rattle.memory.specs.Tables.{tables_of}
 use Rattle.memory.specs.Fits.{shape_of, fit, fit-lt}
 use Rattle.client.specs.declared.Client.{Client}
 use Rattle.client.specs.View.{view, state_of}
-use Rattle.rules.specs.Laws.Layout.{cell-from}
+use Rattle.rules.proofs.Laws.Layout.{cell-from}
 
 -- of the first j slots of level ℓ of q
 unfoldable pub reads_to : Client → List ℕ → ℕ → ℕ → ℕ → ℕ

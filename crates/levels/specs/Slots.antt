@@ -8,7 +8,7 @@ use Rattle.lists.specs.Tables.{put}
 use Rattle.rules.specs.Shape.{Shape, slots, cell}
 use Rattle.rules.specs.Blocks.{named, holder, is_unread}
 use Rattle.rules.specs.Turn.{mark_read}
-use Rattle.rules.specs.Laws.Layout.{stride-le, cell-from, offset-lt}
+use Rattle.rules.proofs.Laws.Layout.{stride-le, cell-from, offset-lt}
 use Rattle.memory.specs.Tables.{tables_of, with_mark}
 use Rattle.memory.specs.Fits.{shape_of, fit}
 use Rattle.client.specs.declared.Client.{Client}

@@ -10,7 +10,7 @@ use Rattle.memory.specs.Fits.{shape_of, fit}
 use Rattle.client.specs.declared.Client.{Client}
 use Rattle.client.specs.View.{state_of}
 use Rattle.levels.specs.Walks.{tally, tally-step, tally-done, tally-all}
-use Rattle.rules.specs.Laws.Layout.{stride-le}
+use Rattle.rules.proofs.Laws.Layout.{stride-le}
 use Rattle.levels.specs.Slots.{holds-is}
 
 abbrev pub slot_holds : State → ℕ → ℕ → ℕ

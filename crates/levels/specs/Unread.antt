@@ -12,7 +12,7 @@ use Rattle.lists.specs.Tests.{if◌then◌else◌, and-false}
 use Rattle.lists.specs.Search.{find}
 use Rattle.rules.specs.Shape.{slots, cell, offset}
 use Rattle.rules.specs.State.{State}
-use Rattle.rules.specs.Laws.Levels.{two-slots}
+use Rattle.rules.proofs.Laws.Levels.{two-slots}
 use Rattle.rules.specs.Levels.{filled}
 use Rattle.rules.specs.Jobs.{top_of}
 use Rattle.rules.specs.Blocks.{is_unread}

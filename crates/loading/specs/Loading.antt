@@ -11,9 +11,9 @@ use Rattle.rules.specs.Form.Numbers.{each}
 use Rattle.rules.specs.Form.Payload.{Waiter}
 use Rattle.rules.specs.Form.Reading.{Spot, Form}
 use Rattle.rules.specs.Form.Sums.{summed, out_of_blocks}
-use Rattle.rules.specs.Laws.Asked.{loaded-idle}
-use Rattle.rules.specs.Laws.Form.Reads.{small}
-use Rattle.rules.specs.Laws.Released.{release-none}
+use Rattle.rules.proofs.Laws.Asked.{loaded-idle}
+use Rattle.rules.proofs.Laws.Form.Reads.{small}
+use Rattle.rules.proofs.Laws.Released.{release-none}
 use Rattle.rules.specs.Memory.{needed}
 use Rattle.rules.specs.Questions.{load, questions, first_no, number}
 use Rattle.rules.specs.Run.{act, perform}

@@ -18,8 +18,8 @@ use Rattle.rules.specs.Form.Loading as F
 use Rattle.rules.specs.Form.Loading.{block_at, lay, held_from, orders_of, marks_of, loaded, aged, of_block, block_in}
 use Rattle.rules.specs.Form.Payload.{Waiter}
 use Rattle.rules.specs.Form.Reading.{Spot, absent, waits, at, Level, Form}
-use Rattle.rules.specs.Laws.Form.Tables.{Covers, all-mapped}
-use Rattle.rules.specs.Laws.Layout.{offset-lt}
+use Rattle.rules.proofs.Laws.Form.Tables.{Covers, all-mapped}
+use Rattle.rules.proofs.Laws.Layout.{offset-lt}
 use Rattle.rules.specs.Shape.{Shape, slots, cell}
 use Rattle.rules.specs.State.{Place}
 use Rattle.memory.specs.declared.Shape.{Shape as Numbers}

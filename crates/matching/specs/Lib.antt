@@ -3,13 +3,8 @@
 -- chunks that are a public part and draws
 pub mod Match
 pub mod Machine
-pub mod Deferred
-pub mod TwoLists
-pub mod Flat
-pub mod Coded
 -- The trades of single calls: none, a read of a slot out of an arrangement, a new order, a value out of a table, and a trade at one key of many
 pub mod Trades
 pub mod Reads
-pub mod Order
 pub mod Positions
 pub mod Keyed

@@ -17,7 +17,7 @@ use Rattle.rules.specs.Draws.{draws}
 use Rattle.rules.specs.Open.{fresh}
 use Rattle.rules.specs.Questions.{opening, bounds, questions, first_no, number}
 use Rattle.rules.specs.Run.{numbers_of, taken_of}
-use Rattle.rules.specs.Laws.Levels.{partitions-pos}
+use Rattle.rules.proofs.Laws.Levels.{partitions-pos}
 use Rattle.memory.specs.Tables.{Tables, tables_of, with_partition}
 use Rattle.memory.specs.Parts.{empty}
 use Rattle.memory.specs.Fits.{shape_of, fit, fit-in, fit-zero}
@@ -26,7 +26,8 @@ use Rattle.client.specs.declared.Client.{Client}
 use Rattle.client.specs.View.{state_of, view, rows, request_of, bytes_in, place_of, level_at}
 use Rattle.client.specs.Changes.{place-nowhere}
 use Rattle.client.specs.Moves.{no_request}
-use Rattle.rules.specs.Laws.Drawn.{Straight, straight-partitions, draws-enough, draws-number, length-numbers, taken-all}
+use Rattle.rules.specs.Laws.Drawn.{Straight}
+use Rattle.rules.proofs.Laws.Drawn.{straight-partitions, draws-enough, draws-number, length-numbers, taken-all}
 use Rattle.tape.specs.Tape.{words_of, words-short}
 use Rattle.contract.specs.Meets.{call_of}
 

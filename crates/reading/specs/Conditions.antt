@@ -18,7 +18,7 @@ use Rattle.rules.specs.Blocks.{is_unread, reads_of}
 use Rattle.rules.specs.Request.{is_source, worn}
 use Rattle.rules.specs.Reader as Reader
 use Rattle.rules.specs.Reader.{empty, unmarked, all_read, some_unread, condition_by, condition, costing, costs}
-use Rattle.rules.specs.Laws.Reader.{costs-is}
+use Rattle.rules.proofs.Laws.Reader.{costs-is}
 use Rattle.reading.specs.declared.Condition.{Condition}
 use Rattle.reading.specs.declared.Condition.TheVariants.{Empty, Unmarked, AllRead, SomeUnread}
 

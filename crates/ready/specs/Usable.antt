@@ -12,7 +12,7 @@ use Rattle.rules.specs.Ranges.{in_range}
 use Rattle.rules.specs.Memory.{needed}
 use Rattle.rules.specs.Questions.{ready}
 use Rattle.rules.specs.Laws.Range.{InRange}
-use Rattle.rules.specs.Laws.Kept.{given-in}
+use Rattle.rules.proofs.Laws.Kept.{given-in}
 use Rattle.memory.specs.Blocks.{block_start, block-is}
 use Rattle.memory.specs.Tables.{Tables, tables_of}
 use Rattle.memory.specs.Fits.{shape_of, fits}

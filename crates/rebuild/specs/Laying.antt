@@ -15,9 +15,10 @@ use Rattle.rules.specs.Rebuild.{chosen, Fill, fills, new_places, write_levels, n
 use Rattle.rules.specs.Run.{numbers_of, taken_of}
 use Rattle.rules.specs.Memory.{needed}
 use Rattle.rules.specs.Laws.Draws.{Enough}
-use Rattle.rules.specs.Laws.Drawn.{Behind, draws-behind}
-use Rattle.rules.specs.Laws.Levels.{two-slots}
-use Rattle.rules.specs.Laws.Orders.{length-bounds, order-take}
+use Rattle.rules.specs.Laws.Drawn.{Behind}
+use Rattle.rules.proofs.Laws.Drawn.{draws-behind}
+use Rattle.rules.proofs.Laws.Levels.{two-slots}
+use Rattle.rules.proofs.Laws.Orders.{length-bounds, order-take}
 use Rattle.memory.specs.Fits.{shape_of}
 use Rattle.client.specs.declared.Client.{Client}
 use Rattle.client.specs.View.{state_of}

@@ -12,7 +12,7 @@ use Rattle.memory.specs.Fits.{shape_of, fit}
 use Rattle.memory.specs.Tables.{tables_of, with_place, with_holds}
 use Rattle.client.specs.declared.Client.{Client}
 use Rattle.client.specs.View.{place_of, view, state_of}
-use Rattle.rules.specs.Laws.Layout.{offset-lt}
+use Rattle.rules.proofs.Laws.Layout.{offset-lt}
 use Rattle.client.specs.Changes.{place_is}
 use Rattle.client.specs.Moves.{Stands, restated}
 use Rattle.lists.specs.Entries.{put_all-at}

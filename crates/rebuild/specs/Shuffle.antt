@@ -14,10 +14,11 @@ use Rattle.rules.specs.Setters.{set_order}
 use Rattle.client.specs.declared.Client.{Client}
 use Rattle.client.specs.View.{state_of}
 use Rattle.client.specs.Moves.{Stands, restated}
-use Rattle.rules.specs.Laws.Orders.{order_bounds-pos, nodup-order, bounds-next, bounds-none}
+use Rattle.rules.proofs.Laws.Orders.{order_bounds-pos, nodup-order, bounds-next, bounds-none}
 use Rattle.rules.specs.Laws.Draws.{Enough}
-use Rattle.rules.specs.Laws.Kept.{drew-of}
-use Rattle.rules.specs.Laws.Drawn.{SettledBy, settle-next, settle-taken}
+use Rattle.rules.proofs.Laws.Kept.{drew-of}
+use Rattle.rules.specs.Laws.Drawn.{SettledBy}
+use Rattle.rules.proofs.Laws.Drawn.{settle-next, settle-taken}
 use Rattle.lists.specs.Entries.{put_all-at, put_in, put_all-over}
 use Rattle.rebuild.specs.Steps.{stays, moved, ordered}
 

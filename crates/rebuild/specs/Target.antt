@@ -13,7 +13,7 @@ use Rattle.rules.specs.Shape.{Shape, slots, cell}
 use Rattle.rules.specs.State.{State}
 use Rattle.rules.specs.Setters.{◌▷◌, set_place, set_order, set_mark, set_holds}
 use Rattle.rules.specs.Rebuild.{new_place, new_holds}
-use Rattle.rules.specs.Laws.Layout.{cell-from}
+use Rattle.rules.proofs.Laws.Layout.{cell-from}
 use Rattle.client.specs.View.{level_at}
 use Rattle.client.specs.Changes.{cell-level}
 use Rattle.lists.specs.Entries.{put_all-at}

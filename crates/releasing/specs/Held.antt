@@ -11,7 +11,7 @@ use Rattle.lists.specs.Tests.{and-false}
 use Rattle.rules.specs.State.{State}
 use Rattle.rules.specs.Jobs.{queued, begun_with}
 use Rattle.rules.specs.Request.{is_front, undrawn_only, worn, held_for}
-use Rattle.rules.specs.Laws.Queue.{queued-not, queued-some}
+use Rattle.rules.proofs.Laws.Queue.{queued-not, queued-some}
 
 -- n jobs are no more than those that run together, or one before they begin
 pub none-else : (n j : ℕ) → (leb n 1 || leb n j) ≡ leb n (begun_with j 1)

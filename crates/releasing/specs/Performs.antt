@@ -10,8 +10,9 @@ use Rattle.rules.specs.Memory.{needed}
 use Rattle.rules.specs.Request.{release}
 use Rattle.rules.specs.Questions.{Ask, bounds, number, ready}
 use Rattle.rules.specs.Run.{act, perform, sent_command, handed, handed_found, taken_of, numbers_of}
-use Rattle.rules.specs.Laws.Range.{InRange, facts-range}
-use Rattle.rules.specs.Laws.Released.{handed-release}
+use Rattle.rules.specs.Laws.Range.{InRange}
+use Rattle.rules.proofs.Laws.Range.{facts-range}
+use Rattle.rules.proofs.Laws.Released.{handed-release}
 use Rattle.memory.specs.Fits.{shape_of}
 use Rattle.client.specs.declared.Client.{Client}
 use Rattle.client.specs.Moves.{Room}

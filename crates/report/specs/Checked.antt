@@ -3,7 +3,7 @@ use Rattle.std.specs.Prelude.{◌≡◌, refl, [], ◌∷◌, ℕ, ◌%◌, zero
 use Rattle.rules.specs.State.{State, Place, nowhere, stored, closed}
 use Rattle.rules.specs.Run.{after}
 use Rattle.rules.specs.Unfold.{model, shape}
-use Rattle.rules.specs.Checked.Worked.{worked-calls}
+use Rattle.rules.proofs.Checked.Worked.{worked-calls}
 use Rattle.printing.specs.Text.{digit_of, digits_of, decimal}
 use Rattle.printing.specs.Columns.{column, columns, partition_line, last_line}
 use Rattle.report.specs.Page.{partition_lines, page}

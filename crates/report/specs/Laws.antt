@@ -15,10 +15,10 @@ use Rattle.rules.specs.State.{State, Request}
 use Rattle.rules.specs.Memory.{needed}
 use Rattle.rules.specs.Questions.{ready, first_no}
 use Rattle.rules.specs.Figures.{nowhere_blocks, stored_blocks, waiting_blocks, in_partition, jobs_for, figures, all_figures}
-use Rattle.rules.specs.Laws.Figures.{places-add, jobs-class}
-use Rattle.rules.specs.Laws.Levels.{queued-le}
+use Rattle.rules.proofs.Laws.Figures.{places-add, jobs-class}
+use Rattle.rules.proofs.Laws.Levels.{queued-le}
 use Rattle.rules.specs.Laws.Range.{InRange, JobsIn}
-use Rattle.rules.specs.Laws.Kept.{given-in}
+use Rattle.rules.proofs.Laws.Kept.{given-in}
 use Rattle.memory.specs.Fits.{Fits, fits}
 use Rattle.client.specs.declared.Client.{Client}
 use Rattle.client.specs.View.{view, state_of}

@@ -17,7 +17,7 @@ use Rattle.rules.specs.Draws.{draws}
 use Rattle.rules.specs.Request.{accept, release}
 use Rattle.rules.specs.Questions.{request, ready, bounds, questions, first_no, number}
 use Rattle.rules.specs.Run.{numbers_of, taken_of}
-use Rattle.rules.specs.Laws.Answers.{accepted-passed}
+use Rattle.rules.proofs.Laws.Answers.{accepted-passed}
 use Rattle.memory.specs.Tables.{tables_of, with_blocks}
 use Rattle.memory.specs.Fits.{shape_of}
 use Rattle.memory.specs.declared.Shape.{Shape as Numbers}
@@ -27,8 +27,9 @@ use Rattle.client.specs.View.{state_of, view, found_by, request_of}
 use Rattle.client.specs.Readings.{jobs-count, waiting-count, hand-none}
 use Rattle.client.specs.Changes.{view-asked}
 use Rattle.client.specs.Moves.{with_request, Stands, stands}
-use Rattle.rules.specs.Laws.Drawn.{Straight, straight-partitions, draws-enough, draws-number, taken-all}
-use Rattle.rules.specs.Laws.Kept.{given-in}
+use Rattle.rules.specs.Laws.Drawn.{Straight}
+use Rattle.rules.proofs.Laws.Drawn.{straight-partitions, draws-enough, draws-number, taken-all}
+use Rattle.rules.proofs.Laws.Kept.{given-in}
 use Rattle.rules.specs.Shape.{within}
 use Rattle.tape.specs.Tape.{words_of, words-short}
 use Rattle.contract.specs.Meets.{call_of}

@@ -23,7 +23,6 @@ pub mod Run
 pub mod Figures
 pub mod Silent
 pub mod Resumes
--- Theorems: sessions and edges that the checker computes, and laws
+-- One name under which all definitions unfold, and the words that theorems about them use
 pub mod Unfold
-pub mod Checked
 pub mod Laws

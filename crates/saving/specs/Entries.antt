@@ -11,8 +11,8 @@ use Rattle.rules.specs.State.{State}
 use Rattle.rules.specs.Memory.{needed}
 use Rattle.rules.specs.Form.Numbers.{little}
 use Rattle.rules.specs.Form.Payload.{place_bytes, block_bytes, waiter_bytes}
-use Rattle.rules.specs.Laws.Form.Numbers.{length-little}
-use Rattle.rules.specs.Laws.Layout.{cell-from}
+use Rattle.rules.proofs.Laws.Form.Numbers.{length-little}
+use Rattle.rules.proofs.Laws.Layout.{cell-from}
 use Rattle.memory.specs.Tables.{tables_of}
 use Rattle.memory.specs.Fits.{shape_of, fit, fit-lt}
 use Rattle.client.specs.declared.Client.{Client}

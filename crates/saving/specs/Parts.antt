@@ -13,8 +13,8 @@ use Rattle.rules.specs.State.{State}
 use Rattle.rules.specs.Levels.{filled}
 use Rattle.rules.specs.Form.Numbers.{little, each, form_of, slot_width}
 use Rattle.rules.specs.Form.Payload.{shape_numbers, block_bytes, filled_levels, order_slots, read_marks, level_bytes, waiters, waiter_bytes, payload}
-use Rattle.rules.specs.Laws.Form.Fits.{each_append, each-each, each_map}
-use Rattle.rules.specs.Laws.Form.Numbers.{length-little}
+use Rattle.rules.proofs.Laws.Form.Fits.{each_append, each-each, each_map}
+use Rattle.rules.proofs.Laws.Form.Numbers.{length-little}
 use Rattle.memory.specs.Tables.{tables_of}
 use Rattle.memory.specs.Fits.{shape_of, fit}
 use Rattle.memory.specs.declared.Shape.{Shape as Numbers}

@@ -13,8 +13,8 @@ use Rattle.rules.specs.State.{State, Request}
 use Rattle.rules.specs.Form.Longest.{longest}
 use Rattle.rules.specs.Form.Payload.{payload, saved_form}
 use Rattle.rules.specs.Form.Sums.{block_count, in_blocks}
-use Rattle.rules.specs.Laws.Form.Sums.{count-le, length-in-blocks}
-use Rattle.rules.specs.Laws.Released.{release-none}
+use Rattle.rules.proofs.Laws.Form.Sums.{count-le, length-in-blocks}
+use Rattle.rules.proofs.Laws.Released.{release-none}
 use Rattle.rules.specs.Questions.{save, ready, at_rest, questions, first_no, number}
 use Rattle.rules.specs.Run.{act, perform}
 use Rattle.memory.specs.declared.Shape.{Shape as Numbers}

@@ -15,8 +15,8 @@ use Rattle.rules.specs.State.{State}
 use Rattle.rules.specs.Levels.{filled}
 use Rattle.rules.specs.Form.Numbers.{each}
 use Rattle.rules.specs.Form.Payload.{place_bytes, block_bytes, payload}
-use Rattle.rules.specs.Laws.Form.Numbers.{length-little, length-each}
-use Rattle.rules.specs.Laws.Form.Fits.{all_any, level-length}
+use Rattle.rules.proofs.Laws.Form.Numbers.{length-little, length-each}
+use Rattle.rules.proofs.Laws.Form.Fits.{all_any, level-length}
 use Rattle.client.specs.declared.Client.{Client}
 use Rattle.client.specs.View.{state_of, place_of, level_of}
 use Rattle.client.specs.Changes.{nowhere-is}

@@ -19,8 +19,8 @@ use Rattle.rules.specs.Blocks.{blocks_in}
 use Rattle.rules.specs.Rebuild.{chosen, gather_from, gathered}
 use Rattle.rules.specs.Turn.{rebuild}
 use Rattle.rules.specs.Questions.{possible}
-use Rattle.rules.specs.Laws.Bits.{slots-capacity}
-use Rattle.rules.specs.Laws.Grown.{written-top, written-few}
+use Rattle.rules.proofs.Laws.Bits.{slots-capacity}
+use Rattle.rules.proofs.Laws.Grown.{written-top, written-few}
 use Rattle.rules.specs.Laws.Decided.{Front}
 use Rattle.memory.specs.Fits.{shape_of}
 use Rattle.client.specs.declared.Client.{Client}

@@ -23,10 +23,11 @@ use Rattle.rules.specs.Questions.{turn, ready, sends, possible, questions, first
 use Rattle.rules.specs.Run.{act, perform, sent_command, handed, handed_found, written, numbers_of, taken_of, refuse}
 use Rattle.rules.specs.Laws.Draws.{Enough}
 use Rattle.rules.specs.Laws.Answers.{opens}
-use Rattle.rules.specs.Laws.Asked.{reads-asked}
-use Rattle.rules.specs.Laws.Decided.{Front, StepIn, decide-in}
-use Rattle.rules.specs.Laws.Kept.{do_step-in}
-use Rattle.rules.specs.Laws.Shapes.{act-shape}
+use Rattle.rules.proofs.Laws.Asked.{reads-asked}
+use Rattle.rules.specs.Laws.Decided.{Front, StepIn}
+use Rattle.rules.proofs.Laws.Decided.{decide-in}
+use Rattle.rules.proofs.Laws.Kept.{do_step-in}
+use Rattle.rules.proofs.Laws.Shapes.{act-shape}
 use Rattle.memory.specs.Fits.{shape_of, fit, fit-lt}
 use Rattle.memory.specs.Tables.{tables_of}
 use Rattle.client.specs.declared.Client.{Client}

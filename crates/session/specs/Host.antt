@@ -7,10 +7,11 @@ use Rattle.rules.specs.Shape.{Shape, within, slots, cell, offset}
 use Rattle.rules.specs.State.{Command, read, write, closed}
 use Rattle.rules.specs.Questions.{request, turn, collect, Call}
 use Rattle.rules.specs.Run.{Outcome, step}
-use Rattle.rules.specs.Laws.Answers.{opens as opens_of, step-number, closed-two}
+use Rattle.rules.specs.Laws.Answers.{opens as opens_of}
+use Rattle.rules.proofs.Laws.Answers.{step-number, closed-two}
 use Rattle.rules.specs.Memory.{needed}
-use Rattle.rules.specs.Laws.Layout.{cell-inj}
-use Rattle.rules.specs.Laws.Levels.{two-slots}
+use Rattle.rules.proofs.Laws.Layout.{cell-inj}
+use Rattle.rules.proofs.Laws.Levels.{two-slots}
 use Rattle.memory.specs.Parts.{replaced, length-replaced, replaced-inside, part-outside}
 use Rattle.session.specs.Session.{host_room, serves, memory_room, call, start, fetched, stored, answered, replied, turned, collected, gives, begun}
 use Rattle.lines.specs.Lines.{Line, opens, reads, writes, turns, collects, malformed}

@@ -7,11 +7,12 @@ use Rattle.std.proofs.Math.Decide.{ℕ_discrete}
 use Rattle.rules.specs.Shape.{Shape}
 use Rattle.rules.specs.State.{State}
 use Rattle.rules.specs.Draws.{draws}
-use Rattle.rules.specs.Laws.Drawn.{taken-lent}
+use Rattle.rules.proofs.Laws.Drawn.{taken-lent}
 use Rattle.rules.specs.Questions.{Ask, request, Call, bounds, number}
 use Rattle.rules.specs.Run.{Outcome, step, accepted, refused, numbers_of}
-use Rattle.rules.specs.Laws.Answers.{opens, number-le, step-number, step-accepted, refused-keeps, refused-outcome}
-use Rattle.rules.specs.Laws.Shapes.{act-shape}
+use Rattle.rules.specs.Laws.Answers.{opens}
+use Rattle.rules.proofs.Laws.Answers.{number-le, step-number, step-accepted, refused-keeps, refused-outcome}
+use Rattle.rules.proofs.Laws.Shapes.{act-shape}
 use Rattle.memory.specs.Words.{word_at}
 use Rattle.memory.specs.Fits.{shape_of}
 use Rattle.client.specs.declared.Client.{Client}

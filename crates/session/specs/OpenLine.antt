@@ -11,7 +11,7 @@ use Rattle.rules.specs.Memory.{needed}
 use Rattle.rules.specs.Questions.{opening, Call, questions, first_no, number}
 use Rattle.rules.specs.Run.{Outcome, step, act, perform, accepted}
 use Rattle.rules.specs.Open.{fresh}
-use Rattle.rules.specs.Laws.Answers.{step-number, step-accepted}
+use Rattle.rules.proofs.Laws.Answers.{step-number, step-accepted}
 use Rattle.memory.specs.Fits.{shape_of, parts-le}
 use Rattle.tape.specs.Tape.{words_of}
 use Rattle.client.specs.View.{state_of, view}

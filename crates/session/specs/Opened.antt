@@ -14,9 +14,11 @@ use Rattle.rules.specs.Open.{fresh}
 use Rattle.rules.specs.Ranges.{in_range}
 use Rattle.rules.specs.Questions.{opening, Call, ready, questions, number}
 use Rattle.rules.specs.Run.{Outcome, step, act, perform, accepted}
-use Rattle.rules.specs.Laws.Answers.{opens as opens_of, accepted-passed, step-number, step-accepted, refused-keeps, closed-unready}
-use Rattle.rules.specs.Laws.Kept.{accepted-in}
-use Rattle.rules.specs.Laws.Range.{InRange, facts-range}
+use Rattle.rules.specs.Laws.Answers.{opens as opens_of}
+use Rattle.rules.proofs.Laws.Answers.{accepted-passed, step-number, step-accepted, refused-keeps, closed-unready}
+use Rattle.rules.proofs.Laws.Kept.{accepted-in}
+use Rattle.rules.specs.Laws.Range.{InRange}
+use Rattle.rules.proofs.Laws.Range.{facts-range}
 use Rattle.lines.specs.Lines.{Line, opens, reads, writes, turns, collects, malformed, line_of, tape_of}
 use Rattle.printing.specs.Text.{number_text}
 use Rattle.session.specs.Session.{Session, Given, serves, memory_room, lent, call, went, answered, completed, replied, turned, collected, gives, ends, begun, leaves, left}

@@ -4,7 +4,7 @@ use Rattle.std.proofs.Common.{ap, ◌∙◌, suc-mul, mul-le-mul_right, pow-suc,
 use Rattle.lists.specs.Tests.{and_l, and_r}
 use Rattle.rules.specs.Shape.{Shape, slots, offset}
 use Rattle.rules.specs.State.{cmd}
-use Rattle.rules.specs.Laws.Levels.{two-slots}
+use Rattle.rules.proofs.Laws.Levels.{two-slots}
 use Rattle.session.specs.Session.{most_blocks, host_room, serves, start}
 use Rattle.session.specs.Answers.{Slot}
 

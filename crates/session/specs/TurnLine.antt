@@ -16,10 +16,12 @@ use Rattle.rules.specs.Draws.{draws}
 use Rattle.rules.specs.Turn.{Step, idle, no_dummy, read_for_request, read_for_job, rebuild, write_next, decide, command}
 use Rattle.rules.specs.Questions.{turn, completion, collect, Call, ready, questions, sends, possible, bounds, number}
 use Rattle.rules.specs.Run.{Outcome, step, accepted, handed, written, sent_command, numbers_of}
-use Rattle.rules.specs.Laws.Answers.{opens, step-number, step-accepted, accepted-passed}
-use Rattle.rules.specs.Laws.Decided.{StepIn, decide-in}
-use Rattle.rules.specs.Laws.Kept.{given-in}
-use Rattle.rules.specs.Laws.Levels.{levels-pos}
+use Rattle.rules.specs.Laws.Answers.{opens}
+use Rattle.rules.proofs.Laws.Answers.{step-number, step-accepted, accepted-passed}
+use Rattle.rules.specs.Laws.Decided.{StepIn}
+use Rattle.rules.proofs.Laws.Decided.{decide-in}
+use Rattle.rules.proofs.Laws.Kept.{given-in}
+use Rattle.rules.proofs.Laws.Levels.{levels-pos}
 use Rattle.rules.specs.Laws.Range.{InRange}
 use Rattle.memory.specs.Fits.{shape_of}
 use Rattle.memory.specs.Parts.{replaced}

@@ -9,8 +9,8 @@ use Rattle.std.proofs.lemmas.List.{length-replicate, replicate-append-replicate,
 use Rattle.std.proofs.Math.Seq.{length-take-le, take-append-le, drop-append-add}
 use Rattle.rules.specs.Form.Numbers.{little}
 use Rattle.rules.specs.Form.Sums.{block_sum, body_of, blocks, block_count, in_blocks}
-use Rattle.rules.specs.Laws.Form.Sums.{count-le, length-in-blocks}
-use Rattle.rules.specs.Laws.Form.Numbers.{length-little}
+use Rattle.rules.proofs.Laws.Form.Sums.{count-le, length-in-blocks}
+use Rattle.rules.proofs.Laws.Form.Numbers.{length-little}
 use Rattle.contract.specs.Meets.{handed_to}
 use Rattle.lists.specs.Written.{Written, followed, same_text}
 use Rattle.sums.specs.Puts.{written_is}

@@ -10,9 +10,10 @@ use Rattle.rules.specs.Jobs.{orders_bounds}
 use Rattle.rules.specs.Draws.{limit, draws, order_bounds}
 use Rattle.rules.specs.Run.{taken_of}
 use Rattle.rules.specs.Laws.Draws.{Enough}
-use Rattle.rules.specs.Laws.Grown.{down-next}
-use Rattle.rules.specs.Laws.Orders.{bounds-next, bounds-none}
-use Rattle.rules.specs.Laws.Drawn.{SettledBy, draws-end, Reaches, reaches-start, reaches-next, reaches-none, reaches_end}
+use Rattle.rules.proofs.Laws.Grown.{down-next}
+use Rattle.rules.proofs.Laws.Orders.{bounds-next, bounds-none}
+use Rattle.rules.specs.Laws.Drawn.{SettledBy, Reaches}
+use Rattle.rules.proofs.Laws.Drawn.{draws-end, reaches-start, reaches-next, reaches-none, reaches_end}
 
 -- n words settle the draws below ms, passed ones counted; or there are fewer, and they end before the last draw is settled
 pub record Counts (ms ws : List ℕ) (n : ℕ) : Type 0 where

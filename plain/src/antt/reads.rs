@@ -15,7 +15,7 @@ pub struct Told {
 }
 
 /// Where the sessions are.
-const CHECKED: &str = "Rattle.rules.specs.Checked";
+const CHECKED: &str = "Rattle.rules.proofs.Checked";
 
 const COMMENT: &str = "\
 -- The partition reader's lists at each release, compared with an independent implementation. Written by plain/src/bin/sessions.rs.

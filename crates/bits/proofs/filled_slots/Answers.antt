@@ -2,7 +2,7 @@ use mathlib.Core.Path.{◌≡◌, ap, sym, ◌∙◌}
 use Prim.Native.Nat.{suc, ◌+◌, ◌-◌, ◌*◌, ◌%◌, ◌^◌}
 use native.Mathlib.Omega.{arith}
 use lib.Bits.{bit_and, and_mask}
-use Rattle.rules.specs.Laws.Bits.{slots-down}
+use Rattle.rules.proofs.Laws.Bits.{slots-down}
 use Rattle.bits.proofs.filled_slots.Goals as goal
 use Rattle.bits.proofs.filled_slots.Goals.{After-pow2}
 

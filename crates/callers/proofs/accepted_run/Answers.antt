@@ -1,5 +1,5 @@
 use native.Mathlib.Omega.{arith}
-use Rattle.claims.specs.Accepted.{zeros-words, accepted}
+use Rattle.claims.proofs.Accepted.{zeros-words, accepted}
 use Rattle.callers.proofs.accepted_run.Goals as goal
 
 pub returns : goal.returns

@@ -2,7 +2,7 @@ use mathlib.Core.Path.{ap, ◌∙◌, subst}
 use Prim.Native.Nat.{◌+◌}
 use native.Mathlib.Omega.{arith}
 use lib.Pow.{pow_mono}
-use Rattle.rules.specs.Laws.Layout.{offset-lt}
+use Rattle.rules.proofs.Laws.Layout.{offset-lt}
 use Rattle.client.specs.View.{state_of}
 use Rattle.commands.specs.Outstanding.{Outstanding}
 use Rattle.commands.specs.Commands.{spot_command, spot-command, none-such}

@@ -1,6 +1,6 @@
 use mathlib.Core.Path.{sym, ◌∙◌}
 use native.Mathlib.Omega.{arith}
-use Rattle.rules.specs.Laws.Levels.{begun-some, begun-none}
+use Rattle.rules.proofs.Laws.Levels.{begun-some, begun-none}
 use Rattle.jobs.proofs.begun_with.Goals as goal
 
 pub returns-then-c-ne0 : goal.returns-then-c-ne0

@@ -1,7 +1,7 @@
 use Prim.Native.Nat.{◌+◌, ◌<◌}
 use native.Mathlib.Omega.{arith}
 use Rattle.rules.specs.Shape.{slots, cell}
-use Rattle.rules.specs.Laws.Layout.{offset-lt}
+use Rattle.rules.proofs.Laws.Layout.{offset-lt}
 use Rattle.levels.proofs.cell.Goals as goal
 use Rattle.levels.proofs.cell.Goals.{Start}
 

@@ -3,7 +3,7 @@ use native.Mathlib.Omega.{arith}
 use lib.ListN.{take, drop}
 use lib.Pow.{pow_pos}
 use Rattle.rules.specs.Shape.{slots}
-use Rattle.rules.specs.Laws.Orders.{length-order}
+use Rattle.rules.proofs.Laws.Orders.{length-order}
 use Rattle.tape.specs.Tape.{words_of}
 use Rattle.rebuild.specs.Shuffle.{nodup-drawn}
 use Rattle.rebuild.specs.Placing.{order-drawn, empty-drawn, writes-level}

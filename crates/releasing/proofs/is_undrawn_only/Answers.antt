@@ -2,7 +2,7 @@ use mathlib.Core.Path.{ap, sym, ◌∙◌}
 use native.Mathlib.Omega.{arith}
 use lib.Dec.{leb}
 use Rattle.rules.specs.Jobs.{begun_with}
-use Rattle.rules.specs.Laws.Levels.{queued-le}
+use Rattle.rules.proofs.Laws.Levels.{queued-le}
 use Rattle.client.specs.View.{state_of, view}
 use Rattle.client.specs.Readings.{jobs-count}
 use Rattle.releasing.specs.Held.{none-else, drawn, not-front, front-only}

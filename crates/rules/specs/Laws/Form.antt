@@ -1,8 +1,2 @@
 -- Laws of the saved form: what was written is read back.
-pub mod Numbers
-pub mod Sums
-pub mod Tables
 pub mod Saveable
-pub mod Reads
-pub mod Back
-pub mod Fits

@@ -4,7 +4,7 @@ use native.Mathlib.Omega.{arith}
 use lib.ListN.{length}
 use Rattle.rules.specs.Form.Payload.{payload}
 use Rattle.rules.specs.Form.Sums.{block_count}
-use Rattle.rules.specs.Laws.Form.Sums.{count-le}
+use Rattle.rules.proofs.Laws.Form.Sums.{count-le}
 use Rattle.client.specs.View.{state_of}
 use Rattle.saving.specs.Saving.{form-length, form-out}
 use Rattle.saving.proofs.write.Goals as goal

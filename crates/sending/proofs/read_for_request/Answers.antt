@@ -6,7 +6,7 @@ use Rattle.rules.specs.Turn.{read_for_request, command, step_bounds}
 use Rattle.rules.specs.Questions.{sends, possible}
 use Rattle.rules.specs.Jobs.{joined}
 use Rattle.rules.specs.Request.{is_source}
-use Rattle.rules.specs.Laws.Decided.{read-filled}
+use Rattle.rules.proofs.Laws.Decided.{read-filled}
 use Rattle.client.specs.Moves.{with_begun}
 use Rattle.client.specs.View.{state_of, view}
 use Rattle.sending.specs.Sent.{passed, asked-for, read-performs, request-sent}

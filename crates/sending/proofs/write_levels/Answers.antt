@@ -6,7 +6,7 @@ use Rattle.lists.specs.Search.{keep}
 use Rattle.rules.specs.Jobs.{orders_bounds}
 use Rattle.rules.specs.Levels.{filled, down}
 use Rattle.rules.specs.Laws.Draws.{Enough}
-use Rattle.rules.specs.Laws.Rebuilt.{gathered-in}
+use Rattle.rules.proofs.Laws.Rebuilt.{gathered-in}
 use Rattle.client.specs.declared.Client.{Client}
 use Rattle.client.specs.View.{state_of, view}
 use Rattle.tape.specs.Tape.{words_of}

@@ -1,6 +1,6 @@
 use Rattle.std.proofs.Common.{◌≡◌, ◌+◌, ◌-◌, arith}
 use Rattle.rules.specs.Form.Sums.{block_count}
-use Rattle.rules.specs.Laws.Form.Sums.{count-le}
+use Rattle.rules.proofs.Laws.Form.Sums.{count-le}
 use Rattle.sums.specs.Spread.{spread_none, spread-more, spread_at, spread-is}
 use Rattle.sums.proofs.spread.Goals as goal
 

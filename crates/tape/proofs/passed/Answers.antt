@@ -3,7 +3,7 @@ use native.Mathlib.Omega.{arith}
 use borrow.Author.Rules.{rules}
 use borrow.Author.Tests.{lt-leb}
 use Rattle.rules.specs.Draws.{limit}
-use Rattle.rules.specs.Laws.Draws.{limit-above}
+use Rattle.rules.proofs.Laws.Draws.{limit-above}
 use Rattle.tape.proofs.passed.Goals as goal
 
 pub returns-then-w-bound-le65536 : goal.returns-then-w-bound-le65536

@@ -1,6 +1,6 @@
 use Rattle.loading.specs.Levels.{few-slots}
 use lib.ListN.{get_or}
-use Rattle.rules.specs.Laws.Layout.{offset-lt}
+use Rattle.rules.proofs.Laws.Layout.{offset-lt}
 use Rattle.forms.specs.Blocks.{counter_in}
 use mathlib.Core.Path.{refl, ap}
 use Prim.Native.Nat.{◌+◌}

@@ -3,7 +3,7 @@ use Prim.Native.Nat.{◌+◌}
 use native.Mathlib.Omega.{arith}
 use Rattle.lists.specs.All.{All}
 use Rattle.rules.specs.Form.Sums.{out_of_blocks}
-use Rattle.rules.specs.Laws.Layout.{stride-le}
+use Rattle.rules.proofs.Laws.Layout.{stride-le}
 use Rattle.memory.specs.Fits.{shape_of}
 use Rattle.memory.specs.Tables.{tables_of}
 use Rattle.forms.specs.At.{waiter_at}

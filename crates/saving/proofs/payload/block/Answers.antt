@@ -9,7 +9,7 @@ use lib.ListN.{length, length-append}
 use lib.Pow.{pow_pos}
 use Rattle.rules.specs.Shape.{slots}
 use Rattle.rules.specs.Form.Numbers.{little, form_of, slot_width}
-use Rattle.rules.specs.Laws.Form.Fits.{block-length}
+use Rattle.rules.proofs.Laws.Form.Fits.{block-length}
 use Rattle.memory.specs.Tables.{tables_of}
 use Rattle.memory.specs.Fits.{shape_of, fit-lt}
 use Rattle.client.specs.View.{state_of, place_of}

@@ -1,6 +1,6 @@
 use mathlib.Core.Path.{sym}
 use native.Mathlib.Omega.{arith}
-use Rattle.rules.specs.Laws.Form.Numbers.{length-little}
+use Rattle.rules.proofs.Laws.Form.Numbers.{length-little}
 use Rattle.lists.specs.Written.{followed, same_text}
 use Rattle.saving.specs.Parts.{parts_of, payload-parts, head-length, parts-length}
 use Rattle.saving.proofs.payload.write.Goals as goal

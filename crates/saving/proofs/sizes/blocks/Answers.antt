@@ -2,7 +2,7 @@ use native.Mathlib.Omega.{arith}
 use Rattle.lists.specs.Search.{below, count}
 use Rattle.rules.specs.Form.Numbers.{each}
 use Rattle.rules.specs.Form.Payload.{block_bytes}
-use Rattle.rules.specs.Laws.Form.Fits.{block-length}
+use Rattle.rules.proofs.Laws.Form.Fits.{block-length}
 use Rattle.client.specs.View.{state_of}
 use Rattle.saving.specs.Parts.{width_of}
 use Rattle.saving.specs.Sizes.{each-grows}

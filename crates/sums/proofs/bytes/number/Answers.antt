@@ -1,6 +1,6 @@
 use Rattle.std.proofs.Common.{arith}
 use Rattle.rules.specs.Form.Numbers.{little}
-use Rattle.rules.specs.Laws.Form.Numbers.{length-little}
+use Rattle.rules.proofs.Laws.Form.Numbers.{length-little}
 use Rattle.lists.specs.Written.{followed}
 use Rattle.sums.proofs.bytes.number.Goals as goal
 

@@ -1,0 +1,5 @@
+-- Theorems about the definitions of specs/
+pub mod Memory
+-- Theorems: sessions and edges that the checker computes, and laws
+pub mod Checked
+pub mod Laws
