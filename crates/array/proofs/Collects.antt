@@ -1,5 +1,5 @@
 -- A collect hands out the contents of its block, and keeps those of every other; an open starts with zeros.
-use Rattle.std.specs.Prelude.{◌≡◌, Bool, ◌&&◌, List, [], ◌∷◌, ℕ, ◌<◌, replicate, eqb}
+use Rattle.std.specs.Prelude.{◌≡◌, Bool, ◌&&◌, List, [], ◌∷◌, ℕ, ◌<◌, replicate, eqb, if◌then◌else◌}
 use Rattle.std.proofs.Math.Path.{refl, sym}
 use Rattle.std.proofs.Common.{ap, ◌∙◌, inl, ⊎_elim, arith, ne_eqb}
 use Rattle.std.proofs.Math.Bool.{true, false, not}
@@ -10,7 +10,6 @@ use Rattle.lists.specs.Distinct.{Mem}
 use Rattle.lists.specs.Members.{append-mem, member-append, append_right, keep-mem, mem-keep, member-mem, not-member}
 use Rattle.lists.specs.Search
 use Rattle.lists.specs.Tables.{put, put_same, put_other}
-use Rattle.lists.specs.Tests.{if◌then◌else◌}
 use Rattle.rules.specs.Blocks
 use Rattle.rules.specs.Collect.{finish, finished}
 use Rattle.rules.specs.Completion.{is_command}

@@ -2,7 +2,7 @@
 use Rattle.std.proofs.Math.Path.{◌≡◌, refl, ap, sym}
 use Rattle.std.proofs.Common.{◌∙◌, ⊎_elim, eqb-true}
 use Rattle.std.proofs.Math.Logic.{inl, inr}
-use Rattle.std.specs.Prelude.{Bool, not, ℕ, ◌<◌}
+use Rattle.std.specs.Prelude.{Bool, not, ℕ, ◌<◌, if◌then◌else◌}
 use Rattle.std.proofs.Math.Bool.{true, false}
 use mathlib.Core.List.{List, [], ◌∷◌}
 use Rattle.std.proofs.Math.Option.{Option, none, some}
@@ -11,7 +11,7 @@ use Rattle.std.proofs.Math.Dec.{eqb}
 use Rattle.lists.specs.All.{all_both, any-all, any-without, any-kept}
 use Rattle.lists.specs.Search.{any, without}
 use Rattle.lists.specs.Tables.{put, put_same, put_other}
-use Rattle.lists.specs.Tests.{if◌then◌else◌, and_l}
+use Rattle.lists.specs.Tests.{and_l}
 use Rattle.rules.specs.Blocks
 use Rattle.rules.specs.Completion
 use Rattle.rules.specs.Completion.{completed, gather_bytes, finish_job, end_job, is_command}

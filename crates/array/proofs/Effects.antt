@@ -1,5 +1,5 @@
 -- What a call changes of one slot: what it sends there, what is outstanding, and how long the blocks are.
-use Rattle.std.specs.Prelude.{◌≡◌, ◌⊎◌, Bool, ℕ, get_or}
+use Rattle.std.specs.Prelude.{◌≡◌, ◌⊎◌, Bool, ℕ, get_or, if◌then◌else◌}
 use Rattle.std.proofs.Math.Path.{refl}
 use Rattle.std.proofs.Common.{ap, sym, inl, ⊎_elim, true≢false, arith}
 use Rattle.std.proofs.Math.Logic.{inr}
@@ -12,7 +12,6 @@ use borrow.Author.Tests.{eqb-true, eqb-false}
 use Rattle.lists.specs.All.{IfSome, any_snoc, any-without}
 use Rattle.lists.specs.Search.{any}
 use Rattle.lists.specs.Tables.{put_has}
-use Rattle.lists.specs.Tests.{if◌then◌else◌}
 use Rattle.rules.specs.Blocks
 use Rattle.rules.specs.Collect
 use Rattle.rules.specs.Completion

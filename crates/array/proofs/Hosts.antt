@@ -1,8 +1,7 @@
 -- Two hosts that the claim's premise covers: one takes a write's bytes when the turn sends it, one only when its completion is accepted.
-use Rattle.std.specs.Prelude.{◌≡◌, refl, ◌⊎◌, Bool, true, false, List, [], ◌∷◌, ℕ, eqb}
+use Rattle.std.specs.Prelude.{◌≡◌, refl, ◌⊎◌, Bool, true, false, List, [], ◌∷◌, ℕ, eqb, if◌then◌else◌}
 use Rattle.std.proofs.Common.{sym, ◌∙◌, inl, inr, arith, eqb-true, eq-eqb, ne_eqb}
 use Rattle.rules.specs.Resumes.{Resumes}
-use Rattle.lists.specs.Tests.{if◌then◌else◌}
 use Rattle.rules.specs.Questions.{Ask, opening, request, turn, completion, collect, save, load, Call}
 use Rattle.rules.specs.Run.{Outcome, run}
 use Rattle.rules.specs.Shape.{Shape}

@@ -1,6 +1,6 @@
 -- Every run can be served: put into its completions of reads the bytes that the host has, and the host is honest. What the run is otherwise,
 -- words, lengths and calls, is as it was.
-use Rattle.std.specs.Prelude.{◌≡◌, ◌⊎◌, Bool, true, length, eqb, ltb}
+use Rattle.std.specs.Prelude.{◌≡◌, ◌⊎◌, Bool, true, length, eqb, ltb, if◌then◌else◌}
 use Rattle.std.proofs.Math.Path.{refl}
 use Rattle.std.proofs.Common.{ap, sym, ◌∙◌, inl, inr, ⊎_elim, arith, eqb-true, eq-eqb, ltb-true}
 use Rattle.std.proofs.Math.Bool.{false, true≢false}
@@ -8,7 +8,6 @@ use mathlib.Core.List.{List, [], ◌∷◌}
 use Prim.Native.Nat.{ℕ, zero, suc, ◌<◌}
 use Rattle.std.proofs.lemmas.Bool.{eqb-false}
 use Rattle.lists.specs.Search.{any}
-use Rattle.lists.specs.Tests.{if◌then◌else◌}
 use Rattle.rules.specs.Completion.{is_command}
 use Rattle.rules.specs.Laws.Answers.{opens}
 use Rattle.rules.proofs.Laws.Answers.{Passed, accepted-passed, step-accepted, step-refused, step-number, open-first}

@@ -1,5 +1,5 @@
 -- The theorem of the plain array.
-use Rattle.std.specs.Prelude.{◌≡◌, Bool, List, [], ◌∷◌, ℕ, suc, leb, length}
+use Rattle.std.specs.Prelude.{◌≡◌, Bool, List, [], ◌∷◌, ℕ, suc, leb, length, if◌then◌else◌}
 use Rattle.std.proofs.Math.Path.{refl, ap}
 use Rattle.std.proofs.Common.{sym, ◌∙◌, true≢false, arith}
 use Rattle.std.proofs.Math.Bool.{true, false}
@@ -16,7 +16,7 @@ use Rattle.rules.specs.Form.Loading.{loads}
 use Rattle.rules.specs.Form.Longest.{longest}
 use Rattle.lists.specs.Search
 use Rattle.lists.specs.Tests
-use Rattle.lists.specs.Tests.{if◌then◌else◌, and_l, and_r}
+use Rattle.lists.specs.Tests.{and_l, and_r}
 use Rattle.rules.specs.Blocks
 use Rattle.rules.specs.Collect
 use Rattle.rules.specs.Completion

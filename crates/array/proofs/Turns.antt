@@ -1,5 +1,5 @@
 -- A turn keeps the contents of every block.
-use Rattle.std.specs.Prelude.{◌≡◌, Bool, List, [], ◌∷◌, ◌++◌, ℕ, suc, ◌<◌, length, get_or, eqb}
+use Rattle.std.specs.Prelude.{◌≡◌, Bool, List, [], ◌∷◌, ◌++◌, ℕ, suc, ◌<◌, length, get_or, eqb, if◌then◌else◌}
 use Rattle.std.proofs.Math.Path.{refl, ap, sym, subst}
 use Rattle.std.proofs.Common.{◌∙◌, arith}
 use Rattle.std.proofs.Math.Logic.{inl, inr, ⊎_elim}
@@ -11,7 +11,6 @@ use Rattle.lists.specs.Distinct.{Mem}
 use Rattle.lists.specs.Members.{mem-without, dec_mem}
 use Rattle.lists.specs.Search.{any, without}
 use Rattle.lists.specs.Tables.{put, put_other}
-use Rattle.lists.specs.Tests.{if◌then◌else◌}
 use Rattle.rules.specs.Blocks
 use Rattle.rules.specs.Completion.{is_command}
 use Rattle.rules.specs.Jobs.{joined, levels_of}

@@ -2,11 +2,10 @@
 -- that completes each read with the bytes last written to that slot, in whatever order, collected contents are those of a plain array
 -- of blocks that starts as zeros. Document 02, P5: "the array goes on through a load if no call came between it and the save of its form".
 -- To believe the claim, read this file and crate `rules`. It is proved in Theorem.antt; Hosts.antt has two hosts that meet its premise.
-use Rattle.std.specs.Prelude.{◌≡◌, ◌⊎◌, ◌&&◌, List, [], ◌∷◌, ℕ, replicate, eqb}
+use Rattle.std.specs.Prelude.{◌≡◌, ◌⊎◌, ◌&&◌, List, [], ◌∷◌, ℕ, replicate, eqb, if◌then◌else◌}
 use Rattle.std.proofs.Math.Option.{Option, none, some}
 use Rattle.rules.specs.Resumes.{Resumes}
 use Rattle.lists.specs.Tables.{put}
-use Rattle.lists.specs.Tests.{if◌then◌else◌}
 use Rattle.rules.specs.Questions.{Ask, opening, request, turn, completion, collect, save, load, Call}
 use Rattle.rules.specs.Run.{Outcome, run}
 use Rattle.rules.specs.Shape.{Shape}

@@ -1,6 +1,5 @@
 -- Two hosts that the claim's premise covers: one takes a write's bytes when the turn sends it, one only when its completion is accepted.
-use Rattle.std.specs.Prelude.{◌≡◌, List, [], ◌∷◌, eqb}
-use Rattle.lists.specs.Tests.{if◌then◌else◌}
+use Rattle.std.specs.Prelude.{◌≡◌, List, [], ◌∷◌, eqb, if◌then◌else◌}
 use Rattle.rules.specs.Questions.{Ask, opening, request, turn, completion, collect, save, load, Call}
 use Rattle.rules.specs.Run.{Outcome}
 use Rattle.rules.specs.State.{read}

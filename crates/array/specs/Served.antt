@@ -1,9 +1,8 @@
 -- Every run can be served: put into its completions of reads the bytes that the host has, and the host is honest. What the run is otherwise,
 -- words, lengths and calls, is as it was.
-use Rattle.std.specs.Prelude.{length, eqb}
+use Rattle.std.specs.Prelude.{length, eqb, if◌then◌else◌}
 use mathlib.Core.List.{List, [], ◌∷◌}
 use Prim.Native.Nat.{ℕ, zero, suc}
-use Rattle.lists.specs.Tests.{if◌then◌else◌}
 use Rattle.rules.specs.Questions.{Ask, opening, request, turn, completion, collect, save, load, Call}
 use Rattle.rules.specs.Resumes.{saved_by}
 use Rattle.rules.specs.Run.{Outcome, step}

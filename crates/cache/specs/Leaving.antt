@@ -1,8 +1,8 @@
 -- The blocks that have waited longest for a partition leave the cache, and those behind them move up.
-use Rattle.std.specs.Prelude.{◌≡◌, refl, Bool, true, false, ◌&&◌, List, [], ◌∷◌, ◌++◌, ℕ, suc, ◌+◌, ◌-◌, ◌≤◌, ◌<◌, take, drop, eqb, ltb}
+use Rattle.std.specs.Prelude.{◌≡◌, refl, Bool, true, false, ◌&&◌, List, [], ◌∷◌, ◌++◌, ℕ, suc, ◌+◌, ◌-◌, ◌≤◌, ◌<◌, take, drop, eqb, ltb, if◌then◌else◌}
 use Rattle.std.proofs.Common.{ap, sym, ◌∙◌, append-nil, append_assoc, add-one, arith, take-append-drop, drop_of_length-le, drop-cons, lt-ltb, le-ltb, eq-eqb, ne_eqb}
 use Rattle.std.proofs.Math.Decide.{dec_lt}
-use Rattle.lists.specs.Tests.{if◌then◌else◌, and-false}
+use Rattle.lists.specs.Tests.{and-false}
 use Rattle.lists.specs.Search.{keep, without_first}
 use Rattle.lists.specs.Tables.{put, put_other}
 use Rattle.lists.specs.Leaving.{without-first-none, without-first-yes, without-first-no, without-first-behind}

@@ -1,10 +1,9 @@
 -- The buffer after a call has the bytes that the rules hand out, where they hand out any.
-use Rattle.std.specs.Prelude.{◌≡◌, Bool, true, false, not, ◌||◌, List, [], ℕ, eqb, length, drop}
+use Rattle.std.specs.Prelude.{◌≡◌, Bool, true, false, not, ◌||◌, List, [], ℕ, eqb, length, drop, if◌then◌else◌}
 use Rattle.std.proofs.Math.Path.{refl}
 use Rattle.std.proofs.Common.{sym, ◌∙◌, eqb-true, ne_eqb}
 use Rattle.std.proofs.Math.Decide.{ℕ_discrete}
 use Rattle.std.proofs.Math.Seq.{take-append_seam}
-use Rattle.lists.specs.Tests.{if◌then◌else◌}
 use Rattle.rules.specs.Blocks.{slot_bytes, holder}
 use Rattle.rules.specs.Collect.{answer}
 use Rattle.rules.specs.Draws.{draws}

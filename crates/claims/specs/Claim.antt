@@ -3,10 +3,9 @@
 -- To believe the claims, read this file, `Exported`, `Opened` and `Loaded` of crate `exports`, `found_as` of crate `client`, the claims of crates `array` and
 -- `hiding`, of crate `rules` the runs of Run.antt and Silent.antt, Reader.antt, `Resumes`, and `first_found` of Laws/Found.antt, and Terms.antt of crate
 -- `reachable`. They are proved in Theorem.antt, one each in Found.antt, Reads.antt and Tapes.antt, the last in Words.antt.
-use Rattle.std.specs.Prelude.{◌≡◌, ◌⊎◌, false, ◌&&◌, List, [], ◌∷◌, ◌++◌, map, ℕ, suc, ◌≤◌, ◌<◌, length, take, eqb}
+use Rattle.std.specs.Prelude.{◌≡◌, ◌⊎◌, false, ◌&&◌, List, [], ◌∷◌, ◌++◌, map, ℕ, suc, ◌≤◌, ◌<◌, length, take, eqb, if◌then◌else◌}
 use Rattle.std.proofs.Math.Option.{some}
 use Rattle.lists.specs.All.{All}
-use Rattle.lists.specs.Tests.{if◌then◌else◌}
 use Rattle.rules.specs.Silent.{untold, run_unseen}
 use Rattle.rules.specs.Shape.{Shape}
 use Rattle.rules.specs.State.{closed, write, Command, Request}

@@ -1,6 +1,6 @@
 -- Document 01: "memory long enough, each number of the state in its range". Every entry of a table decodes to a number in range, so the question asks
 -- only the client's numbers, in constant time but where the cache is full; of a run of jobs also the counter of the front job's partition.
-use Rattle.std.specs.Prelude.{◌≡◌, Bool, ◌&&◌, ◌||◌, List, [], ◌∷◌, map, ℕ, zero, suc, ◌+◌, ◌-◌, ◌%◌, ◌^◌, ◌≤◌, ◌<◌, length, ltb}
+use Rattle.std.specs.Prelude.{◌≡◌, Bool, ◌&&◌, ◌||◌, List, [], ◌∷◌, map, ℕ, zero, suc, ◌+◌, ◌-◌, ◌%◌, ◌^◌, ◌≤◌, ◌<◌, length, ltb, if◌then◌else◌}
 use Rattle.std.proofs.Math.Path.{refl, sym}
 use Rattle.std.proofs.Common.{◌∙◌, true≢false, arith, pow_mono, pow_pos}
 use Rattle.std.proofs.Math.Bool.{true, false}
@@ -8,7 +8,7 @@ use Rattle.std.proofs.Math.Option.{Option, none, some}
 use Rattle.std.proofs.Math.Decide.{dec_lt}
 use Rattle.std.proofs.Math.Dec.{leb, eqb}
 use borrow.Author.Tests.{ltb-true, lt-ltb, le-ltb, leb-true, le-leb}
-use Rattle.lists.specs.Tests.{if◌then◌else◌, between, every-yes, and_l, and_r, and-true, both_true}
+use Rattle.lists.specs.Tests.{between, every-yes, and_l, and_r, and-true, both_true}
 use Rattle.lists.specs.Search.{below, member}
 use Rattle.lists.specs.All.{All, nil, cons, IfSome}
 use Rattle.rules.specs.Shape.{Shape, within, slots, cell}

@@ -1,5 +1,5 @@
 -- A list that lies in a table: pushing an entry, taking one out.
-use Rattle.std.specs.Prelude.{◌≡◌, Bool, length, get_or, take, drop}
+use Rattle.std.specs.Prelude.{◌≡◌, Bool, length, get_or, take, drop, if◌then◌else◌}
 use Rattle.std.proofs.Math.Path.{refl, ap, sym, fun_ext}
 use Rattle.std.proofs.Common.{◌∙◌, arith}
 use Rattle.std.proofs.Math.Bool.{true, false}
@@ -10,7 +10,7 @@ use Rattle.std.proofs.Math.Decide.{ℕ_discrete, dec_lt}
 use Rattle.std.proofs.Math.ListN.{length-map}
 use Rattle.std.proofs.Math.Dec.{ltb}
 use borrow.Author.Tests.{lt-ltb, le-ltb}
-use Rattle.lists.specs.Tests.{if◌then◌else◌, or_left, or_right}
+use Rattle.lists.specs.Tests.{or_left, or_right}
 use Rattle.lists.specs.Search.{find, any, keep, without, first_left, below, count, find-yes, find-no, without-yes, without-no, first_left-yes, first_left-no, keep-yes, keep-no}
 use Rattle.lists.specs.Lengths.{length-below, below_last}
 use Rattle.lists.specs.Tables.{put, put_same, put_other}

@@ -1,7 +1,6 @@
 -- The state of the rules that a client and the lent memory stand for. Every content of the memory stands for one.
-use Rattle.std.specs.Prelude.{true, false, List, [], map, ℕ, zero, suc, ◌+◌, ◌-◌, ◌%◌, ◌^◌, replicate, ltb, leb, eqb}
+use Rattle.std.specs.Prelude.{true, false, List, [], map, ℕ, zero, suc, ◌+◌, ◌-◌, ◌%◌, ◌^◌, replicate, ltb, leb, eqb, if◌then◌else◌}
 use Rattle.std.proofs.Math.Option.{Option, none, some}
-use Rattle.lists.specs.Tests.{if◌then◌else◌}
 use Rattle.lists.specs.Search.{below}
 use Rattle.rules.specs.Shape.{Shape, slots}
 use Rattle.rules.specs.State as R

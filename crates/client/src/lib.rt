@@ -1,5 +1,6 @@
 // The client's state: small numbers by value, beside the tables in the lent memory.
 #![tactic(auto)]
+
 ghost use Rattle.std.specs.Prelude.{◌≡◌};
 ghost use Rattle.rules.specs.Ranges.{is_kind};
 ghost use Rattle.client.specs.Moves.{no_request, awaiting as awaiting_of, at_level, at_found, with_request, with_jobs, with_begun, with_cursor, with_sent, with_waiting, with_out};

@@ -1,9 +1,8 @@
 -- The client's state as words, and an answer as one number.
-use Rattle.std.specs.Prelude.{◌≡◌, refl, ℕ, ◌+◌, ◌*◌, ◌/◌, ◌%◌, ◌<◌, Bool, true, false, List, length, eqb}
+use Rattle.std.specs.Prelude.{◌≡◌, refl, ℕ, ◌+◌, ◌*◌, ◌/◌, ◌%◌, ◌<◌, Bool, true, false, List, length, eqb, if◌then◌else◌}
 use Rattle.std.proofs.Math.Path.{fun_ext}
 use Rattle.std.proofs.Common.{sym, ◌∙◌, arith}
 use Rattle.std.proofs.Math.Decide.{ℕ_discrete}
-use Rattle.lists.specs.Tests.{if◌then◌else◌}
 use Rattle.rules.specs.State.{read}
 use Rattle.lists.specs.Tables.{put, put_same, put_other}
 use Rattle.memory.specs.Words.{word_at, set_word, word_same, word-other}

@@ -1,8 +1,7 @@
 // The client's state as 76 bytes, and an answer as one number.
 #![tactic(auto)]
 
-ghost use Rattle.std.specs.Prelude.{◌≡◌, ◌*◌, ◌%◌, ◌≤◌, ◌<◌, length, eqb, false};
-ghost use Rattle.lists.specs.Tests.{if◌then◌else◌};
+ghost use Rattle.std.specs.Prelude.{◌≡◌, ◌*◌, ◌%◌, ◌≤◌, ◌<◌, length, eqb, false, if◌then◌else◌};
 ghost use Rattle.lists.specs.Tables.{put as put_at};
 ghost use Rattle.memory.specs.Words.{word_at};
 ghost use Rattle.codec.specs.Codec.{state_length, client_of, with_six, with_shape, with_asked, with_turn, with_completion, with_found, with_progress, with_rest, Small, packed};

@@ -1,10 +1,10 @@
 -- The outstanding commands in their two tables.
-use Rattle.std.specs.Prelude.{◌≡◌, refl, Bool, true, false, ◌&&◌, List, [], ◌∷◌, ◌++◌, ℕ, ◌+◌, ◌-◌, ◌*◌, ◌%◌, ◌≤◌, ◌<◌, take, eqb, ltb}
+use Rattle.std.specs.Prelude.{◌≡◌, refl, Bool, true, false, ◌&&◌, List, [], ◌∷◌, ◌++◌, ℕ, ◌+◌, ◌-◌, ◌*◌, ◌%◌, ◌≤◌, ◌<◌, take, eqb, ltb, if◌then◌else◌}
 use Rattle.std.proofs.Common.{ap, ◌∙◌, subst, arith, pow_mono, eqb-true, eq-eqb, lt-ltb, le-ltb}
 use Rattle.std.proofs.Math.Path.{sym, fun_ext}
 use Rattle.std.proofs.Math.Bool.{and_assoc}
 use Rattle.std.proofs.Math.Decide.{ℕ_discrete, dec_lt}
-use Rattle.lists.specs.Tests.{if◌then◌else◌, and_l, and_r, and-true, both_true}
+use Rattle.lists.specs.Tests.{and_l, and_r, and-true, both_true}
 use Rattle.lists.specs.Search.{any}
 use Rattle.lists.specs.Tables.{put, put_same, put_other}
 use Rattle.rules.specs.Shape as R

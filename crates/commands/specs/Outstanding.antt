@@ -1,6 +1,5 @@
 -- A command among those outstanding.
-use Rattle.std.specs.Prelude.{◌≡◌, Bool, true, false, List, ℕ, ◌-◌, ◌<◌, length, eqb, ltb}
-use Rattle.lists.specs.Tests.{if◌then◌else◌}
+use Rattle.std.specs.Prelude.{◌≡◌, Bool, true, false, List, ℕ, ◌-◌, ◌<◌, length, eqb, ltb, if◌then◌else◌}
 use Rattle.lists.specs.Search.{any, without, first_left}
 use Rattle.rules.specs.State.{Command}
 use Rattle.rules.specs.Completion.{is_command}

@@ -1,5 +1,5 @@
 -- A completion takes its command out of those that the request awaits.
-use Rattle.std.specs.Prelude.{◌≡◌, Bool, List, ℕ, ◌-◌, eqb}
+use Rattle.std.specs.Prelude.{◌≡◌, Bool, List, ℕ, ◌-◌, eqb, if◌then◌else◌}
 use Rattle.std.proofs.Math.Path.{refl, ap, sym}
 use Rattle.std.proofs.Common.{◌∙◌, true≢false, eq-eqb, ne_eqb}
 use Rattle.std.proofs.Math.Bool.{true, false}
@@ -7,7 +7,6 @@ use Rattle.std.proofs.Math.Option.{none, some, map}
 use Rattle.std.proofs.Math.Decide.{ℕ_discrete}
 use Rattle.std.proofs.Math.Dec.{ltb}
 use Rattle.lists.specs.Search.{first_left}
-use Rattle.lists.specs.Tests.{if◌then◌else◌}
 use Rattle.rules.specs.State as R
 use Rattle.rules.specs.State.{State, Command}
 use Rattle.rules.specs.Setters.{set_request}

@@ -1,8 +1,7 @@
 // Completion names a kind and a slot (partition, level, slot), with B bytes for a read.
 #![tactic(auto)]
 
-ghost use Rattle.std.specs.Prelude.{◌≡◌, [], ◌<◌, ◌≤◌, length, eqb};
-ghost use Rattle.lists.specs.Tests.{if◌then◌else◌};
+ghost use Rattle.std.specs.Prelude.{◌≡◌, [], ◌<◌, ◌≤◌, length, eqb, if◌then◌else◌};
 ghost use Rattle.rules.specs.Shape.{slots};
 ghost use Rattle.rules.specs.State.{cmd, read};
 ghost use Rattle.rules.specs.Blocks.{holder};

@@ -1,6 +1,5 @@
 -- What is counted for a page: a table of four rows, each with an entry for each partition and one for all.
-use Rattle.std.specs.Prelude.{◌≡◌, Bool, not, ◌&&◌, List, ℕ, ◌+◌, ◌*◌, ◌<◌, length, get_or, set, eqb}
-use Rattle.lists.specs.Tests.{if◌then◌else◌}
+use Rattle.std.specs.Prelude.{◌≡◌, Bool, not, ◌&&◌, List, ℕ, ◌+◌, ◌*◌, ◌<◌, length, get_or, set, eqb, if◌then◌else◌}
 use Rattle.lists.specs.Search.{keep, below, member}
 use Rattle.rules.specs.State.{State}
 use Rattle.rules.specs.Blocks.{is_nowhere}

@@ -1,11 +1,10 @@
 -- Until a request is released, a turn and a completion hand back how far the client is; the rest of the request, and the shape, stay in the bytes as they
 -- are.
-use Rattle.std.specs.Prelude.{◌≡◌, Bool, List, [], ℕ, eqb}
+use Rattle.std.specs.Prelude.{◌≡◌, Bool, List, [], ℕ, eqb, if◌then◌else◌}
 use Rattle.std.proofs.Math.Path.{refl, ap}
 use Rattle.std.proofs.Common.{sym, true≢false}
 use Rattle.std.proofs.Math.Bool.{true, false}
 use Rattle.std.proofs.Math.Option.{none, some, get_or}
-use Rattle.lists.specs.Tests.{if◌then◌else◌}
 use Rattle.lists.specs.Search.{is_none}
 use Rattle.rules.specs.State.{write}
 use Rattle.rules.specs.Setters.{set_request}

@@ -1,10 +1,9 @@
 -- A turn and a completion release a request in the bytes of the state, once the rest is stored there.
-use Rattle.std.specs.Prelude.{◌≡◌, false, List, ℕ, ◌%◌, eqb, length}
+use Rattle.std.specs.Prelude.{◌≡◌, false, List, ℕ, ◌%◌, eqb, length, if◌then◌else◌}
 use Rattle.std.proofs.Math.Path.{refl}
 use Rattle.std.proofs.Common.{ap, sym, ◌∙◌, subst, mod-eq_of_lt}
 use Rattle.std.proofs.Math.Decide.{ℕ_discrete}
 use Rattle.lists.specs.Tables.{put}
-use Rattle.lists.specs.Tests.{if◌then◌else◌}
 use Rattle.rules.specs.Questions.{Ask}
 use Rattle.rules.specs.Request.{release}
 use Rattle.rules.specs.State.{State}

@@ -1,9 +1,9 @@
 -- What an accepted call reports and leaves is small enough for the bytes in which it is handed back.
-use Rattle.std.specs.Prelude.{◌≡◌, refl, Bool, true, false, List, ℕ, ◌+◌, ◌-◌, ◌%◌, ◌≤◌, ◌<◌, length, get_or, eqb, leb}
+use Rattle.std.specs.Prelude.{◌≡◌, refl, Bool, true, false, List, ℕ, ◌+◌, ◌-◌, ◌%◌, ◌≤◌, ◌<◌, length, get_or, eqb, leb, if◌then◌else◌}
 use Rattle.std.proofs.Common.{ap, mod-eq_of_lt, arith, pow_mono, pow_pos, eqb-true, leb-true, eq-eqb}
 use Rattle.std.proofs.Math.Option
 use Rattle.std.proofs.Math.Option.{Option, none, some}
-use Rattle.lists.specs.Tests.{if◌then◌else◌, and_r, every-yes, between}
+use Rattle.lists.specs.Tests.{and_r, every-yes, between}
 use Rattle.lists.specs.All.{IfSome, all_get_d}
 use Rattle.rules.specs.Shape.{Shape, within, slots}
 use Rattle.rules.specs.Collect.{carried}

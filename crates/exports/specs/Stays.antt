@@ -1,8 +1,7 @@
 -- What a turn and a completion leave of the client's numbers, by the kind of the command.
-use Rattle.std.specs.Prelude.{◌≡◌, refl, Bool, true, false, List, [], ◌∷◌, ℕ, eqb}
+use Rattle.std.specs.Prelude.{◌≡◌, refl, Bool, true, false, List, [], ◌∷◌, ℕ, eqb, if◌then◌else◌}
 use Rattle.std.proofs.Math.Option.{Option, none, some}
 use Rattle.std.proofs.Common.{arith, eq-eqb}
-use Rattle.lists.specs.Tests.{if◌then◌else◌}
 use Rattle.rules.specs.Blocks.{holder}
 use Rattle.rules.specs.Completion.{completed, gather_bytes, complete_read, job_done, end_job, finish_job, complete_write, complete}
 use Rattle.rules.specs.Rebuild.{do_rebuild}

@@ -1,6 +1,6 @@
 -- A turn and a completion store the numbers that they change, and the bytes then say the same as if all that tell how far the client is were stored. So
 -- they stand for the state that is left before a request is released.
-use Rattle.std.specs.Prelude.{◌≡◌, Bool, true, false, ℕ, ◌%◌, length, eqb}
+use Rattle.std.specs.Prelude.{◌≡◌, Bool, true, false, ℕ, ◌%◌, length, eqb, if◌then◌else◌}
 use Rattle.std.proofs.Math.Path.{refl, ap, sym}
 use Rattle.std.proofs.Common.{◌∙◌, subst, true≢false, eqb-true}
 use mathlib.Core.List.{List, []}
@@ -9,7 +9,6 @@ use Rattle.std.proofs.Math.Decide.{ℕ_discrete}
 use Rattle.std.proofs.lemmas.Bool.{eqb-false}
 use Rattle.lists.specs.Search.{is_none}
 use Rattle.lists.specs.Tables.{put}
-use Rattle.lists.specs.Tests.{if◌then◌else◌}
 use Rattle.rules.specs.Draws.{draws}
 use Rattle.rules.specs.Laws.Answers.{opens}
 use Rattle.rules.proofs.Laws.Asked.{asked, turn-asked, completion-asked}

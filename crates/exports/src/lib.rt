@@ -2,8 +2,7 @@
 // first; the answer is one number (see codec::pack). Every value of every number is answered; nothing is required.
 #![tactic(auto)]
 
-ghost use Rattle.std.specs.Prelude.{true, ◌≡◌, List, [], ℕ, ◌≤◌, length, take, replicate};
-ghost use Rattle.lists.specs.Tests.{if◌then◌else◌};
+ghost use Rattle.std.specs.Prelude.{true, ◌≡◌, List, [], ℕ, ◌≤◌, length, take, replicate, if◌then◌else◌};
 ghost use Rattle.rules.specs.Shape.{within};
 ghost use Rattle.rules.specs.State.{cmd};
 ghost use Rattle.rules.specs.Questions.{ready, request, turn, completion as completion_of, collect, save, load};

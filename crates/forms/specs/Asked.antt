@@ -1,5 +1,5 @@
 -- All that the code asks of a payload, and that a form loads exactly if each answer is yes.
-use Rattle.std.specs.Prelude.{◌≡◌, Bool, List, [], ◌∷◌, eqb, replicate}
+use Rattle.std.specs.Prelude.{◌≡◌, Bool, List, [], ◌∷◌, eqb, replicate, if◌then◌else◌}
 use Rattle.std.proofs.Math.Path.{refl, ap, sym}
 use Rattle.std.proofs.Common.{◌∙◌, subst, true≢false}
 use Rattle.std.proofs.Math.Bool.{true, false, not}
@@ -13,7 +13,7 @@ use Rattle.lists.specs.All.{All, all_map, all_both, all_yes, yes-all}
 use Rattle.lists.specs.Distinct.{NoDup}
 use Rattle.lists.specs.Lengths.{bit}
 use Rattle.lists.specs.Search.{all, below, count}
-use Rattle.lists.specs.Tests.{every, Yes, every-yes, yes-every, if◌then◌else◌}
+use Rattle.lists.specs.Tests.{every, Yes, every-yes, yes-every}
 use Rattle.rules.specs.Form.Loading
 use Rattle.rules.specs.Form.Loading.{is_sound, loads, loaded, stored_at, waits_at, state_in, loaded_form}
 use Rattle.rules.specs.Form.Numbers.{each, slot_width}

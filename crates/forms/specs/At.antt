@@ -1,5 +1,5 @@
 -- A payload, read by where its parts lie: bytes past its end read as 0, and at last it is asked whether there are as many as were read.
-use Rattle.std.specs.Prelude.{◌≡◌, Bool, true, false, eqb}
+use Rattle.std.specs.Prelude.{◌≡◌, Bool, true, false, eqb, if◌then◌else◌}
 use Rattle.std.proofs.Math.Path.{refl, ap, subst}
 use Rattle.std.proofs.Common.{◌∙◌, drop-cons, leb-true, leb-false, le-leb}
 use mathlib.Core.List.{List, [], ◌∷◌}
@@ -12,7 +12,6 @@ use Rattle.std.proofs.Math.Seq.{drop-length}
 use Rattle.std.proofs.lemmas.Bool.{lt-leb}
 use Rattle.lists.specs.Lengths.{length-below}
 use Rattle.lists.specs.Search.{keep, below}
-use Rattle.lists.specs.Tests.{if◌then◌else◌}
 use Rattle.rules.specs.Shape.{Shape, slots}
 use Rattle.rules.specs.Form.Numbers.{value, slot_width}
 use Rattle.rules.specs.Form.Payload.{filled_levels, Waiter}

@@ -1,5 +1,5 @@
 -- The blocks of a form, gone through one by one: each is in its place, and no other was in it.
-use Rattle.std.specs.Prelude.{◌≡◌, ◌⊎◌, Bool, ◌&&◌, List, [], ◌∷◌, ℕ, suc, ◌+◌, ◌-◌, ◌*◌, ◌≤◌, ◌<◌, ltb, get_or, set}
+use Rattle.std.specs.Prelude.{◌≡◌, ◌⊎◌, Bool, ◌&&◌, List, [], ◌∷◌, ℕ, suc, ◌+◌, ◌-◌, ◌*◌, ◌≤◌, ◌<◌, ltb, get_or, set, if◌then◌else◌}
 use Rattle.std.proofs.Math.Path.{refl}
 use Rattle.std.proofs.Common.{ap, sym, ◌∙◌, arith}
 use Rattle.std.proofs.Math.Logic.{inl, inr}
@@ -8,7 +8,7 @@ use Rattle.std.proofs.Math.Decide.{ℕ_discrete}
 use Rattle.std.proofs.Math.Dec.{eqb}
 use borrow.Author.Tests.{eqb-true, eq-eqb, ne_eqb, lt-ltb, le-ltb, ltb-true}
 use Rattle.lists.specs.Search.{below, count}
-use Rattle.lists.specs.Tests.{every, every-yes, if◌then◌else◌}
+use Rattle.lists.specs.Tests.{every, every-yes}
 use Rattle.rules.specs.Form.Reading.{Spot, absent, waits, at, is_waiting}
 use Rattle.rules.specs.Levels.{filled}
 use Rattle.rules.specs.Shape.{Shape, slots, cell}

@@ -1,12 +1,12 @@
 -- The levels of a form in turn: the byte behind them, or 0 if one of them is not right.
 use Rattle.std.proofs.Math.Path.{◌≡◌, refl, ap}
 use Rattle.std.proofs.Common.{sym, ◌∙◌, pow_mono}
-use Rattle.std.specs.Prelude.{Bool, ◌&&◌, ℕ, suc, ◌+◌, ◌-◌, ◌*◌, ◌^◌, ◌≤◌, ◌<◌, leb}
+use Rattle.std.specs.Prelude.{Bool, ◌&&◌, ℕ, suc, ◌+◌, ◌-◌, ◌*◌, ◌^◌, ◌≤◌, ◌<◌, leb, if◌then◌else◌}
 use Rattle.std.proofs.Math.Bool.{true, false}
 use mathlib.Core.List.{List, [], ◌∷◌, ◌++◌, map}
 use native.Mathlib.Omega.{arith}
 use Rattle.lists.specs.Search.{all, keep, below, count, keep-yes, keep-no}
-use Rattle.lists.specs.Tests.{every, if◌then◌else◌}
+use Rattle.lists.specs.Tests.{every}
 use Rattle.rules.specs.Form.Numbers.{each}
 use Rattle.rules.specs.Form.Payload.{filled_levels}
 use Rattle.rules.specs.Form.Reading.{Level}

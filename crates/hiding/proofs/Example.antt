@@ -8,11 +8,11 @@
 -- Saved and loaded before the second request, the two lists are told the same as before.
 -- With an honest host, the bytes that a read brings depend on the tape. What is told is the same as if it brought zeros, and where the second
 -- request is collected, the first list's hands out the 7 that it wrote, and the second's a 0.
-use Rattle.std.specs.Prelude.{◌≡◌, refl, Bool, true, false, not, List, [], ◌∷◌, ◌++◌, map, ℕ, ◌<◌, length, get_or, take, drop, eqb, ltb}
+use Rattle.std.specs.Prelude.{◌≡◌, refl, Bool, true, false, not, List, [], ◌∷◌, ◌++◌, map, ℕ, ◌<◌, length, get_or, take, drop, eqb, ltb, if◌then◌else◌}
 use Rattle.std.proofs.Common.{sym, true≢false, arith, ltb-true}
 use Rattle.lists.specs.All.{All, nil, cons, all_yes, all_map}
 use Rattle.lists.specs.Search.{keep, all, below}
-use Rattle.lists.specs.Tests.{if◌then◌else◌, between}
+use Rattle.lists.specs.Tests.{between}
 use Rattle.rules.specs.Questions.{Ask, opening, request, turn, completion, collect, save, load, Call}
 use Rattle.rules.specs.Unfold.{model, shape, call}
 use Rattle.rules.specs.State.{State, Command, cmd, read, write, closed}

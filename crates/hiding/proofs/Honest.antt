@@ -4,9 +4,8 @@
 -- To believe it, read `Together` with crate `rules`, array/specs/Claim.antt and Claim.antt here: `together-from` has it from those two claims alone.
 -- There are such runs for every tape, whatever the contents of the requests and whatever the host had before (`honest-given`), and any run is one
 -- when the host's bytes are put into it (`honest-run`): array/specs/Served.antt.
-use Rattle.std.specs.Prelude.{◌≡◌, refl, Bool, true, false, List, [], ◌∷◌, map, ℕ, length, eqb}
+use Rattle.std.specs.Prelude.{◌≡◌, refl, Bool, true, false, List, [], ◌∷◌, map, ℕ, length, eqb, if◌then◌else◌}
 use Rattle.std.proofs.Common.{ap, ap₂, ◌∙◌, arith}
-use Rattle.lists.specs.Tests.{if◌then◌else◌}
 use Rattle.rules.specs.Questions.{Ask, opening, request, turn, completion, collect, Call, save, load}
 use Rattle.rules.specs.Run.{run}
 use Rattle.rules.specs.Shape.{Shape}

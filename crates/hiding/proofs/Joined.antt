@@ -9,10 +9,10 @@
 -- that both second requests read slot 1. Each pair of slots is then read with six of the 48 choices of the last draws. Both lists go on with
 -- completions of slot 1 of level 0 and slot 2 of level 1, and a collect, which is accepted with those six choices. Computed are eight choices
 -- of each list, one for each pair of slots.
-use Rattle.std.specs.Prelude.{◌≡◌, refl, ◌&&◌, List, [], ◌∷◌, map, ℕ, ◌+◌, ◌*◌, length, get_or, eqb}
+use Rattle.std.specs.Prelude.{◌≡◌, refl, ◌&&◌, List, [], ◌∷◌, map, ℕ, ◌+◌, ◌*◌, length, get_or, eqb, if◌then◌else◌}
 use Rattle.std.proofs.Common.{arith}
 use Rattle.lists.specs.Search.{keep, below}
-use Rattle.lists.specs.Tests.{if◌then◌else◌, between}
+use Rattle.lists.specs.Tests.{between}
 use Rattle.rules.specs.Questions.{Ask, opening, request, collect, Call}
 use Rattle.rules.specs.Unfold.{model, shape, call}
 use Rattle.rules.specs.State.{Command, cmd, read, write, closed}

@@ -1,5 +1,5 @@
 -- Every state that calls left has what the stages need: the crate `reachable` gives it.
-use Rattle.std.specs.Prelude.{◌≡◌, ◌||◌, Bool, ◌&&◌, ℕ, suc, ◌<◌, length, replicate, List, [], ◌∷◌, map}
+use Rattle.std.specs.Prelude.{◌≡◌, ◌||◌, Bool, ◌&&◌, ℕ, suc, ◌<◌, length, replicate, List, [], ◌∷◌, map, if◌then◌else◌}
 use Rattle.std.proofs.Math.Path.{refl, fun_ext}
 use Rattle.std.proofs.Common.{ap, sym, ◌∙◌, subst, true≢false, arith, ne_eqb, ltb-true, eqb-true}
 use Rattle.std.proofs.Math.Bool.{true, false}
@@ -23,7 +23,6 @@ use Rattle.rules.proofs.Laws.Orders.{drew-length}
 use Rattle.lists.specs.Places.{map_same}
 use Rattle.lists.specs.Members.{mem_below}
 use Rattle.lists.specs.All.{All, nil, cons, map_below}
-use Rattle.lists.specs.Tests.{if◌then◌else◌}
 use Rattle.rules.proofs.Laws.Range.{facts-range}
 use Rattle.rules.specs.Collect.{finished}
 use Rattle.rules.proofs.Laws.Kept.{fresh_in_lem}

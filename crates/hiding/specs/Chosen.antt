@@ -1,8 +1,7 @@
 -- Calls that are chosen by what was told: a host that completes the commands it was sent names slots that depend on the tape, so its calls are no
 -- list that is known beforehand. They may choose to save and to load: a load is of the run's own form. The tapes of two who choose alike are matched
 -- as those of compared lists are: `chosen-from` has it from `Claim`, and from that what is told can be computed from a tape. With an honest host in both, demand 2 holds besides: `chosen-together`.
-use Rattle.std.specs.Prelude.{◌≡◌, List, [], ◌∷◌, map, ℕ, suc, length, eqb, ltb}
-use Rattle.lists.specs.Tests.{if◌then◌else◌}
+use Rattle.std.specs.Prelude.{◌≡◌, List, [], ◌∷◌, map, ℕ, suc, length, eqb, ltb, if◌then◌else◌}
 use Rattle.rules.specs.Questions.{Call}
 use Rattle.rules.specs.Resumes.{Resumes}
 use Rattle.rules.specs.Run.{Outcome, run}

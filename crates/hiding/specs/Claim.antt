@@ -34,9 +34,8 @@
 --   "For the smaller cache ..": `Smaller`, "with the smaller cache too, each of the two runs loads the form that it saved itself". The bytes
 --     brought may be any in either run (`tells`); with the same bytes in both, the bytes handed out are equal too (`whole`), but for those of a
 --     form, which has E in it.
-use Rattle.std.specs.Prelude.{◌≡◌, Bool, true, false, ◌&&◌, List, [], ◌∷◌, ◌++◌, map, ℕ, ◌+◌, ◌≤◌, ◌<◌, length, take, drop, eqb}
+use Rattle.std.specs.Prelude.{◌≡◌, Bool, true, false, ◌&&◌, List, [], ◌∷◌, ◌++◌, map, ℕ, ◌+◌, ◌≤◌, ◌<◌, length, take, drop, eqb, if◌then◌else◌}
 use Rattle.lists.specs.All.{All}
-use Rattle.lists.specs.Tests.{if◌then◌else◌}
 use Rattle.rules.specs.Ranges.{is_kind, bytes_of}
 use Rattle.rules.specs.Questions.{Ask, opening, request, turn, completion, collect, save, load, Call}
 use Rattle.rules.specs.Run.{Outcome, step, run}

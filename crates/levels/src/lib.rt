@@ -1,8 +1,7 @@
 // Levels and their slots: which is read next, what they hold.
 #![tactic(auto)]
 
-ghost use Rattle.std.specs.Prelude.{◌≡◌, ◌+◌, ◌-◌, ◌*◌, ◌<◌, ◌≤◌, length};
-ghost use Rattle.lists.specs.Tests.{if◌then◌else◌};
+ghost use Rattle.std.specs.Prelude.{◌≡◌, ◌+◌, ◌-◌, ◌*◌, ◌<◌, ◌≤◌, length, if◌then◌else◌};
 ghost use Rattle.rules.specs.Shape.{slots, cell as cell_of};
 ghost use Rattle.rules.specs.Levels.{filled};
 ghost use Rattle.rules.specs.Jobs.{top_of};

@@ -1,7 +1,7 @@
 -- Document 01, "A session, whole": what a line says. A line is a list of bytes, without the newline that ends it.
-use Rattle.std.specs.Prelude.{Bool, true, false, not, List, [], ◌∷◌, ℕ, ◌+◌, ◌-◌, ◌*◌, length, get_or, eqb, leb}
+use Rattle.std.specs.Prelude.{Bool, true, false, not, List, [], ◌∷◌, ℕ, ◌+◌, ◌-◌, ◌*◌, length, get_or, eqb, leb, if◌then◌else◌}
 use Rattle.std.proofs.Math.Option.{Option, none, some}
-use Rattle.lists.specs.Tests.{if◌then◌else◌, between}
+use Rattle.lists.specs.Tests.{between}
 use Rattle.rules.specs.Shape.{Shape}
 
 -- "O (N P L B E W), R (block), W (block, contents in hexadecimal), t (a turn, ..), C (collect)"; "a line that departs from this is malformed"

@@ -1,7 +1,6 @@
 -- What the code's answers say.
-use Rattle.std.specs.Prelude.{List, ℕ, ◌/◌, ◌≤◌, ◌<◌, length, take, leb, eqb}
+use Rattle.std.specs.Prelude.{List, ℕ, ◌/◌, ◌≤◌, ◌<◌, length, take, leb, eqb, if◌then◌else◌}
 use Rattle.std.proofs.Math.Option.{Option, none, some}
-use Rattle.lists.specs.Tests.{if◌then◌else◌}
 use Rattle.memory.specs.Fits.{shape_of}
 use Rattle.tape.specs.Tape.{words_of}
 use Rattle.lines.specs.Lines as Lines

@@ -2,12 +2,6 @@
 use Rattle.std.specs.Prelude.{◌≡◌, refl, Bool, true, false, not, ◌&&◌, ◌||◌, ◌⊎◌, List, [], ◌∷◌, ℕ, leb}
 use Rattle.std.proofs.Common.{sym, true≢false, inl, inr}
 
-infix 10 if◌then◌else◌
-module _ {A : Type 0} where
-  abbrev pub if◌then◌else◌ : Bool → A → A → A
-  if◌then◌else◌ true x y = x
-  if◌then◌else◌ false x y = y
-
 -- all tests pass
 unfoldable pub every : List Bool → Bool
 every [] = true

@@ -1,11 +1,11 @@
 -- Load: its number, and the form by the shape that the code reads.
-use Rattle.std.specs.Prelude.{◌≡◌, refl, Bool, true, false, ◌&&◌, List, [], ◌∷◌, ℕ, ◌+◌, ◌*◌, ◌%◌, ◌≤◌, eqb, leb, ltb, length}
+use Rattle.std.specs.Prelude.{◌≡◌, refl, Bool, true, false, ◌&&◌, List, [], ◌∷◌, ℕ, ◌+◌, ◌*◌, ◌%◌, ◌≤◌, eqb, leb, ltb, length, if◌then◌else◌}
 use Rattle.std.proofs.Math.Path.{ap, sym}
 use Rattle.std.proofs.Common.{◌∙◌, subst, arith, eqb-true, leb-true}
 use Rattle.std.proofs.Math.ListN.{drop}
 use Rattle.lists.specs.All.{All, all_map, all_both}
 use Rattle.lists.specs.Search.{below}
-use Rattle.lists.specs.Tests.{and_l, and_r, if◌then◌else◌}
+use Rattle.lists.specs.Tests.{and_l, and_r}
 use Rattle.rules.specs.Form.Loading.{loads, loaded_form, loaded}
 use Rattle.rules.specs.Form.Numbers.{each}
 use Rattle.rules.specs.Form.Payload.{Waiter}

@@ -1,6 +1,5 @@
 -- The tables that lie in the lent memory, one after the other, then the blocks; what is past them is the tail. Written by gen/tables.py.
-use Rattle.std.specs.Prelude.{◌≡◌, refl, List, [], ◌∷◌, ℕ, eqb, drop}
-use Rattle.lists.specs.Tests.{if◌then◌else◌}
+use Rattle.std.specs.Prelude.{◌≡◌, refl, List, [], ◌∷◌, ℕ, eqb, drop, if◌then◌else◌}
 use Rattle.rules.specs.Shape.{Shape}
 use Rattle.rules.specs.Memory.{needed}
 use Rattle.memory.specs.Words.{window}

@@ -1,5 +1,6 @@
 // Numbers and blocks in lent bytes.
 #![tactic(auto)]
+
 ghost use Rattle.std.specs.Prelude.{◌≡◌, ◌+◌, ◌*◌, ◌<◌, length};
 ghost use Rattle.memory.specs.Words.{word_at, set_word};
 

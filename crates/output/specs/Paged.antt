@@ -1,6 +1,5 @@
 -- The page that an input leaves.
-use Rattle.std.specs.Prelude.{◌≡◌, true, List, [], ℕ}
-use Rattle.lists.specs.Tests.{if◌then◌else◌}
+use Rattle.std.specs.Prelude.{◌≡◌, true, List, [], ℕ, if◌then◌else◌}
 use Rattle.report.specs.Page.{page, shown}
 use Rattle.session.specs.Session.{memory_room, left}
 use Rattle.session.specs.Opened.{opened, opened-ready}

@@ -1,6 +1,5 @@
 -- Document 01, "A session, whole": what the session program prints. A text is a list of bytes, and a byte a number.
-use Rattle.std.specs.Prelude.{true, false, List, [], ◌∷◌, ◌++◌, ℕ, zero, suc, ◌+◌, ◌/◌, ◌%◌, eqb, ltb}
-use Rattle.lists.specs.Tests.{if◌then◌else◌}
+use Rattle.std.specs.Prelude.{true, false, List, [], ◌∷◌, ◌++◌, ℕ, zero, suc, ◌+◌, ◌/◌, ◌%◌, eqb, ltb, if◌then◌else◌}
 use Rattle.rules.specs.State.{Command, read}
 
 abbrev pub blank : ℕ

@@ -1,12 +1,11 @@
 -- A turn that begins the front job's run, or goes on with it: the state's number of jobs is from then on that of the run, and what the run reads and
 -- writes, and which requests wait for it, stays as it was.
-use Rattle.std.specs.Prelude.{◌≡◌, Bool, ◌&&◌, List, ◌∷◌, ℕ, ◌≤◌}
+use Rattle.std.specs.Prelude.{◌≡◌, Bool, ◌&&◌, List, ◌∷◌, ℕ, ◌≤◌, if◌then◌else◌}
 use Rattle.std.proofs.Math.Path.{refl, ap, fun_ext}
 use Rattle.std.proofs.Common.{sym, ◌∙◌, subst, arith}
 use Rattle.std.proofs.Math.Bool.{true, false}
 use Rattle.std.proofs.Math.Dec.{leb}
 use Rattle.lists.specs.Distinct.{Mem}
-use Rattle.lists.specs.Tests.{if◌then◌else◌}
 use Rattle.rules.specs.Jobs.{queued, begun_with, joined, top_of}
 use Rattle.rules.specs.Levels.{filled, joins, top_level, written_levels}
 use Rattle.rules.proofs.Laws.Levels.{joins-all, begun-some}

@@ -1,5 +1,5 @@
 -- What follows from the invariant, for the steps that keep it and for the crates above.
-use Rattle.std.specs.Prelude.{◌≡◌, ◌⊎◌, false, not, ◌&&◌, ◌||◌, Bool, take}
+use Rattle.std.specs.Prelude.{◌≡◌, ◌⊎◌, false, not, ◌&&◌, ◌||◌, Bool, take, if◌then◌else◌}
 use Rattle.std.proofs.Math.Path.{refl, ap}
 use Rattle.std.proofs.Common.{sym, ◌∙◌, subst, ⊎_elim, inl, inr, true≢false, arith, take-append-drop}
 use Rattle.std.proofs.Math.Bool.{true}
@@ -18,7 +18,7 @@ use Rattle.lists.specs.Members.{kept-none, all-mem, below-mem}
 use Rattle.lists.specs.Search
 use Rattle.lists.specs.Search.{below, find, any}
 use Rattle.lists.specs.Tables.{put, put_has}
-use Rattle.lists.specs.Tests.{and_l, and_r, if◌then◌else◌}
+use Rattle.lists.specs.Tests.{and_l, and_r}
 use Rattle.rules.specs.Blocks
 use Rattle.rules.specs.Collect
 use Rattle.rules.specs.Completion

@@ -1,9 +1,9 @@
 -- The figures of a page in states that calls left: those that wait are the list of waiting blocks, and a begun job is queued.
-use Rattle.std.specs.Prelude.{◌≡◌, refl, ◌⊎◌, Bool, true, false, ◌&&◌, List, ◌∷◌, ℕ, ◌≤◌, length}
+use Rattle.std.specs.Prelude.{◌≡◌, refl, ◌⊎◌, Bool, true, false, ◌&&◌, List, ◌∷◌, ℕ, ◌≤◌, length, if◌then◌else◌}
 use Rattle.std.proofs.Common.{inl, inr}
 use Rattle.std.proofs.Math.Option.{none, some}
 use native.Mathlib.Omega.{arith}
-use Rattle.lists.specs.Tests.{if◌then◌else◌, and_r}
+use Rattle.lists.specs.Tests.{and_r}
 use Rattle.lists.specs.All.{keep-passes}
 use Rattle.lists.specs.Members.{member-mem, mem-member, all-mem, mem-keep, below-mem, nodup-keep, nodup-below, nodup-sub}
 use Rattle.lists.specs.Search.{keep, below, member}

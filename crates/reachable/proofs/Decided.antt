@@ -1,7 +1,7 @@
 -- What a turn's step says of the state it was decided in.
 use Rattle.std.proofs.Math.Path.{◌≡◌, refl, ap}
 use Rattle.std.proofs.Common.{sym, ◌∙◌, arith, eqb-true, eq-eqb}
-use Rattle.std.specs.Prelude.{◌⊎◌, Bool, ◌&&◌, ◌||◌, leb}
+use Rattle.std.specs.Prelude.{◌⊎◌, Bool, ◌&&◌, ◌||◌, leb, if◌then◌else◌}
 use Rattle.std.proofs.Math.Logic.{inl, inr}
 use Rattle.std.proofs.Math.Bool.{true, false, not, true≢false}
 use mathlib.Core.List.{List, [], ◌∷◌}
@@ -13,7 +13,7 @@ use Rattle.lists.specs.All.{All, nil, cons, IfSome, all_map, all_keep, count-bel
 use Rattle.lists.specs.Members.{count-from, keep-first}
 use Rattle.lists.specs.Search
 use Rattle.lists.specs.Search.{find, or_else}
-use Rattle.lists.specs.Tests.{if◌then◌else◌, and_l, and_r, and-true, or-false-l, or-false-r}
+use Rattle.lists.specs.Tests.{and_l, and_r, and-true, or-false-l, or-false-r}
 use Rattle.rules.specs.Blocks
 use Rattle.rules.proofs.Laws.Decided.{places-in}
 use Rattle.rules.specs.Jobs.{top_of, levels_of, write_at}

@@ -1,8 +1,7 @@
 -- Computed. How many blocks wait depends on the draws, and nothing but E bounds it: here all blocks wait though no partition stores one. Each next
 -- partition drawn is 1 and each eviction partition 0, so that every job is for partition 0, for which nobody waits. And a look-up beside a run of two
 -- jobs.
-use Rattle.std.specs.Prelude.{◌≡◌, refl, Bool, true, false, List, [], ◌∷◌, ◌++◌, ℕ, zero, suc, replicate, eqb}
-use Rattle.lists.specs.Tests.{if◌then◌else◌}
+use Rattle.std.specs.Prelude.{◌≡◌, refl, Bool, true, false, List, [], ◌∷◌, ◌++◌, ℕ, zero, suc, replicate, eqb, if◌then◌else◌}
 use Rattle.rules.specs.Blocks.{blocks_in}
 use Rattle.rules.specs.Questions.{opening, request, turn, completion, collect, in_hand, Call}
 use Rattle.rules.specs.Request.{held}

@@ -2,7 +2,7 @@
 use Rattle.std.proofs.Math.Option.{get_or, none, some}
 use Rattle.std.proofs.Math.Path.{◌≡◌, refl, ap, subst}
 use Rattle.std.proofs.Common.{sym, ◌∙◌, inl, inr, ⊎_elim, true≢false, arith}
-use Rattle.std.specs.Prelude.{◌⊎◌, Bool, ◌&&◌, List, ◌∷◌, eqb}
+use Rattle.std.specs.Prelude.{◌⊎◌, Bool, ◌&&◌, List, ◌∷◌, eqb, if◌then◌else◌}
 use Rattle.std.proofs.Math.Bool.{true, false}
 use Prim.Native.Nat.{ℕ, ◌+◌, ◌≤◌, ◌<◌, suc}
 use Rattle.std.proofs.Math.Decide.{dec_lt}
@@ -11,7 +11,7 @@ use borrow.Author.Tests.{eqb-true, eqb-false, ne_eqb, eq-eqb, leb-false}
 use Rattle.lists.specs.All.{all_map, find-same}
 use Rattle.lists.specs.Members.{find_first}
 use Rattle.lists.specs.Search.{find, below, is_none}
-use Rattle.lists.specs.Tests.{if◌then◌else◌, and_l, and_r, and-true}
+use Rattle.lists.specs.Tests.{and_l, and_r, and-true}
 use Rattle.rules.specs.Blocks
 use Rattle.rules.proofs.Laws.Answers.{step-accepted, step-refused}
 use Rattle.rules.proofs.Laws.Decided.{places-in}

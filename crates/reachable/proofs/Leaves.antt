@@ -1,5 +1,5 @@
 -- Document 02, P4: "and the wanted block leaves the job."
-use Rattle.std.specs.Prelude.{◌≡◌, Bool, true, List, [], ◌∷◌, ℕ, suc, ◌<◌, eqb}
+use Rattle.std.specs.Prelude.{◌≡◌, Bool, true, List, [], ◌∷◌, ℕ, suc, ◌<◌, eqb, if◌then◌else◌}
 use Rattle.std.proofs.Math.Path.{refl, ap}
 use Rattle.std.proofs.Common.{sym, ◌∙◌, ⊎_elim, true≢false, eqb-true}
 use Rattle.std.proofs.Math.Bool.{false}
@@ -8,7 +8,6 @@ use Rattle.std.proofs.lemmas.Bool.{eqb-false}
 use Rattle.lists.specs.All.{All, cons}
 use Rattle.lists.specs.Distinct.{Mem}
 use Rattle.lists.specs.Tables.{put_same, put_has}
-use Rattle.lists.specs.Tests.{if◌then◌else◌}
 use Rattle.rules.specs.Blocks.{holder}
 use Rattle.rules.specs.Collect.{collected, finish}
 use Rattle.rules.specs.Completion

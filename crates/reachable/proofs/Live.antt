@@ -1,11 +1,11 @@
 -- Which levels are live: the filled ones, where a run whose orders are drawn counts as done.
-use Rattle.std.specs.Prelude.{◌≡◌, Bool, ◌&&◌, List, [], ◌∷◌, ℕ, ◌≤◌, eqb, leb}
+use Rattle.std.specs.Prelude.{◌≡◌, Bool, ◌&&◌, List, [], ◌∷◌, ℕ, ◌≤◌, eqb, leb, if◌then◌else◌}
 use Rattle.std.proofs.Math.Path.{refl}
 use Rattle.std.proofs.Common.{ap, sym, ◌∙◌, subst, true≢false, inl, arith}
 use Rattle.std.proofs.Math.Bool.{true, false, not}
 use borrow.Author.Tests.{eqb-true, eq-eqb, ne_eqb, leb-true, le-leb}
 use Rattle.lists.specs.Distinct.{Mem}
-use Rattle.lists.specs.Tests.{if◌then◌else◌, and_l, and_r, and-true}
+use Rattle.lists.specs.Tests.{and_l, and_r, and-true}
 use Rattle.rules.specs.Jobs.{queued, begun_with, joined, top_of}
 use Rattle.rules.specs.Levels.{filled, joins, grown}
 use Rattle.rules.proofs.Laws.Levels.{joins-all, begun-some}

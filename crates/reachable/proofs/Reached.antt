@@ -1,5 +1,5 @@
 -- Every state that calls left is closed, or has the invariant.
-use Rattle.std.specs.Prelude.{◌≡◌, Bool, true, ◌&&◌, List, [], ℕ, ◌<◌, eqb, leb, length, replicate}
+use Rattle.std.specs.Prelude.{◌≡◌, Bool, true, ◌&&◌, List, [], ℕ, ◌<◌, eqb, leb, length, replicate, if◌then◌else◌}
 use Rattle.std.proofs.Math.Path.{refl}
 use Rattle.std.proofs.Common.{sym, ◌∙◌, true≢false, eqb-true}
 use Rattle.std.proofs.Math.Bool.{false}
@@ -18,7 +18,7 @@ use Rattle.rules.proofs.Laws.Orders.{drew-length}
 use Rattle.rules.specs.Form.Loading.{loads, loaded_form, is_sound}
 use Rattle.lists.specs.All.{nil, cons, all_replicate}
 use Rattle.lists.specs.Search
-use Rattle.lists.specs.Tests.{if◌then◌else◌, and_l}
+use Rattle.lists.specs.Tests.{and_l}
 use Rattle.rules.specs.Blocks
 use Rattle.rules.specs.Collect
 use Rattle.rules.specs.Completion

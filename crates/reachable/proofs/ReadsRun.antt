@@ -1,5 +1,5 @@
 -- Document 02, P6: what is sent for a request from its release to its collect.
-use Rattle.std.specs.Prelude.{◌≡◌, refl, ◌⊎◌, Bool, true, false, not, ◌&&◌, List, [], ◌∷◌, ◌++◌, map, ℕ, ◌-◌, eqb, length}
+use Rattle.std.specs.Prelude.{◌≡◌, refl, ◌⊎◌, Bool, true, false, not, ◌&&◌, List, [], ◌∷◌, ◌++◌, map, ℕ, ◌-◌, eqb, length, if◌then◌else◌}
 use Rattle.std.proofs.Math.Path.{ap}
 use Rattle.std.proofs.Common.{sym, ◌∙◌, inl, inr, ⊎_elim, true≢false, append_assoc, arith, eqb-true}
 use Rattle.std.proofs.lemmas.List.{map-append}
@@ -9,7 +9,6 @@ use Rattle.std.proofs.Math.Dec.{ltb}
 use Rattle.std.proofs.lemmas.Bool.{eqb-false}
 use Rattle.lists.specs.Members.{keep-cons}
 use Rattle.lists.specs.Search.{below, count, keep}
-use Rattle.lists.specs.Tests.{if◌then◌else◌}
 use Rattle.rules.specs.Blocks.{look_up}
 use Rattle.rules.specs.Collect
 use Rattle.rules.specs.Draws.{draws}

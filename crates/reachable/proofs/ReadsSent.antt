@@ -1,7 +1,7 @@
 -- Document 02, P6: the reads that each call sends for a released request, and what the partition reader has left for it then.
 use Rattle.std.proofs.Math.Path.{◌≡◌, refl, ap, sym, subst}
 use Rattle.std.proofs.Common.{◌∙◌, inr, ⊎_elim}
-use Rattle.std.specs.Prelude.{◌⊎◌, Bool, ◌&&◌, ◌||◌, ltb}
+use Rattle.std.specs.Prelude.{◌⊎◌, Bool, ◌&&◌, ◌||◌, ltb, if◌then◌else◌}
 use Rattle.std.proofs.Math.Logic.{inl}
 use Rattle.std.proofs.Math.Bool.{true, false, true≢false}
 use mathlib.Core.List.{List, [], ◌∷◌, ◌++◌, map}
@@ -16,7 +16,7 @@ use borrow.Author.Tests.{eqb-true, eqb-false}
 use Rattle.lists.specs.Search
 use Rattle.lists.specs.Search.{any, count, keep}
 use Rattle.lists.specs.Tables.{put, put_same, put_other}
-use Rattle.lists.specs.Tests.{if◌then◌else◌, and_l}
+use Rattle.lists.specs.Tests.{and_l}
 use Rattle.rules.specs.Blocks.{is_unread, holder}
 use Rattle.rules.specs.Completion
 use Rattle.rules.specs.Draws.{draws, Drew}

@@ -2,7 +2,7 @@
 -- rules, with nothing of the invariant (the words are in Terms).
 use Rattle.std.proofs.Math.Path.{◌≡◌, refl, ap, sym, subst}
 use Rattle.std.proofs.Common.{◌∙◌, true≢false, arith, eqb-true}
-use Rattle.std.specs.Prelude.{◌⊎◌, Bool, List, [], ◌∷◌, ℕ, ◌+◌, ◌≤◌, eqb}
+use Rattle.std.specs.Prelude.{◌⊎◌, Bool, List, [], ◌∷◌, ℕ, ◌+◌, ◌≤◌, eqb, if◌then◌else◌}
 use Rattle.std.proofs.Math.Logic.{inl, inr, ⊎_elim}
 use Rattle.std.proofs.Math.Bool.{true, false, not}
 use Rattle.std.proofs.Math.Option.{Option, none, some}
@@ -11,7 +11,7 @@ use Rattle.std.proofs.lemmas.Bool.{eqb-false}
 use Rattle.lists.specs.All.{All, nil, cons}
 use Rattle.lists.specs.Search.{keep}
 use Rattle.lists.specs.Tables.{put_same, put_other}
-use Rattle.lists.specs.Tests.{if◌then◌else◌, and_l}
+use Rattle.lists.specs.Tests.{and_l}
 use Rattle.rules.specs.Blocks.{holder}
 use Rattle.rules.specs.Collect.{collected, finish}
 use Rattle.rules.specs.Completion

@@ -1,6 +1,6 @@
 -- Two states that differ only in what no call reads: orders of levels that are not live, and contents of blocks that the client does not have. What
 -- a call asks and answers is the same in both.
-use Rattle.std.specs.Prelude.{◌≡◌, Bool, ◌&&◌, leb, length}
+use Rattle.std.specs.Prelude.{◌≡◌, Bool, ◌&&◌, leb, length, if◌then◌else◌}
 use Rattle.std.proofs.Math.Path.{refl, ap, sym, ap₂}
 use Rattle.std.proofs.Common.{◌∙◌, inl, inr, true≢false, arith}
 use Rattle.std.proofs.Math.Bool.{true, false}
@@ -22,7 +22,6 @@ use Rattle.lists.specs.Distinct.{Mem}
 use Rattle.lists.specs.Members.{mem_below, keep-mem, mem-count, all-mem, mem-all}
 use Rattle.lists.specs.Places.{map_same}
 use Rattle.lists.specs.Search.{find, below, count, keep, is_none}
-use Rattle.lists.specs.Tests.{if◌then◌else◌}
 use Rattle.rules.specs.Blocks
 use Rattle.rules.specs.Laws.Form.Saveable.{over}
 use Rattle.rules.specs.Levels.{filled}

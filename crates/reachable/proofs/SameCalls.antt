@@ -1,5 +1,5 @@
 -- Two states that differ only in what a form leaves out: what each turn, completion and collect does is the same in both, and leaves two such states.
-use Rattle.std.specs.Prelude.{◌≡◌, Bool, ◌&&◌, length, get_or}
+use Rattle.std.specs.Prelude.{◌≡◌, Bool, ◌&&◌, length, get_or, if◌then◌else◌}
 use Rattle.std.proofs.Math.Path.{refl, ap, sym}
 use Rattle.std.proofs.Common.{◌∙◌, subst, inl, arith, eqb-true, pow_pos}
 use Rattle.std.proofs.Math.Logic.{⊎_elim}
@@ -18,7 +18,6 @@ use Rattle.lists.specs.Distinct.{Mem}
 use Rattle.lists.specs.Members.{all-mem, append-mem, keep-mem, member-mem}
 use Rattle.lists.specs.Search
 use Rattle.lists.specs.Tables.{put, put_same, put_other}
-use Rattle.lists.specs.Tests.{if◌then◌else◌}
 use Rattle.rules.specs.Blocks
 use Rattle.rules.specs.Collect.{finish, finished}
 use Rattle.rules.specs.Completion

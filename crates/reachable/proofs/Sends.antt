@@ -1,7 +1,7 @@
 -- The commands sent to one slot over a run: each read of it follows a write of it.
 use Rattle.std.proofs.Math.Path.{◌≡◌, refl, ap, sym, subst}
 use Rattle.std.proofs.Common.{◌∙◌, true≢false, arith}
-use Rattle.std.specs.Prelude.{Bool, not, ◌&&◌, ◌||◌, ℕ, suc, ◌<◌, get_or}
+use Rattle.std.specs.Prelude.{Bool, not, ◌&&◌, ◌||◌, ℕ, suc, ◌<◌, get_or, if◌then◌else◌}
 use Rattle.std.proofs.Math.Bool.{true, false}
 use mathlib.Core.List.{List, [], ◌∷◌, ◌++◌}
 use Rattle.std.proofs.Math.Option.{Option, none, some}
@@ -16,7 +16,7 @@ use Rattle.lists.specs.Members.{dec_mem}
 use Rattle.lists.specs.Search
 use Rattle.lists.specs.Search.{any}
 use Rattle.lists.specs.Tables.{put, put_same, put_other}
-use Rattle.lists.specs.Tests.{or_left, or_right, if◌then◌else◌, and_l}
+use Rattle.lists.specs.Tests.{or_left, or_right, and_l}
 use Rattle.rules.specs.Blocks
 use Rattle.rules.specs.Collect
 use Rattle.rules.specs.Completion

@@ -1,12 +1,12 @@
 -- After every call a request that is held is held by the rule: one that may be released is released by the call that makes it so.
-use Rattle.std.specs.Prelude.{◌≡◌, Bool, ◌&&◌, ℕ, length, eqb}
+use Rattle.std.specs.Prelude.{◌≡◌, Bool, ◌&&◌, ℕ, length, eqb, if◌then◌else◌}
 use Rattle.std.proofs.Math.Path.{refl, ap}
 use Rattle.std.proofs.Common.{sym, ◌∙◌, true≢false, arith, eqb-true}
 use Rattle.std.proofs.Math.Bool.{true, false, not}
 use Rattle.std.proofs.Math.Option.{Option, none, some, map}
 use Rattle.std.proofs.lemmas.Bool.{eqb-false}
 use Rattle.lists.specs.Search.{is_none}
-use Rattle.lists.specs.Tests.{if◌then◌else◌, and-true}
+use Rattle.lists.specs.Tests.{and-true}
 use Rattle.rules.specs.Jobs.{joined, top_of}
 use Rattle.rules.specs.Blocks.{look_up}
 use Rattle.rules.specs.Draws.{draws}

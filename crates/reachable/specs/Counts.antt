@@ -1,7 +1,6 @@
 -- The figures of a page in states that calls left: those that wait are the list of waiting blocks, and a begun job is queued.
-use Rattle.std.specs.Prelude.{ℕ}
+use Rattle.std.specs.Prelude.{ℕ, if◌then◌else◌}
 use Rattle.std.proofs.Math.Option.{Option, none, some}
-use Rattle.lists.specs.Tests.{if◌then◌else◌}
 use Rattle.rules.specs.Request.{is_source}
 use Rattle.rules.specs.State.{State}
 use Rattle.rules.specs.Turn.{Step, idle, no_dummy, read_for_request, read_for_job, rebuild, write_next}

@@ -1,11 +1,10 @@
 -- Which levels are live: the filled ones, where a run whose orders are drawn counts as done.
-use Rattle.std.specs.Prelude.{◌≡◌, Bool, ◌&&◌, List, [], ◌∷◌, ℕ, zero, suc, ◌+◌, ◌≤◌, ◌<◌, eqb, ltb}
+use Rattle.std.specs.Prelude.{◌≡◌, Bool, ◌&&◌, List, [], ◌∷◌, ℕ, zero, suc, ◌+◌, ◌≤◌, ◌<◌, eqb, ltb, if◌then◌else◌}
 use Rattle.std.proofs.Math.Bool.{true, false, not}
 use Rattle.std.proofs.Math.Option.{Option, none, some}
 use Rattle.lists.specs.Distinct.{Mem}
 use Rattle.lists.specs.Lengths.{bit}
 use Rattle.lists.specs.Search.{keep, below}
-use Rattle.lists.specs.Tests.{if◌then◌else◌}
 use Rattle.rules.specs.Jobs.{queued, begun_with, leave_queue}
 use Rattle.rules.specs.Levels.{filled, joins, grown, top_level, written_levels}
 use Rattle.rules.specs.Request.{is_front}

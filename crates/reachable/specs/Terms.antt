@@ -1,5 +1,5 @@
 -- Words that the theorems use: nothing of the invariant.
-use Rattle.std.specs.Prelude.{◌≡◌, Bool, true, false, not, ◌&&◌, List, [], ◌∷◌, ◌++◌, map, ℕ, ◌+◌, ◌^◌, ◌≤◌, ◌<◌, eqb, ltb, length}
+use Rattle.std.specs.Prelude.{◌≡◌, Bool, true, false, not, ◌&&◌, List, [], ◌∷◌, ◌++◌, map, ℕ, ◌+◌, ◌^◌, ◌≤◌, ◌<◌, eqb, ltb, length, if◌then◌else◌}
 use Rattle.std.proofs.Math.Option.{Option, none, some}
 use Rattle.rules.specs.Jobs.{queued, leave_queue, slot_count}
 use Rattle.rules.specs.Laws.Single.Rules.{written_apart}
@@ -8,7 +8,6 @@ use Rattle.rules.specs.Laws.Answers.{opens}
 use Rattle.rules.specs.Questions.{Ask, opening, request, turn, completion, collect, save, load, Call, number}
 use Rattle.lists.specs.All.{All}
 use Rattle.lists.specs.Search.{keep}
-use Rattle.lists.specs.Tests.{if◌then◌else◌}
 use Rattle.rules.specs.Run.{Outcome, step}
 use Rattle.rules.specs.Shape.{Shape, cell, slots}
 use Rattle.rules.specs.State.{State, Command, cmd, read, write}

@@ -1,5 +1,5 @@
 -- The conditions of levels, and whether one has been read as often as it has dummies, by counts of their slots.
-use Rattle.std.specs.Prelude.{◌≡◌, Bool, not, ◌&&◌, ◌||◌, ℕ, zero, suc, ◌+◌, ◌-◌, ◌^◌, ◌≤◌, ◌<◌}
+use Rattle.std.specs.Prelude.{◌≡◌, Bool, not, ◌&&◌, ◌||◌, ℕ, zero, suc, ◌+◌, ◌-◌, ◌^◌, ◌≤◌, ◌<◌, if◌then◌else◌}
 use Rattle.std.proofs.Math.Path.{refl, sym}
 use Rattle.std.proofs.Common.{ap, ◌∙◌, true≢false, arith}
 use Rattle.std.proofs.Math.Bool.{true, false}
@@ -9,7 +9,7 @@ use borrow.Author.Tests.{eqb-true, eq-eqb, lt-ltb, le-ltb, ltb-true}
 use Rattle.lists.specs.All.{any_none, any-all, below-below}
 use Rattle.lists.specs.Members.{all-mem, below-mem}
 use Rattle.lists.specs.Search.{any, below}
-use Rattle.lists.specs.Tests.{if◌then◌else◌, and_l, both_true}
+use Rattle.lists.specs.Tests.{and_l, both_true}
 use Rattle.lists.specs.Totals.{total, total-gap, total-none}
 use Rattle.rules.specs.Shape.{slots, cell}
 use Rattle.rules.specs.State.{State}

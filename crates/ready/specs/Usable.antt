@@ -1,12 +1,12 @@
 -- What a call that begins well may go by.
-use Rattle.std.specs.Prelude.{◌≡◌, Bool, ◌&&◌, ◌||◌, List, ℕ, ◌≤◌, ◌<◌, length, drop, ltb}
+use Rattle.std.specs.Prelude.{◌≡◌, Bool, ◌&&◌, ◌||◌, List, ℕ, ◌≤◌, ◌<◌, length, drop, ltb, if◌then◌else◌}
 use Rattle.std.proofs.Math.Path.{refl, ap}
 use Rattle.std.proofs.Common.{sym, ◌∙◌, true≢false, length-drop, length-take}
 use Rattle.std.proofs.Math.Bool.{true, false}
 use native.Mathlib.Omega.{arith}
 use Rattle.std.proofs.Math.Dec.{eqb, leb}
 use borrow.Author.Tests.{leb-true, leb-false, le-leb, lt-leb, eqb-true}
-use Rattle.lists.specs.Tests.{if◌then◌else◌, and_l, and_r, every-yes, between}
+use Rattle.lists.specs.Tests.{and_l, and_r, every-yes, between}
 use Rattle.rules.specs.Shape.{Shape, within}
 use Rattle.rules.specs.Ranges.{in_range}
 use Rattle.rules.specs.Memory.{needed}

@@ -1,5 +1,5 @@
 -- What a release asks for and what it leaves.
-use Rattle.std.specs.Prelude.{◌≡◌, Bool, ◌&&◌, List, ℕ, suc, ◌+◌, ◌≤◌, ◌<◌, length, eqb}
+use Rattle.std.specs.Prelude.{◌≡◌, Bool, ◌&&◌, List, ℕ, suc, ◌+◌, ◌≤◌, ◌<◌, length, eqb, if◌then◌else◌}
 use Rattle.std.proofs.Math.Path.{refl, sym}
 use Rattle.std.proofs.Common.{ap, ◌∙◌, arith, pow_pos}
 use Rattle.std.proofs.Math.Bool.{true, false, not}
@@ -7,7 +7,6 @@ use Rattle.std.proofs.Math.Option.{Option, none, some, map}
 use Rattle.std.proofs.Math.Decide.{ℕ_discrete}
 use borrow.Author.Tests.{eqb-false, ne_eqb, lt-ltb, le-ltb}
 use Rattle.lists.specs.Search.{member}
-use Rattle.lists.specs.Tests.{if◌then◌else◌}
 use Rattle.rules.specs.Shape.{slots}
 use Rattle.rules.specs.State as R
 use Rattle.rules.specs.State.{State, found_number}

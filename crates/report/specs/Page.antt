@@ -1,6 +1,5 @@
 -- Document 02, P1, "A page on the state of the store".
-use Rattle.std.specs.Prelude.{◌≡◌, Bool, List, [], ◌∷◌, ◌++◌, ℕ, zero, suc, length, drop, leb}
-use Rattle.lists.specs.Tests.{if◌then◌else◌}
+use Rattle.std.specs.Prelude.{◌≡◌, Bool, List, [], ◌∷◌, ◌++◌, ℕ, zero, suc, length, drop, leb, if◌then◌else◌}
 use Rattle.rules.specs.State.{State}
 use Rattle.rules.specs.Figures.{figures, all_figures}
 use Rattle.rules.specs.Questions.{ready, first_no}

@@ -1,12 +1,12 @@
 -- Request: its number by the client's numbers and the lengths lent, and the state that it leaves.
-use Rattle.std.specs.Prelude.{◌≡◌, Bool, ◌&&◌, ◌||◌, List, [], ◌∷◌, ℕ, ◌%◌, ◌≤◌, ◌<◌, length, get_or, eqb, ltb}
+use Rattle.std.specs.Prelude.{◌≡◌, Bool, ◌&&◌, ◌||◌, List, [], ◌∷◌, ℕ, ◌%◌, ◌≤◌, ◌<◌, length, get_or, eqb, ltb, if◌then◌else◌}
 use Rattle.std.proofs.Math.Path.{refl}
 use Rattle.std.proofs.Common.{ap, sym, ◌∙◌, true≢false, arith}
 use Rattle.std.proofs.Math.Bool.{true, false}
 use Rattle.std.proofs.Math.Option.{none, some}
 use Rattle.std.proofs.Math.Dec.{leb}
 use borrow.Author.Tests.{eqb-true, ne_eqb, leb-true, ltb-true}
-use Rattle.lists.specs.Tests.{if◌then◌else◌, and_l, and_r, between}
+use Rattle.lists.specs.Tests.{and_l, and_r, between}
 use Rattle.lists.specs.Search.{is_none, member}
 use Rattle.lists.specs.Tables.{put, put-own}
 use Rattle.rules.specs.State as R

@@ -1,7 +1,6 @@
 -- Document 01, "State and ranges": what slots hold, and what a block reads as.
-use Rattle.std.specs.Prelude.{Bool, true, false, not, ◌&&◌, List, map, ℕ, zero, suc, ◌-◌, length, replicate, ltb, eqb}
+use Rattle.std.specs.Prelude.{Bool, true, false, not, ◌&&◌, List, map, ℕ, zero, suc, ◌-◌, length, replicate, ltb, eqb, if◌then◌else◌}
 use Rattle.std.proofs.Math.Option.{Option, none, some}
-use Rattle.lists.specs.Tests.{if◌then◌else◌}
 use Rattle.lists.specs.Totals.{total}
 use Rattle.lists.specs.Search.{keep, below, member}
 use Rattle.rules.specs.Shape.{Shape, slots, cell}

@@ -1,7 +1,6 @@
 -- Document 01, "Collect hands out the contents before the request, for reads and writes."
-use Rattle.std.specs.Prelude.{Bool, not, ◌&&◌, List, [], ◌∷◌, ◌++◌, ℕ, length, take, eqb}
+use Rattle.std.specs.Prelude.{Bool, not, ◌&&◌, List, [], ◌∷◌, ◌++◌, ℕ, length, take, eqb, if◌then◌else◌}
 use Rattle.std.proofs.Math.Option.{Option, none, some, get_or}
-use Rattle.lists.specs.Tests.{if◌then◌else◌}
 use Rattle.lists.specs.Search.{any}
 use Rattle.lists.specs.Tables.{put}
 use Rattle.rules.specs.Shape.{cell}

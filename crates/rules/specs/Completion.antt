@@ -1,7 +1,6 @@
 -- Document 01, "Completion names a kind and a slot (partition, level, slot), with B bytes for a read."
-use Rattle.std.specs.Prelude.{Bool, not, ◌&&◌, List, [], ◌∷◌, ℕ, eqb}
+use Rattle.std.specs.Prelude.{Bool, not, ◌&&◌, List, [], ◌∷◌, ℕ, eqb, if◌then◌else◌}
 use Rattle.std.proofs.Math.Option.{Option, none, some, map}
-use Rattle.lists.specs.Tests.{if◌then◌else◌}
 use Rattle.lists.specs.Search.{any, without, first_left}
 use Rattle.lists.specs.Tables.{put}
 use Rattle.rules.specs.State.{Command, read, write, Request, State}

@@ -1,7 +1,6 @@
 -- Document 01, "State and ranges" and "Turn", and document 02, P7: which levels are filled, and the sources and the written levels of a rebuild
 -- for j jobs.
-use Rattle.std.specs.Prelude.{Bool, true, false, not, List, [], ◌∷◌, ℕ, zero, suc, ◌+◌, ◌-◌, ◌/◌, ◌%◌, ◌^◌, min, eqb}
-use Rattle.lists.specs.Tests.{if◌then◌else◌}
+use Rattle.std.specs.Prelude.{Bool, true, false, not, List, [], ◌∷◌, ℕ, zero, suc, ◌+◌, ◌-◌, ◌/◌, ◌%◌, ◌^◌, min, eqb, if◌then◌else◌}
 use Rattle.lists.specs.Search.{keep, below}
 use Rattle.rules.specs.Shape.{Shape}
 

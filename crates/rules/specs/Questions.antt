@@ -1,7 +1,7 @@
 -- Document 01, "Questions, and the number when the reply is no"; document 02, P5, the questions of saving and loading.
-use Rattle.std.specs.Prelude.{Bool, true, false, not, ◌&&◌, ◌||◌, List, [], ◌∷◌, ℕ, length, replicate, ltb, leb, eqb}
+use Rattle.std.specs.Prelude.{Bool, true, false, not, ◌&&◌, ◌||◌, List, [], ◌∷◌, ℕ, length, replicate, ltb, leb, eqb, if◌then◌else◌}
 use Rattle.std.proofs.Math.Option.{Option, none, some}
-use Rattle.lists.specs.Tests.{if◌then◌else◌, every}
+use Rattle.lists.specs.Tests.{every}
 use Rattle.lists.specs.Search.{any, is_none, member}
 use Rattle.rules.specs.Shape.{Shape, within}
 use Rattle.rules.specs.State.{Command, read, write, Request, State}

@@ -1,7 +1,7 @@
 -- Document 01, "State and ranges": the range of each number of a state.
-use Rattle.std.specs.Prelude.{Bool, true, not, ◌&&◌, List, [], ◌∷◌, ℕ, ◌-◌, ◌^◌, length, ltb, leb, eqb}
+use Rattle.std.specs.Prelude.{Bool, true, not, ◌&&◌, List, [], ◌∷◌, ℕ, ◌-◌, ◌^◌, length, ltb, leb, eqb, if◌then◌else◌}
 use Rattle.std.proofs.Math.Option.{Option, none, some}
-use Rattle.lists.specs.Tests.{if◌then◌else◌, every, between}
+use Rattle.lists.specs.Tests.{every, between}
 use Rattle.lists.specs.Search.{all, keep, below}
 use Rattle.rules.specs.Shape.{Shape, within, slots, cell}
 use Rattle.rules.specs.State.{Command, read, write, Place, nowhere, stored, Found, found_nowhere, found_cache, found_level, Request, State}

@@ -1,9 +1,8 @@
 -- Document 02, P6: the reads of a request, by the partition reader algorithm of document 001 (Figure 6) in that text's order: "find the level, go over the
 -- conditions of the levels, then real or dummy per filled level (a rebuild's source levels as P4 says)". A level is marked for shuffling, and is
 -- being shuffled, while it is a source of the front job; what is cached in is a slot whose read is sent.
-use Rattle.std.specs.Prelude.{Bool, true, false, not, ◌&&◌, List, [], ◌∷◌, map, ℕ, ◌-◌, eqb}
+use Rattle.std.specs.Prelude.{Bool, true, false, not, ◌&&◌, List, [], ◌∷◌, map, ℕ, ◌-◌, eqb, if◌then◌else◌}
 use Rattle.std.proofs.Math.Option.{Option, none, some}
-use Rattle.lists.specs.Tests.{if◌then◌else◌}
 use Rattle.lists.specs.Search.{find, keep, any, is_none, below, count}
 use Rattle.rules.specs.Shape.{slots, cell}
 use Rattle.rules.specs.State.{Place, nowhere, stored, Request, State}

@@ -1,8 +1,7 @@
 -- Document 01, "Request": what is taken in hand, and what holds it. Document 02, P2: where its block was found; P4: beside a rebuild. What it reads
 -- is in Reader.
-use Rattle.std.specs.Prelude.{Bool, false, not, ◌&&◌, List, [], ◌∷◌, ℕ, suc, ◌^◌, length, get_or, ltb, leb, eqb}
+use Rattle.std.specs.Prelude.{Bool, false, not, ◌&&◌, List, [], ◌∷◌, ℕ, suc, ◌^◌, length, get_or, ltb, leb, eqb, if◌then◌else◌}
 use Rattle.std.proofs.Math.Option.{Option, none, some, map}
-use Rattle.lists.specs.Tests.{if◌then◌else◌}
 use Rattle.lists.specs.Search.{any, is_none, below, member}
 use Rattle.rules.specs.State.{Found, Request, State}
 use Rattle.rules.specs.Setters.{◌▷◌, set_request}

@@ -1,7 +1,6 @@
 -- Document 01, "The five calls", and document 02's save and load: what a call answers and leaves, and a list of calls.
-use Rattle.std.specs.Prelude.{List, [], ◌∷◌, ℕ, eqb, length}
+use Rattle.std.specs.Prelude.{List, [], ◌∷◌, ℕ, eqb, length, if◌then◌else◌}
 use Rattle.std.proofs.Math.Option.{Option, none, some}
-use Rattle.lists.specs.Tests.{if◌then◌else◌}
 use Rattle.rules.specs.State.{Command, cmd, write, Found, found_nowhere, State, closed}
 use Rattle.rules.specs.Setters.{◌▷◌}
 use Rattle.rules.specs.Draws.{Drawn, draws}

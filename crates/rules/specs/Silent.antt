@@ -1,8 +1,7 @@
 -- Document 02, P2: "Nothing the host is sent may change by it." What is left of an outcome and of a state if it is not said where a block was found,
 -- and runs in which no block's place is looked up to tell it: the same questions and the same `perform`, and a request that ceases to be held.
-use Rattle.std.specs.Prelude.{Bool, not, ◌&&◌, List, [], ◌∷◌, ℕ, length, eqb}
+use Rattle.std.specs.Prelude.{Bool, not, ◌&&◌, List, [], ◌∷◌, ℕ, length, eqb, if◌then◌else◌}
 use Rattle.std.proofs.Math.Option.{Option, none, some, map}
-use Rattle.lists.specs.Tests.{if◌then◌else◌}
 use Rattle.rules.specs.State.{found_nowhere, Request, State}
 use Rattle.rules.specs.Setters.{◌▷◌, set_request}
 use Rattle.rules.specs.Draws.{Drawn, draws}

@@ -1,8 +1,7 @@
 -- Document 01, "Turn sends one command": what it is, and what it changes.
-use Rattle.std.specs.Prelude.{◌||◌, List, [], ◌∷◌, ◌++◌, ℕ, suc, length, get_or, eqb}
+use Rattle.std.specs.Prelude.{◌||◌, List, [], ◌∷◌, ◌++◌, ℕ, suc, length, get_or, eqb, if◌then◌else◌}
 use Rattle.std.proofs.Math.Option
 use Rattle.std.proofs.Math.Option.{Option, none, some}
-use Rattle.lists.specs.Tests.{if◌then◌else◌}
 use Rattle.lists.specs.Search.{any}
 use Rattle.lists.specs.Tables.{put}
 use Rattle.rules.specs.Shape.{cell, offset}

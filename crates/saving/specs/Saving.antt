@@ -1,5 +1,5 @@
 -- The questions of a save, and the form that it hands out.
-use Rattle.std.specs.Prelude.{◌≡◌, Bool, ◌&&◌, List, [], ◌∷◌, ◌++◌, ℕ, ◌+◌, ◌-◌, ◌*◌, ◌≤◌, eqb, length, take, drop}
+use Rattle.std.specs.Prelude.{◌≡◌, Bool, ◌&&◌, List, [], ◌∷◌, ◌++◌, ℕ, ◌+◌, ◌-◌, ◌*◌, ◌≤◌, eqb, length, take, drop, if◌then◌else◌}
 use Rattle.std.proofs.Math.Path.{refl}
 use Rattle.std.proofs.Common.{ap, sym, ◌∙◌, true≢false, mul-le-mul, arith, drop-drop, eq-eqb, ne_eqb}
 use Rattle.std.proofs.Math.Bool.{true, false}
@@ -7,7 +7,7 @@ use Rattle.std.proofs.Math.Option.{Option, none, some}
 use Rattle.std.proofs.Math.Decide.{ℕ_discrete}
 use Rattle.std.proofs.Math.Dec.{leb}
 use Rattle.lists.specs.Search.{is_none}
-use Rattle.lists.specs.Tests.{if◌then◌else◌, every, every-yes}
+use Rattle.lists.specs.Tests.{every, every-yes}
 use Rattle.rules.specs.Shape.{slots}
 use Rattle.rules.specs.State.{State, Request}
 use Rattle.rules.specs.Form.Longest.{longest}

@@ -1,9 +1,8 @@
 // The steps of a turn: each sends one command, if enough is lent for it. The turn releases a request after it.
 #![tactic(auto)]
 
-ghost use Rattle.std.specs.Prelude.{true, ◌≡◌, suc, ◌+◌, ◌<◌, ◌≤◌, length, take};
+ghost use Rattle.std.specs.Prelude.{true, ◌≡◌, suc, ◌+◌, ◌<◌, ◌≤◌, length, take, if◌then◌else◌};
 ghost use Rattle.lists.specs.Search.{keep};
-ghost use Rattle.lists.specs.Tests.{if◌then◌else◌};
 ghost use Rattle.rules.specs.Shape.{slots};
 ghost use Rattle.rules.specs.Draws.{draws};
 ghost use Rattle.rules.specs.Levels.{filled, down};

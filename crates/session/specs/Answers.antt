@@ -1,7 +1,6 @@
 -- What the functions over slices say of a line's answer.
-use Rattle.std.specs.Prelude.{◌≡◌, refl, true, List, [], ℕ, ◌+◌, ◌≤◌, ◌<◌, length, drop, eqb}
+use Rattle.std.specs.Prelude.{◌≡◌, refl, true, List, [], ℕ, ◌+◌, ◌≤◌, ◌<◌, length, drop, eqb, if◌then◌else◌}
 use Rattle.std.proofs.Common.{arith}
-use Rattle.lists.specs.Tests.{if◌then◌else◌}
 use Rattle.rules.specs.Shape.{Shape, slots}
 use Rattle.rules.specs.State.{Command, write}
 use Rattle.rules.specs.Questions.{request, completion}

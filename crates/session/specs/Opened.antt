@@ -1,12 +1,12 @@
 -- Whether a session opened a store: exactly then the state that it leaves is ready, and has a page.
-use Rattle.std.specs.Prelude.{◌≡◌, refl, Bool, true, not, ◌&&◌, ◌||◌, List, [], ◌∷◌, ℕ, ◌≤◌, eqb}
+use Rattle.std.specs.Prelude.{◌≡◌, refl, Bool, true, not, ◌&&◌, ◌||◌, List, [], ◌∷◌, ℕ, ◌≤◌, eqb, if◌then◌else◌}
 use Rattle.std.proofs.Math.Path.{ap, sym}
 use Rattle.std.proofs.Common.{◌∙◌, arith, eqb-true, le-leb, leb-true}
 use Rattle.std.proofs.Math.Bool.{false}
 use Rattle.std.proofs.Math.Option.{Option, none, some}
 use Rattle.std.proofs.Math.Decide.{ℕ_discrete}
 use Rattle.std.proofs.Math.Dec.{leb}
-use Rattle.lists.specs.Tests.{if◌then◌else◌, and_l, and-true}
+use Rattle.lists.specs.Tests.{and_l, and-true}
 use Rattle.rules.specs.Shape.{Shape}
 use Rattle.rules.specs.State.{State, closed}
 use Rattle.rules.specs.Memory.{needed}

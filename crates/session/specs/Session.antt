@@ -1,7 +1,6 @@
 -- Document 01, "A session, whole": what each line does and prints, by the rules' five calls.
-use Rattle.std.specs.Prelude.{Bool, true, false, ◌&&◌, List, [], ◌∷◌, ◌++◌, ℕ, ◌+◌, ◌-◌, ◌*◌, take, drop, eqb, leb}
+use Rattle.std.specs.Prelude.{Bool, true, false, ◌&&◌, List, [], ◌∷◌, ◌++◌, ℕ, ◌+◌, ◌-◌, ◌*◌, take, drop, eqb, leb, if◌then◌else◌}
 use Rattle.std.proofs.Math.Option.{none, some}
-use Rattle.lists.specs.Tests.{if◌then◌else◌}
 use Rattle.rules.specs.Shape.{Shape, slots, offset}
 use Rattle.rules.specs.State.{State, Command, read, write, closed}
 use Rattle.rules.specs.Questions.{Ask, opening, request, turn, completion, collect, Call}

@@ -1,5 +1,5 @@
 -- How the answers to a t and to a C come to be what the definition gives.
-use Rattle.std.specs.Prelude.{◌≡◌, Bool, false, ℕ, ◌+◌, ◌*◌, ◌≤◌, ◌<◌, get_or}
+use Rattle.std.specs.Prelude.{◌≡◌, Bool, false, ℕ, ◌+◌, ◌*◌, ◌≤◌, ◌<◌, get_or, if◌then◌else◌}
 use Rattle.std.proofs.Math.Path.{refl, ap, sym, subst}
 use Rattle.std.proofs.Common.{◌∙◌, true≢false, arith, pow_pos}
 use Rattle.std.proofs.Math.Bool.{true}
@@ -7,7 +7,6 @@ use mathlib.Core.List.{List, []}
 use Rattle.std.proofs.Math.ListN.{length, drop}
 use Rattle.std.proofs.Math.Dec.{eqb}
 use borrow.Author.Tests.{eq-eqb, ne_eqb, eqb-true}
-use Rattle.lists.specs.Tests.{if◌then◌else◌}
 use Rattle.lists.specs.Search.{below, count}
 use Rattle.lists.specs.All.{all_get_d}
 use Rattle.rules.specs.Shape.{Shape, slots}

@@ -1,5 +1,5 @@
 -- A state over a cache of e places and over one of n: each step, each bound and each act is the same, and each question but 8.
-use Rattle.std.specs.Prelude.{◌≡◌, Bool, ◌||◌, ℕ, ◌≤◌, length, eqb, ltb}
+use Rattle.std.specs.Prelude.{◌≡◌, Bool, ◌||◌, ℕ, ◌≤◌, length, eqb, ltb, if◌then◌else◌}
 use Rattle.std.proofs.Math.Path.{refl, ap}
 use Rattle.std.proofs.Common.{sym, ◌∙◌, true≢false, arith}
 use Rattle.std.proofs.Math.Bool.{true, false}
@@ -7,7 +7,6 @@ use mathlib.Core.List.{List, [], ◌∷◌}
 use Rattle.std.proofs.Math.Option.{Option, none, some, map}
 use borrow.Author.Tests.{le-leb, ltb-true, lt-ltb}
 use Rattle.lists.specs.Tests
-use Rattle.lists.specs.Tests.{if◌then◌else◌}
 use Rattle.rules.specs.Ranges
 use Rattle.rules.specs.Laws.Waiting.{Waits}
 use Rattle.rules.proofs.Laws.Waiting.{waits-fits, waits-more}

@@ -1,9 +1,9 @@
 -- What a call's number depends on, in a state that calls left: whether the words lent settle its draws, or nothing of them.
-use Rattle.std.specs.Prelude.{◌≡◌, refl, Bool, true, false, not, ◌&&◌, ◌||◌, List, ℕ, ◌≤◌, length, eqb, leb, ltb}
+use Rattle.std.specs.Prelude.{◌≡◌, refl, Bool, true, false, not, ◌&&◌, ◌||◌, List, ℕ, ◌≤◌, length, eqb, leb, ltb, if◌then◌else◌}
 use Rattle.std.proofs.Common.{true≢false, arith}
 use Rattle.lists.specs.All.{All, nil, cons, all_replicate}
 use Rattle.lists.specs.Search.{is_none, any, member}
-use Rattle.lists.specs.Tests.{if◌then◌else◌, and_l}
+use Rattle.lists.specs.Tests.{and_l}
 use Rattle.rules.specs.Shape.{Shape, within}
 use Rattle.rules.specs.State.{State, read, write}
 use Rattle.rules.specs.Memory.{needed}

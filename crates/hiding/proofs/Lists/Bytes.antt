@@ -1,6 +1,6 @@
 -- What bytes a completion brings, and which contents a request has, changes nothing of what is told: a call with zeros for them, from the state
 -- without the bytes that it keeps, has the same number, count of words and command, and leaves the same but for bytes.
-use Rattle.std.specs.Prelude.{◌≡◌, Bool, not, ◌&&◌, ℕ, suc, length, replicate, eqb}
+use Rattle.std.specs.Prelude.{◌≡◌, Bool, not, ◌&&◌, ℕ, suc, length, replicate, eqb, if◌then◌else◌}
 use Rattle.std.proofs.Math.Path.{refl, ap}
 use Rattle.std.proofs.Common.{sym, ◌∙◌}
 use Rattle.std.proofs.Math.Bool.{true, false}
@@ -8,7 +8,6 @@ use mathlib.Core.List.{List, [], ◌∷◌}
 use Rattle.std.proofs.Math.Option.{Option, none, some, map}
 use Rattle.std.proofs.lemmas.List.{length-replicate}
 use Rattle.lists.specs.Search.{is_none}
-use Rattle.lists.specs.Tests.{if◌then◌else◌}
 use Rattle.rules.specs.Ranges
 use Rattle.rules.specs.Draws.{draws}
 use Rattle.rules.specs.Questions

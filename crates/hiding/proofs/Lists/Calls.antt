@@ -1,11 +1,10 @@
 -- One call of a list with numbers for words: what the rules say of it is what the machine shows.
-use Rattle.std.specs.Prelude.{◌≡◌, false, ◌↔◌, List, [], replicate, eqb}
+use Rattle.std.specs.Prelude.{◌≡◌, false, ◌↔◌, List, [], replicate, eqb, if◌then◌else◌}
 use Rattle.std.proofs.Math.Path.{refl}
 use Rattle.std.proofs.Common.{◌∙◌, sym}
 use Rattle.std.proofs.Math.Logic.Iff
 use Prim.Native.Nat.{ℕ, zero, suc}
 use Rattle.std.proofs.Math.Dec.{eqb-suc-zero}
-use Rattle.lists.specs.Tests.{if◌then◌else◌}
 use Rattle.rules.specs.Shape.{Shape}
 use Rattle.rules.specs.Draws.{Drew}
 use Rattle.rules.specs.Form.Sums.{summed}

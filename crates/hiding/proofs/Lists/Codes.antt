@@ -1,6 +1,6 @@
 -- The words that a call uses up are numbers and a public part: whether they settle its draws, which are passed over, and the quotients of the
 -- others. Of words that end before the last draw is settled all is public. For a given public part the call is one with numbers for words.
-use Rattle.std.specs.Prelude.{◌≡◌, Bool, ℕ, ◌-◌, ◌≤◌, ◌<◌, replicate, eqb}
+use Rattle.std.specs.Prelude.{◌≡◌, Bool, ℕ, ◌-◌, ◌≤◌, ◌<◌, replicate, eqb, if◌then◌else◌}
 use Rattle.std.proofs.Math.Path.{refl, ap, sym}
 use Rattle.std.proofs.Common.{◌∙◌, subst, true≢false, arith, eq-eqb, le-leb, leb-false}
 use Rattle.std.proofs.Math.Bool.{true, false, not}
@@ -12,7 +12,6 @@ use Rattle.std.proofs.Math.Dec.{leb}
 use Rattle.std.proofs.lemmas.Bool.{lt-leb}
 use Rattle.lists.specs.All.{All, nil, all_map}
 use Rattle.lists.specs.Search.{is_none}
-use Rattle.lists.specs.Tests.{if◌then◌else◌}
 use Rattle.rules.specs.State.{State}
 use Rattle.rules.specs.Draws.{Drawn, draws, Drew}
 use Rattle.rules.specs.Questions.{bounds, number}

@@ -1,12 +1,12 @@
 -- A save, and a load of what it has written, in a state that calls left: what they answer follows from memory and buffer, and from whether the state
 -- is at rest; what the load brings is the state, but for contents of blocks that do not wait and orders of levels that are not filled.
-use Rattle.std.specs.Prelude.{◌≡◌, Bool, true, false, ◌&&◌, leb, length}
+use Rattle.std.specs.Prelude.{◌≡◌, Bool, true, false, ◌&&◌, leb, length, if◌then◌else◌}
 use Rattle.std.proofs.Math.Path.{refl, sym}
 use Rattle.std.proofs.Common.{ap, ◌∙◌, arith, le-leb, leb-true}
 use mathlib.Core.List.{List, [], ◌∷◌}
 use Prim.Native.Nat.{ℕ, zero, suc}
 use Rattle.std.proofs.Math.Decide.{ℕ_discrete}
-use Rattle.lists.specs.Tests.{if◌then◌else◌, and_r}
+use Rattle.lists.specs.Tests.{and_r}
 use Rattle.rules.specs.Draws.{draws}
 use Rattle.rules.specs.Form.Loading.{loads, loaded_form}
 use Rattle.rules.specs.Form.Longest.{longest}

@@ -1,9 +1,8 @@
 -- What a tape is to a caller who lends no word again that is the tape's: one flat tape serves the run; and how long a tape is.
-use Rattle.std.specs.Prelude.{◌≡◌, refl, Bool, true, false, ◌&&◌, List, [], ◌∷◌, ◌++◌, map, ℕ, suc, ◌+◌, ◌≤◌, min, length, take, drop, eqb}
+use Rattle.std.specs.Prelude.{◌≡◌, refl, Bool, true, false, ◌&&◌, List, [], ◌∷◌, ◌++◌, map, ℕ, suc, ◌+◌, ◌≤◌, min, length, take, drop, eqb, if◌then◌else◌}
 use Rattle.std.proofs.Common.{ap, ap₂, sym, ◌∙◌, append_assoc, arith, length-append, length-take, take-append-drop, drop_at, length-take-le}
 use Rattle.std.proofs.lemmas.List.{length-map}
 use Rattle.lists.specs.All.{nil, cons}
-use Rattle.lists.specs.Tests.{if◌then◌else◌}
 use Rattle.rules.specs.Questions.{Ask, opening, request, turn, completion, collect, save, load, Call}
 use Rattle.rules.specs.Resumes.{saved_by, OfLast, Resumes}
 use Rattle.rules.specs.Run.{Outcome, step, run}

@@ -1,8 +1,7 @@
 -- The calls of a list as a machine that takes words: its tapes of chunks, one for each call, and the flat tapes of the claim.
-use Rattle.std.specs.Prelude.{◌≡◌, refl, Bool, true, false, ◌&&◌, List, [], ◌∷◌, ◌++◌, map, ℕ, zero, suc, ◌+◌, ◌-◌, ◌%◌, ◌≤◌, ◌<◌, length, take, drop, replicate, eqb}
+use Rattle.std.specs.Prelude.{◌≡◌, refl, Bool, true, false, ◌&&◌, List, [], ◌∷◌, ◌++◌, map, ℕ, zero, suc, ◌+◌, ◌-◌, ◌%◌, ◌≤◌, ◌<◌, length, take, drop, replicate, eqb, if◌then◌else◌}
 use Rattle.std.proofs.Common.{ap, ap₂, sym, ◌∙◌, subst, mod-lt, mod-eq_of_lt, arith, length-append}
 use Rattle.std.proofs.lemmas.List.{length-replicate}
-use Rattle.lists.specs.Tests.{if◌then◌else◌}
 use Rattle.lists.specs.All.{nil, cons, all_append, all_replicate}
 use Rattle.rules.specs.State.{State, Command}
 use Rattle.rules.specs.Questions.{Call}

@@ -1,11 +1,10 @@
 -- A request is released alike in the three machines: that it ceases to be held is public, and where its block was found is not.
-use Rattle.std.specs.Prelude.{◌≡◌, Bool, true, false, ◌&&◌, List, ℕ, length}
+use Rattle.std.specs.Prelude.{◌≡◌, Bool, true, false, ◌&&◌, List, ℕ, length, if◌then◌else◌}
 use Rattle.std.proofs.Math.Path.{refl, fun_ext}
 use Rattle.std.proofs.Common.{ap, sym}
 use Rattle.std.proofs.Math.Bool.{not}
 use Rattle.std.proofs.Math.Option.{Option, none, some, map}
 use Rattle.lists.specs.Search.{is_none, any, member}
-use Rattle.lists.specs.Tests.{if◌then◌else◌}
 use Rattle.rules.specs.Blocks.{found_at, look_up}
 use Rattle.rules.proofs.Laws.Released.{released-same}
 use Rattle.rules.specs.Completion.{awaits_less, completed}

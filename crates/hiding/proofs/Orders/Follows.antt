@@ -1,5 +1,5 @@
 -- The rules' state after a call, as the middle machine has it: the state without its slots, what its unread items hold, and their slots.
-use Rattle.std.specs.Prelude.{◌≡◌, Bool, true, false, take, drop, eqb, leb}
+use Rattle.std.specs.Prelude.{◌≡◌, Bool, true, false, take, drop, eqb, leb, if◌then◌else◌}
 use Rattle.std.proofs.Math.Path.{refl, ap, fun_ext, sym}
 use Rattle.std.proofs.Common.{◌∙◌, subst, arith, ne_eqb}
 use mathlib.Core.List.{List, [], ◌∷◌, map}
@@ -12,7 +12,6 @@ use Rattle.rules.specs.Form.Loading.{loaded_form}
 use Rattle.rules.specs.Memory.{needed}
 use Rattle.lists.specs.Tables.{put}
 use Rattle.lists.specs.Members.{keep_same}
-use Rattle.lists.specs.Tests.{if◌then◌else◌}
 use Rattle.lists.specs.Search.{below, index_of}
 use Rattle.lists.specs.Distinct.{index-mem}
 use Rattle.rules.proofs.Laws.Answers.{accepted-passed}

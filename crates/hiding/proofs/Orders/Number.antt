@@ -1,5 +1,5 @@
 -- In a state that calls left, the number of a call, the bounds of its draws and its step are those of the public parts.
-use Rattle.std.specs.Prelude.{◌≡◌, Bool, false, ◌&&◌, ◌||◌, length, replicate, eqb, ltb}
+use Rattle.std.specs.Prelude.{◌≡◌, Bool, false, ◌&&◌, ◌||◌, length, replicate, eqb, ltb, if◌then◌else◌}
 use Rattle.std.proofs.Math.Path.{refl, ap, sym}
 use Rattle.std.proofs.Common.{◌∙◌, true≢false, arith}
 use Rattle.std.proofs.Math.Bool.{true}
@@ -18,7 +18,7 @@ use Rattle.rules.specs.Form.Payload.{saved_form}
 use Rattle.lists.specs.Members.{mem-member}
 use Rattle.lists.specs.All.{nil, cons}
 use Rattle.lists.specs.Search.{is_none, any, member}
-use Rattle.lists.specs.Tests.{if◌then◌else◌, between, and_l, and_r, every-yes}
+use Rattle.lists.specs.Tests.{between, and_l, and_r, every-yes}
 use Rattle.lists.specs.Distinct.{Mem}
 use Rattle.rules.specs.Memory.{needed}
 use Rattle.rules.proofs.Laws.Kept.{kind-read}

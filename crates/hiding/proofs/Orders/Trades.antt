@@ -1,12 +1,12 @@
 -- The first stage: the orders are hidden from the middle machine. What each of its calls trades.
-use Rattle.std.specs.Prelude.{◌≡◌, refl, Bool, true, false, ◌&&◌, ◌↔◌, List, [], ◌∷◌, ℕ, zero, suc, ◌+◌, ◌-◌, ◌^◌, ◌<◌, length, get_or, replicate, take, drop, ltb}
+use Rattle.std.specs.Prelude.{◌≡◌, refl, Bool, true, false, ◌&&◌, ◌↔◌, List, [], ◌∷◌, ℕ, zero, suc, ◌+◌, ◌-◌, ◌^◌, ◌<◌, length, get_or, replicate, take, drop, ltb, if◌then◌else◌}
 use Rattle.std.proofs.Common.{ap, ◌∙◌, subst, arith, take-append-drop, pow_pos, ltb-true}
 use Rattle.std.proofs.Math.Logic.Iff
 use Rattle.std.proofs.Math.Option.{Option, none, some}
 use Rattle.lists.specs.Members.{member-mem}
 use Rattle.lists.specs.Tables.{put, put_all}
 use Rattle.lists.specs.Distinct.{Mem}
-use Rattle.lists.specs.Tests.{if◌then◌else◌, and_l, and_r}
+use Rattle.lists.specs.Tests.{and_l, and_r}
 use Rattle.lists.specs.All.{All, nil, cons, all_map, all_yes}
 use Rattle.lists.specs.Search.{below, member, all}
 use Rattle.rules.specs.Turn

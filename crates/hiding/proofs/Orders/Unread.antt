@@ -1,5 +1,5 @@
 -- A level's unread slots: what a read and a rewrite make of them.
-use Rattle.std.specs.Prelude.{◌≡◌, Bool, ◌&&◌, List, [], ℕ, ◌<◌, length, replicate}
+use Rattle.std.specs.Prelude.{◌≡◌, Bool, ◌&&◌, List, [], ℕ, ◌<◌, length, replicate, if◌then◌else◌}
 use Rattle.std.proofs.Math.Path.{refl}
 use Rattle.std.proofs.Common.{ap, sym, ◌∙◌}
 use Rattle.std.proofs.Math.Bool.{true, false}
@@ -10,7 +10,7 @@ use Rattle.lists.specs.Members.{keep-mem, mem-keep, nodup-keep, keep_same, all-m
 use Rattle.lists.specs.Tables.{put, put_all, put_same, put_other}
 use Rattle.lists.specs.Places.{keep_all, keep-less}
 use Rattle.lists.specs.All.{keep-passes}
-use Rattle.lists.specs.Tests.{if◌then◌else◌, and_l, and_r}
+use Rattle.lists.specs.Tests.{and_l, and_r}
 use Rattle.lists.specs.Distinct.{Mem, NoDup}
 use Rattle.lists.specs.Search.{keep, below}
 use Rattle.rules.proofs.Laws.Layout.{cell-inj}

@@ -1,5 +1,5 @@
 -- The second stage: the middle machine is the ideal one with the positions hidden, of the request's block already its next one.
-use Rattle.std.specs.Prelude.{◌≡◌, Bool, ◌↔◌, length, replicate, eqb, ltb}
+use Rattle.std.specs.Prelude.{◌≡◌, Bool, ◌↔◌, length, replicate, eqb, ltb, if◌then◌else◌}
 use Rattle.std.proofs.Math.Path.{refl, ap, sym}
 use Rattle.std.proofs.Common.{◌∙◌, subst, true≢false, arith, ltb-true, lt-ltb}
 use Rattle.std.proofs.Math.Bool.{true, false}
@@ -8,7 +8,6 @@ use mathlib.Core.List.{List, [], ◌∷◌}
 use Rattle.std.proofs.Math.Option.{Option, none, some, map}
 use Prim.Native.Nat.{ℕ, zero, suc, ◌<◌}
 use Rattle.lists.specs.Search.{is_none}
-use Rattle.lists.specs.Tests.{if◌then◌else◌}
 use Rattle.lists.specs.Tables.{put}
 use Rattle.rules.specs.Blocks
 use Rattle.rules.specs.Jobs.{joined, top_of, levels_of}

@@ -1,7 +1,6 @@
 -- The ideal machine: it knows the public part of each call and of a state alone, and draws each slot and each partition when it is shown.
-use Rattle.std.specs.Prelude.{List, [], ◌∷◌, ◌++◌, ℕ, zero, suc, length, get_or, replicate, take, drop, eqb, Bool, true, false}
+use Rattle.std.specs.Prelude.{List, [], ◌∷◌, ◌++◌, ℕ, zero, suc, length, get_or, replicate, take, drop, eqb, Bool, true, false, if◌then◌else◌}
 use Rattle.std.proofs.Math.Option.{Option, none, some}
-use Rattle.lists.specs.Tests.{if◌then◌else◌}
 use Rattle.lists.specs.Tables.{put_all}
 use Rattle.rules.specs.Completion.{complete}
 use Rattle.rules.specs.Jobs.{joined}

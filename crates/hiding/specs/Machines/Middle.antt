@@ -1,10 +1,9 @@
 -- The machine in the middle: it knows which block is where, by level and by rank among the unread items, and no slot before it is shown.
-use Rattle.std.specs.Prelude.{List, [], ◌∷◌, ◌++◌, map, Bool, ◌&&◌, ◌||◌, ℕ, zero, suc, ◌-◌, ◌^◌, min, length, get_or, replicate, take, drop, ltb, eqb}
+use Rattle.std.specs.Prelude.{List, [], ◌∷◌, ◌++◌, map, Bool, ◌&&◌, ◌||◌, ℕ, zero, suc, ◌-◌, ◌^◌, min, length, get_or, replicate, take, drop, ltb, eqb, if◌then◌else◌}
 use Rattle.std.proofs.Math.Option.{Option, none, some}
 use Rattle.lists.specs.Tables.{put}
 use Rattle.lists.specs.Places.{remove_at}
 use Rattle.lists.specs.Distinct.{index}
-use Rattle.lists.specs.Tests.{if◌then◌else◌}
 use Rattle.lists.specs.Search.{keep, below, member}
 use Rattle.rules.specs.Turn.{Step, idle, no_dummy, read_for_request, read_for_job, rebuild, write_next, do_step}
 use Rattle.rules.specs.Jobs.{joined, top_of}

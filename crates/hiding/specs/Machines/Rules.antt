@@ -1,6 +1,5 @@
 -- The rules as a machine, and what the middle machine keeps of its state.
-use Rattle.std.specs.Prelude.{List, [], map, ℕ, zero, suc, replicate}
-use Rattle.lists.specs.Tests.{if◌then◌else◌}
+use Rattle.std.specs.Prelude.{List, [], map, ℕ, zero, suc, replicate, if◌then◌else◌}
 use Rattle.lists.specs.Search.{below}
 use Rattle.rules.specs.Open.{fresh}
 use Rattle.rules.specs.Questions

@@ -1,7 +1,7 @@
 -- A collect keeps the invariant.
 use Rattle.std.proofs.Math.Path.{◌≡◌, refl, ap, sym, fun_ext}
 use Rattle.std.proofs.Common.{◌∙◌, subst, eq-eqb}
-use Rattle.std.specs.Prelude.{◌⊎◌, Bool, true, List, [], ◌∷◌, ◌++◌, eqb}
+use Rattle.std.specs.Prelude.{◌⊎◌, Bool, true, List, [], ◌∷◌, ◌++◌, eqb, if◌then◌else◌}
 use Rattle.std.proofs.Math.Logic.{inl, inr, ⊎_elim}
 use Rattle.std.proofs.Math.Bool.{false, not, true≢false}
 use Rattle.std.proofs.Math.Option.{some, Option}
@@ -15,7 +15,6 @@ use Rattle.lists.specs.Lengths.{bit}
 use Rattle.lists.specs.Tables.{put, put_same, put_other, put_has}
 use Rattle.std.proofs.Math.ListN.{length}
 use Rattle.rules.specs.Blocks
-use Rattle.lists.specs.Tests.{if◌then◌else◌}
 use Rattle.lists.specs.Totals.{total-le}
 use Rattle.rules.specs.Jobs.{queued}
 use Rattle.rules.specs.Collect

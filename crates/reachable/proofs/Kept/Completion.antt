@@ -1,5 +1,5 @@
 -- A completion keeps the invariant; the last write of a job ends it.
-use Rattle.std.specs.Prelude.{◌≡◌, ◌⊎◌, Bool, List, [], ◌∷◌, ℕ, ◌%◌, ◌^◌, ◌≤◌, eqb, length}
+use Rattle.std.specs.Prelude.{◌≡◌, ◌⊎◌, Bool, List, [], ◌∷◌, ℕ, ◌%◌, ◌^◌, ◌≤◌, eqb, length, if◌then◌else◌}
 use Rattle.std.proofs.Math.Path.{refl, ap, sym, fun_ext}
 use Rattle.std.proofs.Common.{◌∙◌, subst, true≢false, arith, eq-eqb}
 use Rattle.std.proofs.Math.Logic.{inl, inr, ⊎_elim}
@@ -10,7 +10,6 @@ use Rattle.lists.specs.All.{All, all_map, all_without, all_both, drop-without}
 use Rattle.lists.specs.Search.{without, first_left}
 use Rattle.lists.specs.Tables.{put, put_same, put_other, put_has}
 use Rattle.lists.specs.Members.{all-mem}
-use Rattle.lists.specs.Tests.{if◌then◌else◌}
 use Rattle.rules.specs.Completion
 use Rattle.rules.specs.Laws.Range.{InRange}
 use Rattle.rules.specs.Jobs.{queued, joined, top_of, leave_queue}

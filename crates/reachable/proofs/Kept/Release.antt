@@ -1,5 +1,5 @@
 -- A request that is released keeps the invariant.
-use Rattle.std.specs.Prelude.{◌≡◌, ◌⊎◌, Bool, ◌&&◌, ℕ, ◌+◌, ◌%◌, ◌^◌, ◌≤◌, ◌<◌, length}
+use Rattle.std.specs.Prelude.{◌≡◌, ◌⊎◌, Bool, ◌&&◌, ℕ, ◌+◌, ◌%◌, ◌^◌, ◌≤◌, ◌<◌, length, if◌then◌else◌}
 use Rattle.std.proofs.Math.Path.{refl}
 use Rattle.std.proofs.Common.{ap, sym, ◌∙◌, subst, true≢false, mod-lt, arith, drop_of_length-le, pow_pos}
 use Rattle.std.proofs.Math.Logic.{inl, inr, ⊎_elim}
@@ -11,7 +11,7 @@ use Rattle.lists.specs.All.{nil, any_none}
 use Rattle.lists.specs.Distinct.{Mem}
 use Rattle.lists.specs.Members.{not-member, all-mem, below-mem}
 use Rattle.lists.specs.Search.{any, below, member, is_none}
-use Rattle.lists.specs.Tests.{if◌then◌else◌, and_l, and_r, not-true}
+use Rattle.lists.specs.Tests.{and_l, and_r, not-true}
 use Rattle.rules.specs.Blocks.{look_up, reads_of}
 use Rattle.rules.proofs.Laws.Kept.{release-in}
 use Rattle.rules.specs.Laws.Range.{InRange}

@@ -1,5 +1,5 @@
 -- A request's read keeps the invariant.
-use Rattle.std.specs.Prelude.{◌≡◌, ◌⊎◌, Bool, List, [], ◌∷◌, ◌++◌, length, drop}
+use Rattle.std.specs.Prelude.{◌≡◌, ◌⊎◌, Bool, List, [], ◌∷◌, ◌++◌, length, drop, if◌then◌else◌}
 use Rattle.std.proofs.Math.Path.{refl, ap, sym, subst}
 use Rattle.std.proofs.Common.{◌∙◌, arith, drop_of_length-le}
 use Rattle.std.proofs.Math.Logic.{inl, inr, ⊎_elim}
@@ -8,7 +8,6 @@ use Rattle.std.proofs.Math.Option.{none, some}
 use Prim.Native.Nat.{ℕ, suc, ◌+◌, ◌%◌, ◌^◌, ◌≤◌, ◌<◌}
 use Rattle.std.proofs.Math.Decide.{ℕ_discrete, dec_lt}
 use Rattle.std.proofs.Math.ListN.{length-append}
-use Rattle.lists.specs.Tests.{if◌then◌else◌}
 use Rattle.lists.specs.All.{All, nil, cons, all_append, all_map}
 use Rattle.lists.specs.Distinct.{Mem}
 use Rattle.lists.specs.Tables.{put, put_same, put_other}

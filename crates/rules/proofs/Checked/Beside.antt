@@ -1,8 +1,7 @@
 -- Documents 01 and 02 (P4), on states that no calls left: what the rules answer to a look-up beside a job that holds it though it has not drawn, to one
 -- that is held and no job is queued, and to one whose block's slot was read. (docs/DECISIONS.md)
-use Rattle.std.specs.Prelude.{◌≡◌, refl, [], ◌∷◌, ℕ, ◌-◌, eqb, ltb}
+use Rattle.std.specs.Prelude.{◌≡◌, refl, [], ◌∷◌, ℕ, ◌-◌, eqb, ltb, if◌then◌else◌}
 use Rattle.std.proofs.Math.Option.{none, some}
-use Rattle.lists.specs.Tests.{if◌then◌else◌}
 use Rattle.rules.specs.Shape.{Shape, cell}
 use Rattle.rules.specs.State.{State, nowhere, stored, cmd, read}
 use Rattle.rules.specs.Setters.{◌▷◌, set_place, set_counter, set_order, set_mark, set_holds, set_queue, set_outstanding, set_request}

@@ -1,7 +1,6 @@
 -- Document 01, "Edges": those marked *, as one table; and runs of several jobs, document 02, P7.
-use Rattle.std.specs.Prelude.{◌≡◌, refl, List, [], ◌∷◌, ◌++◌, map, ℕ, length, replicate, eqb, ltb}
+use Rattle.std.specs.Prelude.{◌≡◌, refl, List, [], ◌∷◌, ◌++◌, map, ℕ, length, replicate, eqb, ltb, if◌then◌else◌}
 use Rattle.lists.specs.Search.{keep, below}
-use Rattle.lists.specs.Tests.{if◌then◌else◌}
 use Rattle.rules.specs.Shape.{Shape, slots}
 use Rattle.rules.specs.State.{State, Command, cmd, read, write, closed}
 use Rattle.rules.specs.Setters.{◌▷◌, set_counter, set_mark, set_queue, set_waiting}

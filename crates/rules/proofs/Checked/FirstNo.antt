@@ -1,7 +1,6 @@
 -- Document 01: "The first no decides." For each two neighbouring questions of a call that can both have the reply no, a call to which both do: the number
 -- is that of the first. (A turn's 10 and 15 cannot: 15 asks of a write that is sent. There, 9 and 15.) And each bound of a shape that no edge has.
-use Rattle.std.specs.Prelude.{◌≡◌, refl, List, [], ◌∷◌, ℕ, replicate, eqb}
-use Rattle.lists.specs.Tests.{if◌then◌else◌}
+use Rattle.std.specs.Prelude.{◌≡◌, refl, List, [], ◌∷◌, ℕ, replicate, eqb, if◌then◌else◌}
 use Rattle.rules.specs.Shape.{Shape, cell}
 use Rattle.rules.specs.State.{State, cmd, read, write, closed}
 use Rattle.rules.specs.Setters.{◌▷◌, set_queue, set_waiting, set_sent, set_outstanding, set_counter, set_holds}

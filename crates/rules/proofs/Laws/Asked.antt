@@ -1,11 +1,10 @@
 -- A read for a request is decided with one in hand only. Until it is released, a turn and a completion change no more of it than the level from which its
 -- reads go on, and what it awaits. A load brings none.
-use Rattle.std.specs.Prelude.{◌≡◌, Bool, true, false, ◌||◌, List, [], ◌∷◌, ℕ, suc, length, eqb}
+use Rattle.std.specs.Prelude.{◌≡◌, Bool, true, false, ◌||◌, List, [], ◌∷◌, ℕ, suc, length, eqb, if◌then◌else◌}
 use Rattle.std.proofs.Math.Path.{refl}
 use Rattle.std.proofs.Common.{ap, sym, ◌∙◌, true≢false}
 use Rattle.std.proofs.Math.Option.{Option, none, some, get_or}
 use Rattle.lists.specs.Search.{any}
-use Rattle.lists.specs.Tests.{if◌then◌else◌}
 use Rattle.rules.specs.Completion.{complete}
 use Rattle.rules.specs.Form.Loading.{loaded, state_in, loaded_form}
 use Rattle.rules.specs.Form.Reading.{Form, get_form}

@@ -1,6 +1,6 @@
 -- Documents 01 and 02 (P4): "A request is finished when it isn't held and all its reads are sent and completed"; ".. only when every job read sent by that
 -- moment has completed too, wherever the block was." On every state.
-use Rattle.std.specs.Prelude.{◌≡◌, Bool, not, ◌&&◌, ◌||◌, take}
+use Rattle.std.specs.Prelude.{◌≡◌, Bool, not, ◌&&◌, ◌||◌, take, if◌then◌else◌}
 use Rattle.std.proofs.Math.Path.{refl, ap, sym}
 use Rattle.std.proofs.Common.{◌∙◌, subst, arith, length-append, eqb-true, eq-eqb}
 use Rattle.std.proofs.Math.Bool.{true, false, true≢false}
@@ -12,7 +12,7 @@ use Rattle.std.proofs.Math.ListN.{length}
 use Rattle.std.proofs.lemmas.Bool.{eqb-false}
 use Rattle.lists.specs.All.{All, nil, cons, all_map}
 use Rattle.lists.specs.Search.{any, without, first_left, is_none, without-yes, without-no, first_left-yes, first_left-no}
-use Rattle.lists.specs.Tests.{if◌then◌else◌, and_r, not-true, or-false-l, or-false-r}
+use Rattle.lists.specs.Tests.{and_r, not-true, or-false-l, or-false-r}
 use Rattle.rules.specs.Collect.{finished, finish, collected}
 use Rattle.rules.specs.Completion
 use Rattle.rules.specs.Completion.{is_command, awaits_less, completed, complete}

@@ -1,5 +1,5 @@
 -- What a turn decides is in range.
-use Rattle.std.specs.Prelude.{◌≡◌, Bool, ◌||◌}
+use Rattle.std.specs.Prelude.{◌≡◌, Bool, ◌||◌, if◌then◌else◌}
 use Rattle.std.proofs.Math.Path.{refl, subst}
 use Rattle.std.proofs.Common.{sym, ◌∙◌, arith, eqb-true}
 use Rattle.std.proofs.Math.Bool.{true, false}
@@ -7,7 +7,7 @@ use mathlib.Core.List.{List, [], ◌∷◌, map}
 use Rattle.std.proofs.Math.Option.{Option, none, some, get_or}
 use Prim.Native.Nat.{ℕ, zero, suc, ◌+◌, ◌-◌, ◌^◌, ◌≤◌, ◌<◌}
 use Rattle.std.proofs.Math.Dec.{eqb}
-use Rattle.lists.specs.Tests.{if◌then◌else◌, and_l}
+use Rattle.lists.specs.Tests.{and_l}
 use Rattle.lists.specs.Search
 use Rattle.lists.specs.Search.{below, or_else}
 use Rattle.lists.specs.All.{All, nil, cons, IfSome, all_map, all_append, all_keep, find-all, count-below, map_below, below-below, keep-passes}

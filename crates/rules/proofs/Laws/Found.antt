@@ -1,5 +1,5 @@
 -- Document 02, P2: "as found when the request ceased to be held (at acceptance if it never was)". On every state.
-use Rattle.std.specs.Prelude.{◌≡◌, Bool, ◌&&◌, ℕ, suc, length}
+use Rattle.std.specs.Prelude.{◌≡◌, Bool, ◌&&◌, ℕ, suc, length, if◌then◌else◌}
 use Rattle.std.proofs.Math.Path.{refl, ap}
 use Rattle.std.proofs.Common.{sym, ◌∙◌, true≢false, arith, eqb-true}
 use Rattle.std.proofs.Math.Bool.{true, false, not}
@@ -8,7 +8,6 @@ use Rattle.std.proofs.Math.Option.{Option, none, some, get_or, map}
 use Rattle.std.proofs.Math.Dec.{eqb}
 use Rattle.std.proofs.lemmas.Bool.{eqb-false}
 use Rattle.lists.specs.Search.{is_none}
-use Rattle.lists.specs.Tests.{if◌then◌else◌}
 use Rattle.rules.specs.Blocks.{look_up}
 use Rattle.rules.specs.Collect.{carried, finished}
 use Rattle.rules.specs.Completion.{complete}

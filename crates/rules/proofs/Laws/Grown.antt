@@ -1,5 +1,5 @@
 -- How a run of j jobs changes the bits of its counter: t is the highest level at which it changes; the written levels are those up to t of the new counter.
-use Rattle.std.specs.Prelude.{◌≡◌, ◌⊎◌, Bool, List, ◌∷◌, get_or}
+use Rattle.std.specs.Prelude.{◌≡◌, ◌⊎◌, Bool, List, ◌∷◌, get_or, if◌then◌else◌}
 use Rattle.std.proofs.Math.Path.{refl}
 use Rattle.std.proofs.Common.{ap, sym, ◌∙◌, true≢false, div-one}
 use Rattle.std.proofs.Math.Logic.{inl, inr, ⊎_elim}
@@ -15,7 +15,6 @@ use Rattle.lists.specs.All.{keep-passes}
 use Rattle.lists.specs.Distinct.{Mem, NoDup}
 use Rattle.lists.specs.Members.{all-mem, keep-mem, mem-keep, nodup-keep}
 use Rattle.lists.specs.Search.{keep, keep-yes}
-use Rattle.lists.specs.Tests.{if◌then◌else◌}
 use Rattle.rules.specs.Jobs.{capacity}
 use Rattle.rules.specs.Laws.Levels.{Joins}
 use Rattle.rules.proofs.Laws.Levels.{top_lt, highest-lt, highest-yes, highest-no, down-below}

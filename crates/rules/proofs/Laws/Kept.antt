@@ -1,5 +1,5 @@
 -- Every accepted call leaves each number of the state in its range.
-use Rattle.std.specs.Prelude.{◌≡◌, Bool, ◌&&◌, length, get_or, replicate, eqb, leb}
+use Rattle.std.specs.Prelude.{◌≡◌, Bool, ◌&&◌, length, get_or, replicate, eqb, leb, if◌then◌else◌}
 use Rattle.std.proofs.Math.Path.{refl, ap}
 use Rattle.std.proofs.Common.{sym, ◌∙◌, true≢false}
 use Rattle.std.proofs.Math.Bool.{true, false, not}
@@ -14,7 +14,7 @@ use Rattle.lists.specs.Search
 use Rattle.lists.specs.Search.{without}
 use Rattle.lists.specs.Lengths.{without-length, first_left-le}
 use Rattle.lists.specs.Tests
-use Rattle.lists.specs.Tests.{if◌then◌else◌, and_l, and_r, every-yes}
+use Rattle.lists.specs.Tests.{and_l, and_r, every-yes}
 use Rattle.lists.specs.All.{All, nil, cons, IfSome, all_append, all_keep, all_without, all_get_d, all_replicate}
 use Rattle.lists.specs.Tables.{put, put_has}
 use Rattle.rules.specs.Memory

@@ -1,9 +1,8 @@
 -- What a slot is written with and what a block reads as has B bytes, in a state whose blocks have B bytes each.
-use Rattle.std.specs.Prelude.{◌≡◌, Bool, true, false, not, ◌&&◌, ℕ, length}
+use Rattle.std.specs.Prelude.{◌≡◌, Bool, true, false, not, ◌&&◌, ℕ, length, if◌then◌else◌}
 use Rattle.std.proofs.Math.Option.{Option, none, some}
 use Rattle.std.proofs.lemmas.List.{length-replicate}
 use Rattle.lists.specs.Search.{member}
-use Rattle.lists.specs.Tests.{if◌then◌else◌}
 use Rattle.rules.specs.Blocks.{zeros, contents, slot_bytes, is_nowhere}
 use Rattle.rules.specs.State.{State}
 

@@ -1,5 +1,5 @@
 -- Sources, written levels and counter of a rebuild are in range.
-use Rattle.std.specs.Prelude.{◌≡◌, refl, Bool, true, ◌||◌, List, [], ◌∷◌, ℕ, zero, suc, ◌+◌, ◌-◌, ◌^◌, ◌≤◌, ◌<◌, min, length, eqb, leb, ltb}
+use Rattle.std.specs.Prelude.{◌≡◌, refl, Bool, true, ◌||◌, List, [], ◌∷◌, ℕ, zero, suc, ◌+◌, ◌-◌, ◌^◌, ◌≤◌, ◌<◌, min, length, eqb, leb, ltb, if◌then◌else◌}
 use Rattle.std.proofs.Common.{sym, true≢false, pow_mono, pow_pos, eq-eqb, leb-true, ltb-true, ltb-false}
 use Rattle.std.proofs.Math.Bool.{false}
 use Rattle.std.proofs.Math.Option.{Option, none, some}
@@ -7,7 +7,7 @@ use native.Mathlib.Omega.{arith}
 use Rattle.std.proofs.Math.Decide.{dec_lt}
 use Rattle.std.proofs.lemmas.Bool.{eqb-false}
 use Rattle.lists.specs.Tests
-use Rattle.lists.specs.Tests.{if◌then◌else◌, and_l, every-yes}
+use Rattle.lists.specs.Tests.{and_l, every-yes}
 use Rattle.lists.specs.Search
 use Rattle.lists.specs.Search.{keep, keep-yes, keep-no}
 use Rattle.lists.specs.All.{All, nil, cons, IfSome, all_map, all_keep}

@@ -1,12 +1,11 @@
 -- The queue, job by job: how many are for q, and the first j of them leave.
-use Rattle.std.specs.Prelude.{◌≡◌, Bool, ℕ, suc, ◌+◌, ◌≤◌}
+use Rattle.std.specs.Prelude.{◌≡◌, Bool, ℕ, suc, ◌+◌, ◌≤◌, if◌then◌else◌}
 use Rattle.std.proofs.Math.Path.{refl, ap}
 use Rattle.std.proofs.Math.Bool.{true, false}
 use mathlib.Core.List.{List, [], ◌∷◌, ◌++◌}
 use Rattle.std.proofs.Common.{arith}
 use Rattle.std.proofs.Math.ListN.{length}
 use Rattle.std.proofs.Math.Dec.{eqb}
-use Rattle.lists.specs.Tests.{if◌then◌else◌}
 use Rattle.lists.specs.Search.{any, keep, without_first, member, keep-yes, keep-no}
 use Rattle.lists.specs.Leaving.{without-first-none, without-first-yes, without-first-no}
 use Rattle.rules.specs.Jobs.{queued, leave_queue}

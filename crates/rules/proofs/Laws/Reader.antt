@@ -1,13 +1,12 @@
 -- Document 02, P6: what the partition reader reads of a level is what documents 01 and 02 (P4) say in their own words, on every state; and a list of its
 -- reads is those of the levels that cost one.
-use Rattle.std.specs.Prelude.{◌≡◌, Bool, not, ◌&&◌, ◌||◌, ℕ, eqb}
+use Rattle.std.specs.Prelude.{◌≡◌, Bool, not, ◌&&◌, ◌||◌, ℕ, eqb, if◌then◌else◌}
 use Rattle.std.proofs.Math.Path.{refl, ap}
 use Rattle.std.proofs.Common.{sym, ◌∙◌, eqb-true}
 use Rattle.std.proofs.Math.Bool.{true, false}
 use mathlib.Core.List.{List, [], ◌∷◌}
 use Rattle.std.proofs.Math.Option.{Option, none, some}
 use Rattle.lists.specs.Search.{any, keep, or_else, below, member, keep-yes, keep-no}
-use Rattle.lists.specs.Tests.{if◌then◌else◌}
 use Rattle.rules.specs.Shape.{slots}
 use Rattle.rules.specs.State.{Place, nowhere, stored, State}
 use Rattle.rules.specs.Levels.{filled}

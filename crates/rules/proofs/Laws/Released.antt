@@ -1,11 +1,10 @@
 -- What a release leaves as it was.
-use Rattle.std.specs.Prelude.{◌≡◌, Bool, ◌&&◌, [], ℕ, eqb, length}
+use Rattle.std.specs.Prelude.{◌≡◌, Bool, ◌&&◌, [], ℕ, eqb, length, if◌then◌else◌}
 use Rattle.std.proofs.Math.Path.{refl}
 use Rattle.std.proofs.Common.{ap, sym, ◌∙◌}
 use Rattle.std.proofs.Math.Bool.{true, false, not}
 use Rattle.std.proofs.Math.Option.{Option, none, some, map}
 use Rattle.lists.specs.Search.{is_none}
-use Rattle.lists.specs.Tests.{if◌then◌else◌}
 use Rattle.rules.specs.Blocks.{holder, slot_bytes, zeros, look_up}
 use Rattle.rules.specs.Request.{blocked, held, with_found, released_in, release}
 use Rattle.rules.specs.Silent.{held_only, without_found, unseen_in, release_unseen}

@@ -1,8 +1,7 @@
 -- No call but an open changes the shape, and a completion nothing of the request in hand but what it awaits.
-use Rattle.std.specs.Prelude.{◌≡◌, refl, Bool, true, false, List, [], ◌∷◌, ℕ, eqb}
+use Rattle.std.specs.Prelude.{◌≡◌, refl, Bool, true, false, List, [], ◌∷◌, ℕ, eqb, if◌then◌else◌}
 use Rattle.std.proofs.Common.{ap, ◌∙◌, true≢false}
 use Rattle.std.proofs.Math.Option.{Option, none, some, map}
-use Rattle.lists.specs.Tests.{if◌then◌else◌}
 use Rattle.rules.specs.Blocks.{holder}
 use Rattle.rules.specs.Collect.{collected, finish}
 use Rattle.rules.specs.Completion.{complete, complete_read, complete_write, completed, gather_bytes, finish_job, end_job, job_done, awaits_less}

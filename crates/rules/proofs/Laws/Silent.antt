@@ -1,6 +1,6 @@
 -- Nothing that the host is sent depends on where a block was found: a state without it is answered the same numbers, words, commands and bytes, and
 -- what every call leaves is the same but for it.
-use Rattle.std.specs.Prelude.{◌≡◌, Bool, ◌&&◌, ℕ, suc, length, eqb}
+use Rattle.std.specs.Prelude.{◌≡◌, Bool, ◌&&◌, ℕ, suc, length, eqb, if◌then◌else◌}
 use Rattle.std.proofs.Math.Path.{refl, ap, sym}
 use Rattle.std.proofs.Common.{◌∙◌, eqb-true}
 use Rattle.std.proofs.Math.Bool.{true, false, not}
@@ -11,7 +11,6 @@ use Rattle.std.proofs.Math.Dec.{leb}
 use Rattle.std.proofs.lemmas.Bool.{eqb-false}
 use Rattle.lists.specs.All.{IfSome}
 use Rattle.lists.specs.Search.{is_none}
-use Rattle.lists.specs.Tests.{if◌then◌else◌}
 use Rattle.rules.specs.Silent.{untold, held_only, without_found, performed, step_unseen, run_unseen}
 use Rattle.rules.specs.Blocks
 use Rattle.rules.specs.Collect

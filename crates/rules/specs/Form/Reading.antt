@@ -1,7 +1,6 @@
 -- Document 02, P5: a payload, read in the order in which it is written.
-use Rattle.std.specs.Prelude.{List, [], ◌∷◌, ℕ, zero, suc, length, get_or, eqb, Bool, true, false}
+use Rattle.std.specs.Prelude.{List, [], ◌∷◌, ℕ, zero, suc, length, get_or, eqb, Bool, true, false, if◌then◌else◌}
 use Rattle.std.proofs.Math.Option.{Option, none, some}
-use Rattle.lists.specs.Tests.{if◌then◌else◌}
 use Rattle.lists.specs.Search.{keep, below}
 use Rattle.rules.specs.Shape.{Shape, slots}
 use Rattle.rules.specs.Form.Numbers.{value, slot_width}

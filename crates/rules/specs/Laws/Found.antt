@@ -1,8 +1,7 @@
 -- Document 02, P2: "as found when the request ceased to be held (at acceptance if it never was)". On every state.
-use Rattle.std.specs.Prelude.{◌≡◌, ℕ}
+use Rattle.std.specs.Prelude.{◌≡◌, ℕ, if◌then◌else◌}
 use Rattle.std.proofs.Math.Bool.{false}
 use mathlib.Core.List.{List, [], ◌∷◌}
-use Rattle.lists.specs.Tests.{if◌then◌else◌}
 use Rattle.rules.specs.Blocks.{look_up}
 use Rattle.rules.specs.Laws.Answers.{opens}
 use Rattle.rules.specs.Questions.{collect, Call, number}

@@ -1,10 +1,9 @@
 -- Document 02, P6: what the partition reader reads of a level is what documents 01 and 02 (P4) say in their own words, on every state; and a list of its
 -- reads is those of the levels that cost one.
-use Rattle.std.specs.Prelude.{Bool, ℕ, eqb}
+use Rattle.std.specs.Prelude.{Bool, ℕ, eqb, if◌then◌else◌}
 use mathlib.Core.List.{List, [], ◌∷◌}
 use Rattle.std.proofs.Math.Option.{Option, none, some}
 use Rattle.lists.specs.Search.{or_else}
-use Rattle.lists.specs.Tests.{if◌then◌else◌}
 use Rattle.rules.specs.State.{Place, nowhere, stored, Found, found_nowhere, found_cache, found_level}
 use Rattle.rules.specs.Reader.{Condition, level_of, slot_of, fake_by, is_cached_in, if_filled, is_level, add_read}
 

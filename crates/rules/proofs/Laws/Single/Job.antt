@@ -1,5 +1,5 @@
 -- A job that runs alone does what document 01 says of it: its reads, the block that it takes, its draws and writes, its rebuild and its end.
-use Rattle.std.specs.Prelude.{◌≡◌, not, ◌&&◌, ◌||◌, replicate}
+use Rattle.std.specs.Prelude.{◌≡◌, not, ◌&&◌, ◌||◌, replicate, if◌then◌else◌}
 use Rattle.std.proofs.Math.Path.{refl, ap, fun_ext}
 use Rattle.std.proofs.Common.{sym, ◌∙◌, true≢false, take_all}
 use Rattle.std.proofs.Math.Bool.{Bool, true, false}
@@ -12,7 +12,7 @@ use Rattle.std.proofs.Math.ListN.{length, take, length-replicate, get_or-replica
 use Rattle.std.proofs.Math.Dec.{eqb, ltb, leb}
 use Rattle.std.proofs.Math.Pow.{pow_mono}
 use borrow.Author.Tests.{eqb-true, eq-eqb, ltb-true, ltb-false}
-use Rattle.lists.specs.Tests.{if◌then◌else◌, both_true, or_left}
+use Rattle.lists.specs.Tests.{both_true, or_left}
 use Rattle.lists.specs.Members.{keep_same}
 use Rattle.lists.specs.Lengths.{length-below}
 use Rattle.lists.specs.Tables.{put, put_all, put_all-in, put_all-before, put_all-behind}
