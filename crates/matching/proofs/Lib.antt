@@ -6,10 +6,12 @@ pub mod Deferred
 pub mod TwoLists
 pub mod Flat
 pub mod Coded
--- The trades of single calls: none, a read of a slot out of an arrangement, a new order (Draws, Order), a value out of a table, and a trade at one key of many
+-- The trades of single calls: none, a read of a slot out of an arrangement, a new order (and, in Draws, the draws for an arrangement), a value out of a
+-- table (and, in Shown, its round trips), and a trade at one key of many
 pub mod Trades
 pub mod SlotReads
 pub mod Draws
 pub mod Order
+pub mod Shown
 pub mod Positions
 pub mod Keyed

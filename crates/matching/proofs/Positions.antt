@@ -10,11 +10,12 @@ use Rattle.lists.specs.Search.{below}
 use Rattle.lists.specs.Lengths.{length-below}
 use Rattle.lists.specs.Places.{map-get_or}
 use Rattle.lists.specs.Members.{get_or-map-below}
-use Rattle.lists.specs.Tables.{put, put_same, put_other, put-put, put-own}
+use Rattle.lists.specs.Tables.{put, put_same, put_other}
 use Rattle.rules.specs.Draws.{Drew}
 use Rattle.rules.proofs.Laws.Orders.{drew-length, drew-each, each-drew}
 use Rattle.matching.specs.Trades.{Trades, None}
 use Rattle.matching.specs.Positions.{Placed, Positions, Zero, cover, show}
+use Rattle.matching.proofs.Shown.{cover-show, show-cover}
 
 placed-put : (N P b x : ℕ) (pos : Positions) → b < N → x < P → Placed N P pos → Placed N P (put b x pos)
 placed-put N P b x pos l m p = (λ a k. go a k (ℕ_discrete a b), λ a k. put_other b x pos a (λ e. omega arith) ∙ p.1 a k)
@@ -24,39 +25,25 @@ placed-put N P b x pos l m p = (λ a k. go a k (ℕ_discrete a b), λ a k. put_o
     go a k (no e) = rw (put_other b x pos a e) (p.0 a k)
 
 -- ---- the position of b is shown: the first draw is below P, and any others, below ms, stay
-module _ (b : ℕ) where
-  pub cover-show : (x : Positions × List ℕ) → cover b (show b x) ≡ x
-  cover-show (pos, []) = refl
-  cover-show (pos, d ∷ ds) = rw (put-put b (pos b) d pos, put-own b pos, put_same b d pos)
+module _ (b N P : ℕ) (ms : List ℕ) (l : b < N) where
+  pub show-ok : (x : Positions × List ℕ) → Placed N P x.0 × Drew (P ∷ ms) x.1 → Drew (P ∷ ms) (show b x).0 × Placed N P (show b x).1
+  show-ok (pos, []) p = absurd p.1
+  show-ok (pos, d ∷ ds) p = ((p.0.0 b l, p.1.1), placed-put N P b d pos l p.1.0 p.0)
 
-  pub show-cover : (y : List ℕ × Positions) → show b (cover b y) ≡ y
-  show-cover ([], pos) = refl
-  show-cover (p ∷ ds, pos) = rw (put-put b (pos b) p pos, put-own b pos, put_same b p pos)
+  pub cover-ok : (y : List ℕ × Positions) → Drew (P ∷ ms) y.0 × Placed N P y.1 → Placed N P (cover b y).0 × Drew (P ∷ ms) (cover b y).1
+  cover-ok ([], pos) p = absurd p.0
+  cover-ok (a ∷ ds, pos) p = (placed-put N P b a pos l p.0.0 p.1, (p.1.0 b l, p.0.1))
 
-  module _ (N P : ℕ) (ms : List ℕ) (l : b < N) where
-    pub show-ok : (x : Positions × List ℕ) → Placed N P x.0 × Drew (P ∷ ms) x.1 → Drew (P ∷ ms) (show b x).0 × Placed N P (show b x).1
-    show-ok (pos, []) p = absurd p.1
-    show-ok (pos, d ∷ ds) p = ((p.0.0 b l, p.1.1), placed-put N P b d pos l p.1.0 p.0)
-
-    pub cover-ok : (y : List ℕ × Positions) → Drew (P ∷ ms) y.0 × Placed N P y.1 → Placed N P (cover b y).0 × Drew (P ∷ ms) (cover b y).1
-    cover-ok ([], pos) p = absurd p.0
-    cover-ok (a ∷ ds, pos) p = (placed-put N P b a pos l p.0.0 p.1, (p.1.0 b l, p.0.1))
-
-    abbrev pub position : Trades {D = List ℕ} {E = List ℕ} {H = Positions} (Placed N P) (Drew (P ∷ ms)) (Drew (P ∷ ms)) (λ e. Placed N P)
-    position = record {
-      f = show b;
-      g = cover b;
-      f-ok = show-ok;
-      g-ok = cover-ok;
-      g-f = λ x p. cover-show x;
-      f-g = λ y p. show-cover y;
-      same = λ x p. refl;
-    }
-
--- position 1 of a table of fives, with 3 drawn for it: five is shown, and three is hidden in its place
-shown-five : ((show 1 (λ b. 5, 3 ∷ 4 ∷ [])).0 ≡ 5 ∷ 4 ∷ []) × ((show 1 (λ b. 5, 3 ∷ 4 ∷ [])).1 1 ≡ 3)
-unfolding put
-shown-five = (refl, refl)
+  abbrev pub position : Trades {D = List ℕ} {E = List ℕ} {H = Positions} (Placed N P) (Drew (P ∷ ms)) (Drew (P ∷ ms)) (λ e. Placed N P)
+  position = record {
+    f = show b;
+    g = cover b;
+    f-ok = show-ok;
+    g-ok = cover-ok;
+    g-f = λ x p. cover-show b x;
+    f-g = λ y p. show-cover b y;
+    same = λ x p. refl;
+  }
 
 -- ---- the start: N draws below P
 
