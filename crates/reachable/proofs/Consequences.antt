@@ -332,6 +332,10 @@ module _ (s : State) (f : Reached s) where
     pub job-unread : s.mark (cell s.shape q ℓ i) ≡ 1
     job-unread = unread-mark s q ℓ i d.unread
 
+-- A job that has not begun has left the slots of its partition's blocks unread; the request for a block may have read its slot
+pub untouched : (s : State) → Reached s → (b ℓ i : ℕ) → b < s.shape.N → s.place b ≡ stored ℓ i → s.begun ≡ 0 → (s.mark (cell s.shape (s.partition b) ℓ i) ≡ 1) ⊎ Own s b ℓ
+untouched s f b ℓ i hb e z = ⊎_elim inl (λ k. ⊎_elim inr (λ g. absurd (g.2.0 z)) k) (f.unread b ℓ i hb e)
+
 -- A slot that counts as read still does when another read is sent
 pub still_read : (x c : ℕ) (mark : ℕ → ℕ) → mark c ≡ 0 → put x 0 mark c ≡ 0
 still_read x c mark e = put_has (λ v. v ≡ 0) x 0 mark c refl e

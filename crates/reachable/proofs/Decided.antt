@@ -24,11 +24,13 @@ use Rattle.rules.specs.Reader
 use Rattle.rules.specs.Laws.Reader.{slot_in, if_unread, slot_said}
 use Rattle.rules.proofs.Laws.Reader.{costs-is, slot_read-is}
 use Rattle.rules.specs.Request
+use Rattle.rules.specs.Request.{held}
 use Rattle.rules.specs.Shape.{offset, slots}
 use Rattle.rules.specs.State.{State, Command, Request, stored}
 use Rattle.rules.specs.Turn
 use Rattle.rules.specs.Turn.{Step, idle, no_dummy, read_for_request, read_for_job, rebuild, write_next, decide}
 use Rattle.reachable.proofs.Scan.{scan-none, scan-least, test}
+use Rattle.reachable.specs.Terms.{CallsLeft}
 
 -- a request that finds no slot to read
 pub record Lacks (s : State) : Type 0 where
@@ -254,3 +256,9 @@ module _ (s : State) where
       go : (o : Option Step) → Turn.request_step s s.request ≡ o → IfSome (Decided s) o → Decided s (get_or o (Turn.job_step s s.queue))
       go none w h = job-decided (step-behind s.request refl w) s.queue refl
       go (some x) w h = h
+
+-- Of states that calls left
+module _ (left : State) (calls : CallsLeft left) where
+  -- P4: "and the job draws its order only after the request is collected"; P7: its orders
+  pub draws-later : (q : ℕ) (ls : List ℕ) → decide left ≡ rebuild q ls → (r : Request) → left.request ≡ some r → held r ≡ false → ¬ (left.partition r.block ≡ q)
+  draws-later q ls e r h u = let d : Rebuilds left q ls = rw e at (decided left) in d.apart r h u

@@ -1,9 +1,11 @@
 -- What holds of every state that calls left. Read first
---   Theorems, Runs and RequestReads, with the words they use in Terms (specs/): what holds, over the runs of the rules, with nothing of the invariant;
+--   Theorems, Runs and RequestReads, with the words they use in Terms (specs/): what holds, over the runs of the rules, with nothing of the invariant
+--   (of these draws-later stands in Decided, released-run in Settled);
 --   Invariant, with Live (specs/): the record of facts from which all of it follows;
 --   Reached: every call keeps that record.
 pub mod Theorems
 pub mod Runs
+pub mod RunLasts
 pub mod RequestReads
 pub mod Live
 pub mod Saved
@@ -33,6 +35,7 @@ pub mod Sends
 pub mod ReadsLeft
 pub mod ReadsSent
 pub mod ReadsRun
+pub mod ReadList
 -- Underneath: bits of counters, cells of levels, a search from a cursor, pending jobs and requests, a run's writes and the levels that it fills, stored
 -- and gathered blocks by places and by slots, lists of commands
 pub mod Cells

@@ -16,7 +16,7 @@ use Rattle.rules.specs.Laws.Found.{Between}
 use Rattle.rules.specs.Laws.Reader.{level_in}
 use Rattle.rules.proofs.Laws.Reader.{found-level}
 use Rattle.rules.specs.Questions.{collect, Call, number}
-use Rattle.rules.specs.Reader.{level_of, read_levels, read_partition}
+use Rattle.rules.specs.Reader.{level_of, read_levels}
 use Rattle.rules.specs.Request.{held, is_source}
 use Rattle.rules.specs.Run.{step, run, after}
 use Rattle.rules.specs.Shape.{cell}
@@ -26,9 +26,10 @@ use Rattle.reachable.proofs.Consequences.{block-lt}
 use Rattle.reachable.specs.Invariant.{Own}
 use Rattle.reachable.proofs.Live.{gathers-source}
 use Rattle.reachable.proofs.Reached.{Was, live, shut, reachable}
+use Rattle.reachable.proofs.ReadList
 use Rattle.reachable.proofs.ReadsLeft.{remaining}
 use Rattle.reachable.proofs.ReadsSent.{next-step}
-use Rattle.reachable.proofs.ReadsRun.{Sends, run-sends, between-was, leaves-hand, released-first, remaining-all, collect-none}
+use Rattle.reachable.proofs.ReadsRun.{Sends, run-sends, between-was, leaves-hand, released-first, collect-none}
 use Rattle.reachable.proofs.Settled.{closed-hand}
 use Rattle.reachable.specs.Terms.{CallsLeft, called, first_of, reads_sent, commands_told, as_read}
 
@@ -63,7 +64,7 @@ module _ (left : State) (calls : CallsLeft left) where
     now = (step left k).0
 
     abbrev list : List (ℕ × ℕ)
-    list = read_partition (step left k).0 r.block
+    list = ReadList.list left calls k before r in_hand u ks between
 
     was : Was now
     was = reachable (called k calls (leaves-hand left k r in_hand) refl)
@@ -72,7 +73,7 @@ module _ (left : State) (calls : CallsLeft left) where
     sends = run-sends ks now was r in_hand u between
 
     whole : remaining now r ≡ list
-    whole = remaining-all now r (released-first left (reachable calls) k before r in_hand u).0
+    whole = ReadList.whole left calls k before r in_hand u ks between
 
     -- the reads that turns have sent for r are the first of the list, in its order
     pub reads_first : (rest : List (ℕ × ℕ)) × (reads_sent now ks ++ rest ≡ list)

@@ -1,5 +1,5 @@
 -- Document 02, P7, of states that calls left: with how many jobs a run begins, that their number is fixed then, and what its end does. Stated over the
--- rules, with nothing of the invariant (the words are in Terms).
+-- rules, with nothing of the invariant (the words are in Terms). RunLasts has the second over lists of calls.
 use Rattle.std.proofs.Math.Path.{◌≡◌, refl, ap, sym, subst}
 use Rattle.std.proofs.Common.{◌∙◌, true≢false, arith, eqb-true}
 use Rattle.std.specs.Prelude.{◌⊎◌, Bool, List, [], ◌∷◌, ℕ, ◌+◌, ◌≤◌, eqb, if◌then◌else◌}
@@ -8,7 +8,6 @@ use Rattle.std.proofs.Math.Bool.{true, false, not}
 use Rattle.std.proofs.Math.Option.{Option, none, some}
 use Rattle.std.proofs.Math.ListN.{length}
 use Rattle.std.proofs.lemmas.Bool.{eqb-false}
-use Rattle.lists.specs.All.{All, nil, cons}
 use Rattle.lists.specs.Search.{keep}
 use Rattle.lists.specs.Tables.{put_same, put_other}
 use Rattle.lists.specs.Tests.{and_l}
@@ -31,9 +30,9 @@ use Rattle.rules.specs.Questions
 use Rattle.rules.specs.Questions.{Ask, opening, request, turn, completion, collect, save, load, Call, questions, bounds, number}
 use Rattle.rules.specs.Ranges.{is_kind}
 use Rattle.rules.specs.Rebuild.{do_rebuild}
-use Rattle.rules.specs.Request.{held, is_source, accept, release}
+use Rattle.rules.specs.Request.{is_source, accept, release}
 use Rattle.rules.specs.Run
-use Rattle.rules.specs.Run.{perform, step, after}
+use Rattle.rules.specs.Run.{perform, step}
 use Rattle.rules.specs.State.{State, Command, read, Request, closed}
 use Rattle.rules.specs.Turn
 use Rattle.rules.specs.Turn.{Step, idle, no_dummy, read_for_request, read_for_job, rebuild, write_next, decide, do_step}
@@ -43,11 +42,10 @@ use Rattle.reachable.specs.Invariant.{Reached}
 use Rattle.reachable.proofs.Kept.Completion.{completed-kept}
 use Rattle.reachable.specs.Live.{Running}
 use Rattle.reachable.proofs.Live.{joined-begun, front-is, front_rest, source-why}
-use Rattle.reachable.proofs.Pending.{leave-queue-length, leave-queue-less, leave-queue-others, queued-none}
+use Rattle.reachable.proofs.Pending.{leave-queue-length, leave-queue-less, leave-queue-others}
 use Rattle.reachable.proofs.Reached.{Was, reachable, live, shut, was-reached}
-use Rattle.reachable.proofs.Settled.{closed-hand}
 use Rattle.reachable.proofs.Slots.{front-in}
-use Rattle.reachable.specs.Terms.{CallsLeft, called, Ends, Unended}
+use Rattle.reachable.specs.Terms.{CallsLeft, Ends}
 
 -- ---- A turn
 
@@ -229,22 +227,3 @@ module _ (left : State) (calls : CallsLeft left) where
       go (stays w v) = absurd (n (v c bs e))
       go (begins a q rest x w) = let y : turn ≡ completion c bs = sym a ∙ e in let z : ◌≡◌ {A = ℕ} 0 1 = cc in absurd (omega arith)
       go (finishes d ds a w) = w
-
-  -- "The run counts as one job for look-ups during a rebuild": of the partition of a request that is not held no jobs are queued but those of the run at the
-  -- front; before it begins, but one
-  pub released-run : (r : Request) → left.request ≡ some r → held r ≡ false → queued left.queue (left.partition r.block) ≤ begun_with left.begun 1
-  released-run r e u = go was
-    where
-      go : Was left → queued left.queue (left.partition r.block) ≤ begun_with left.begun 1
-      go (live f) = ⊎_elim (λ n. omega (arith, queued-none (left.partition r.block) left.queue n)) (λ a. a.1) (f.released r e u)
-      go (shut w) = absurd (closed-hand left w r e)
-
--- Over calls that are no opens and no loads: while no completion moves the queue, a run that has begun is of the jobs that it began with
-pub run-lasts : (left : State) → CallsLeft left → (ds : List Call) → All (λ (d : Call). opens d.ask ≡ false) ds → Unended left ds → (left.begun ≡ 0 → ⊥) → (after left ds).begun ≡ left.begun
-unfolding after
-run-lasts left calls [] nil v n = refl
-run-lasts left calls (d ∷ ds) (cons o os) v n = go (run-lasts (step left d).0 (called d calls o refl) ds os v.1) (run-fixed left calls d o n)
-  where
-    go : (((step left d).0.begun ≡ 0 → ⊥) → (after (step left d).0 ds).begun ≡ (step left d).0.begun) → ((step left d).0.begun ≡ left.begun) ⊎ ((c : Command) × (bs : List ℕ) × ((d.ask ≡ completion c bs) × Ends left (step left d).0)) → (after (step left d).0 ds).begun ≡ left.begun
-    go later (inl w) = later (λ z. n (sym w ∙ z)) ∙ w
-    go later (inr w) = let x = w.2.1 in absurd (omega (arith, x.fewer, x.some-jobs, ap length (v.0 w.0 w.1 w.2.0)))

@@ -1,6 +1,6 @@
 -- A state that calls left and that is at rest can be saved, and what its form brings has the invariant again.
-use Rattle.std.specs.Prelude.{◌≡◌, refl, ◌⊎◌, true, List, [], ◌∷◌, ℕ, zero, suc, ◌<◌, replicate}
-use Rattle.std.proofs.Common.{ap, sym, ◌∙◌, inl, inr, ⊎_elim, true≢false, arith, eqb-true}
+use Rattle.std.specs.Prelude.{◌≡◌, refl, true, List, [], ◌∷◌, ℕ, zero, suc, ◌<◌, replicate}
+use Rattle.std.proofs.Common.{ap, sym, ◌∙◌, ⊎_elim, true≢false, arith, eqb-true}
 use Rattle.std.proofs.Math.Option.{Option, none, some}
 use Rattle.std.proofs.Math.ListN.{length, length-replicate}
 use Rattle.lists.specs.All.{IfSome, find-all}
@@ -18,6 +18,7 @@ use Rattle.rules.specs.Questions.{at_rest}
 use Rattle.rules.specs.Request
 use Rattle.rules.specs.Shape.{cell, slots}
 use Rattle.rules.specs.State.{State, Command, Request, stored}
+use Rattle.reachable.proofs.Consequences.{untouched}
 use Rattle.reachable.specs.Invariant.{Reached, Own}
 use Rattle.reachable.specs.Live
 use Rattle.reachable.specs.Live.{counted, drawn, pending}
@@ -46,10 +47,6 @@ rest-facts s e =
     nil-of : (cs : List Command) → length cs ≡ 0 → cs ≡ []
     nil-of [] k = refl
     nil-of (c ∷ cs) k = absurd (omega arith)
-
--- A job that has not begun has left the slots of its partition's blocks unread; the request for a block may have read its slot
-untouched : (s : State) → Reached s → (b ℓ i : ℕ) → b < s.shape.N → s.place b ≡ stored ℓ i → s.begun ≡ 0 → (s.mark (cell s.shape (s.partition b) ℓ i) ≡ 1) ⊎ Own s b ℓ
-untouched s f b ℓ i hb e z = ⊎_elim inl (λ k. ⊎_elim inr (λ g. absurd (g.2.0 z)) k) (f.unread b ℓ i hb e)
 
 module _ (s : State) (f : Reached s) (r : Rests s) where
   calm : (q ℓ : ℕ) → filled (counted s q) ℓ ≡ filled (s.counter q) ℓ

@@ -1,13 +1,14 @@
--- After every call a request that is held is held by the rule: one that may be released is released by the call that makes it so.
-use Rattle.std.specs.Prelude.{◌≡◌, Bool, ◌&&◌, ℕ, length, eqb, if◌then◌else◌}
+-- After every call a request that is held is held by the rule: one that may be released is released by the call that makes it so. And which jobs a request
+-- that is not held may be beside.
+use Rattle.std.specs.Prelude.{◌≡◌, Bool, ◌&&◌, ℕ, ◌≤◌, length, eqb, if◌then◌else◌}
 use Rattle.std.proofs.Math.Path.{refl, ap}
-use Rattle.std.proofs.Common.{sym, ◌∙◌, true≢false, arith, eqb-true}
+use Rattle.std.proofs.Common.{sym, ◌∙◌, ⊎_elim, true≢false, arith, eqb-true}
 use Rattle.std.proofs.Math.Bool.{true, false, not}
 use Rattle.std.proofs.Math.Option.{Option, none, some, map}
 use Rattle.std.proofs.lemmas.Bool.{eqb-false}
 use Rattle.lists.specs.Search.{is_none}
 use Rattle.lists.specs.Tests.{and-true}
-use Rattle.rules.specs.Jobs.{joined, top_of}
+use Rattle.rules.specs.Jobs.{queued, begun_with, joined, top_of}
 use Rattle.rules.specs.Blocks.{look_up}
 use Rattle.rules.specs.Draws.{draws}
 use Rattle.rules.proofs.Laws.Answers.{step-accepted, step-refused, open-first, load-first}
@@ -16,6 +17,8 @@ use Rattle.rules.specs.Request.{undrawn_only, is_source, worn, held_for, blocked
 use Rattle.rules.specs.Run
 use Rattle.rules.specs.Run.{act, step}
 use Rattle.rules.specs.State.{State, Request, closed}
+use Rattle.reachable.proofs.Pending.{queued-none}
+use Rattle.reachable.proofs.Reached.{Was, reachable, live, shut}
 use Rattle.reachable.specs.Terms.{CallsLeft, opened, called, loaded}
 
 -- a request that is held is held by the rule
@@ -71,3 +74,13 @@ pub left-settled : {s : State} → CallsLeft s → Settled s
 left-settled (opened s c h e z) = rw (z, open-first s c h e) (step-settles closed c closed-settled)
 left-settled (called c l o z) = rw z (step-settles _ c (left-settled l))
 left-settled (loaded {u = u} s c d l e a z) = rw (z, load-first s c (step u d).1.bytes a) (step-settles closed c closed-settled)
+
+module _ (left : State) (calls : CallsLeft left) where
+  -- P7: "The run counts as one job for look-ups during a rebuild": of the partition of a request that is not held no jobs are queued but those of the run at
+  -- the front; before it begins, but one
+  pub released-run : (r : Request) → left.request ≡ some r → held r ≡ false → queued left.queue (left.partition r.block) ≤ begun_with left.begun 1
+  released-run r e u = go (reachable calls)
+    where
+      go : Was left → queued left.queue (left.partition r.block) ≤ begun_with left.begun 1
+      go (live f) = ⊎_elim (λ n. omega (arith, queued-none (left.partition r.block) left.queue n)) (λ a. a.1) (f.released r e u)
+      go (shut w) = absurd (closed-hand left w r e)

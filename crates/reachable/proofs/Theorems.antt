@@ -132,10 +132,6 @@ module _ (left : State) (calls : CallsLeft left) where
       go true u = let w = held-why r e u in u ∙ sym (and-true w.0 (ap not w.1))
       go false u = u ∙ sym (⊎_elim (λ w. ap (λ t. t && not (undrawn_only left q)) w) (λ w. and-false (member q left.queue) (ap not w)) (released-why r e u))
 
-  -- P4: "and the job draws its order only after the request is collected"; P7: its orders
-  pub draws-later : (q : ℕ) (ls : List ℕ) → decide left ≡ rebuild q ls → (r : Request) → left.request ≡ some r → held r ≡ false → ¬ (left.partition r.block ≡ q)
-  draws-later q ls e r h u = let d : Rebuilds left q ls = rw e at (decided left) in d.apart r h u
-
   -- P4: "and the wanted block leaves the job": the next orders that are drawn after a collect, the first write since it, gather its block only if that is
   -- one of those chosen from the cache, as any block that waits. Calls in between may save, and load what was just saved
   pub wanted-leaves : (k : Call) → k.ask ≡ collect → number left k ≡ 0 → (r : Request) → left.request ≡ some r
