@@ -1,31 +1,28 @@
--- A collect hands out the contents of its block, and keeps those of every other; an open starts with zeros.
-use Rattle.std.specs.Prelude.{◌≡◌, Bool, ◌&&◌, List, [], ◌∷◌, ℕ, ◌<◌, replicate, eqb, if◌then◌else◌}
+-- A collect keeps the contents of every block (Collected has what it hands out); an open starts with zeros.
+use Rattle.std.specs.Prelude.{◌≡◌, List, [], ◌∷◌, ℕ, ◌<◌, replicate}
 use Rattle.std.proofs.Math.Path.{refl, sym}
-use Rattle.std.proofs.Common.{ap, ◌∙◌, inl, ⊎_elim, arith, ne_eqb}
-use Rattle.std.proofs.Math.Bool.{true, false, not}
+use Rattle.std.proofs.Common.{ap, ◌∙◌, inl, ⊎_elim, ne_eqb}
+use Rattle.std.proofs.Math.Bool.{true, not}
 use Rattle.std.proofs.Math.Option.{some}
 use Rattle.std.proofs.Math.Decide.{ℕ_discrete}
-use Rattle.lists.specs.All.{any-all}
 use Rattle.lists.specs.Distinct.{Mem}
-use Rattle.lists.specs.Members.{append-mem, member-append, append_right, keep-mem, mem-keep, member-mem, not-member}
-use Rattle.lists.specs.Search
-use Rattle.lists.specs.Tables.{put, put_same, put_other}
+use Rattle.lists.specs.Members.{append-mem, member-append, append_right, keep-mem, mem-keep}
+use Rattle.lists.specs.Tables.{put_same, put_other}
 use Rattle.rules.specs.Blocks
 use Rattle.rules.specs.Collect.{finish, finished}
-use Rattle.rules.specs.Completion.{is_command}
 use Rattle.rules.specs.Open.{fresh}
 use Rattle.rules.specs.Ranges.{others}
 use Rattle.rules.specs.Shape.{Shape, cell}
-use Rattle.rules.specs.State.{State, cmd, read, write, Place, nowhere, stored, Request}
+use Rattle.rules.specs.State.{State, nowhere, stored, Request}
 use Rattle.reachable.proofs.Blocks.{not-nowhere}
-use Rattle.reachable.proofs.Consequences.{block-lt, finished-read, finished-aside}
 use Rattle.reachable.specs.Invariant.{Reached}
 use Rattle.reachable.proofs.Kept.Collect.{other_block, place_other, partition-other}
 use Rattle.reachable.specs.Live.{Target}
-use Rattle.reachable.proofs.Outstanding.{command-is}
 use Rattle.reachable.proofs.Pending.{front-more}
-use Rattle.array.specs.Claim.{Slots, Asked, change}
+use Rattle.array.specs.Claim.{Slots, change}
 use Rattle.array.specs.Contents.{Contents, Sent, Due}
+use Rattle.array.proofs.Collected
+use Rattle.array.proofs.Collected.{asked, array_same}
 use Rattle.reachable.specs.Values.{Out}
 
 -- A collect
@@ -34,46 +31,11 @@ module _ (s : State) (f : Reached s) (last has : Slots) (array : ℕ → List �
   abbrev b : ℕ
   b = r.block
 
-  hb : b < s.shape.N
-  hb = block-lt s f r in_hand
-
-  -- a finished request has its block's contents
-  pub collected-has : Blocks.contents s b ≡ array b
-  unfolding Blocks.contents Blocks.is_nowhere
-  collected-has = go (s.place b) refl (Search.member b s.waiting) refl
-    where
-      same : (ℓ m i j : ℕ) → ℓ ≡ m → i ≡ j → stored ℓ i ≡ stored m j
-      same ℓ m i j v w = rw (v, w)
-
-      go : (x : Place) → s.place b ≡ x → (t : Bool) → Search.member b s.waiting ≡ t → (if Blocks.is_nowhere x && not t then Blocks.zeros s else s.bytes b) ≡ array b
-      go nowhere e true m = k.values.waiting b hb (member-mem b s.waiting m)
-      go nowhere e false m = k.absent b hb e (not-member b s.waiting m)
-      go (stored ℓ i) e t m = k.values.known b ℓ i hb e (λ z. omega (arith, z, finished-read s f r ℓ i in_hand done e))
-          (λ z. let x = any-all (is_command (cmd read (s.partition b) ℓ i)) (finished-aside s f r in_hand done) z in
-          let w = (command-is (cmd read (s.partition b) ℓ i) x.0 x.1.0).1 in
-          (x.1.1 (sym w.0)).1 (e ∙ same ℓ x.0.level i x.0.slot w.1 w.2))
-
-  abbrev asked : Asked
-  asked = record { kind = r.kind; block = r.block; bytes = r.bytes }
-
   abbrev array' : ℕ → List ℕ
-  array' = change (some asked) array
+  array' = change (some (asked s f last has array k r in_hand done)) array
 
   array-other : (x : ℕ) → ¬ (x ≡ b) → array' x ≡ array x
-  unfolding change
-  array-other x n = go (eqb r.kind write)
-    where
-      go : (t : Bool) → (if t then put b r.bytes array else array) x ≡ array x
-      go true = put_other b r.bytes array x n
-      go false = refl
-
-  array_same : (if eqb r.kind write then r.bytes else Blocks.contents s b) ≡ array' b
-  unfolding change
-  array_same = go (eqb r.kind write)
-    where
-      go : (t : Bool) → (if t then r.bytes else Blocks.contents s b) ≡ (if t then put b r.bytes array else array) b
-      go true = sym (put_same b r.bytes array)
-      go false = collected-has
+  array-other = Collected.array-other s f last has array k r in_hand done
 
   abbrev c' : State
   c' = finish r s
@@ -134,7 +96,7 @@ module _ (s : State) (f : Reached s) (last has : Slots) (array : ℕ → List �
       absent x hx e n (no w) = k.absent x hx (sym (place_other s f r in_hand done x w) ∙ e) (λ m. n (member-append x (others s.waiting b) (b ∷ []) (mem-keep _ s.waiting x m (ap not (ne_eqb x b w))))) ∙ sym (array-other x w)
 
       waiting : (x : ℕ) → x < s.shape.N → Mem x c'.waiting → Dec (x ≡ b) → c'.bytes x ≡ array' x
-      waiting x hx m (yes w) = ap c'.bytes w ∙ put_same b _ s.bytes ∙ array_same ∙ ap array' (sym w)
+      waiting x hx m (yes w) = ap c'.bytes w ∙ put_same b _ s.bytes ∙ array_same s f last has array k r in_hand done ∙ ap array' (sym w)
       waiting x hx m (no w) = bytes-other x w ∙ k.values.waiting x hx (⊎_elim (λ z. keep-mem _ s.waiting x z) (λ z. ⊎_elim (λ v. absurd (w v)) (λ v. absurd v) z) (append-mem x (others s.waiting b) (b ∷ []) m)) ∙ sym (array-other x w)
 
 -- An open

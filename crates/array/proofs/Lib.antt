@@ -4,6 +4,7 @@ pub mod Theorem
 pub mod Hosts
 -- and every run can be served by the first of them
 pub mod Effects
+pub mod ServedSlots
 pub mod Served
 pub mod Worked
 -- The proof: where the contents of a block are (Contents), and that every call keeps them there
@@ -11,4 +12,5 @@ pub mod Contents
 pub mod Slots
 pub mod Turns
 pub mod Completions
+pub mod Collected
 pub mod Collects

@@ -48,7 +48,8 @@ use Rattle.reachable.proofs.Kept.Release.{release-kept}
 use Rattle.reachable.proofs.Kept.Rebuild.Drawing.{drawing}
 use Rattle.reachable.proofs.Reached.{Was, shut, live, closed-out, nothing-loads, performed-kept}
 use Rattle.array.specs.Claim.{Asked, store, Slots, Host, Expected, Brings, Has, change, Hands, sends, next, expects, Moves, Honest, Plain, Claim}
-use Rattle.array.proofs.Collects.{collected-has, collect-contents, fresh-contents}
+use Rattle.array.proofs.Collected.{collected-has}
+use Rattle.array.proofs.Collects.{collect-contents, fresh-contents}
 use Rattle.array.proofs.Completions.{complete_read-contents, complete_write-contents}
 use Rattle.array.specs.Contents.{Contents}
 use Rattle.array.proofs.Contents.{moved}

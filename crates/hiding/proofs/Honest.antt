@@ -14,7 +14,8 @@ use Rattle.array.specs.Claim as Array
 use Rattle.array.specs.Hosts.{AtOnce}
 use Rattle.array.proofs.Hosts.{at_once}
 use Rattle.array.specs.Served.{fit, brings, served}
-use Rattle.array.proofs.Served.{fit_length, served-at-once, served-resumes}
+use Rattle.array.proofs.Served.{served-at-once, served-resumes}
+use Rattle.array.proofs.ServedSlots.{fit_length}
 use Rattle.array.specs.Claim.{Slots, Host, Expected, Honest, Plain}
 use Rattle.array.proofs.Theorem.{plain-array}
 use Rattle.hiding.specs.Claim
