@@ -8,6 +8,7 @@ pub mod Lists
 pub mod Cache
 pub mod Reached
 -- "Among such requests only 8 may depend on names"
+pub mod Asks
 pub mod Names
 -- The theorem, `hidden`
 pub mod Theorem

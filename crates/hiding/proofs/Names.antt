@@ -1,6 +1,6 @@
 -- Document 01, of well-formed requests: "among such requests only 8 may depend on names".
-use Rattle.std.specs.Prelude.{◌≡◌, refl, ◌⊎◌, Bool, true, false, not, ◌&&◌, ◌||◌, List, [], ◌∷◌, ℕ, ◌≤◌, length, ltb, leb}
-use Rattle.std.proofs.Common.{ap, sym, ◌∙◌, inl, inr, arith, lt-ltb, eq-eqb}
+use Rattle.std.specs.Prelude.{◌≡◌, refl, Bool, true, false, not, ◌&&◌, ◌||◌, List, [], ◌∷◌, ℕ, ◌≤◌, length, ltb, leb}
+use Rattle.std.proofs.Common.{ap, sym, ◌∙◌, arith, lt-ltb, eq-eqb}
 use Rattle.lists.specs.Search.{is_none, member}
 use Rattle.lists.specs.All.{nil, cons}
 use Rattle.rules.specs.Draws.{limit, draws}
@@ -12,11 +12,7 @@ use Rattle.rules.specs.Ranges.{bytes_of}
 use Rattle.rules.specs.State.{State}
 use Rattle.hiding.specs.Claim.{WellFormed, ShortWords}
 use Rattle.hiding.specs.Names.{OnlyEight}
-
--- what is left to ask of a well-formed request: whether the state is ready, no request is in hand, the queue has room, the cache has room for the
--- block, and words are enough
-unfoldable asks : Bool → Bool → Bool → Bool → Bool → ℕ
-asks r n j x w = first_no ((r, 2) ∷ (n, 4) ∷ (j, 7) ∷ (x, 8) ∷ (w, 3) ∷ [])
+use Rattle.hiding.proofs.Asks.{asks, either}
 
 -- the words lent settle its two draws
 abbrev settled : State → List ℕ → Bool
@@ -37,16 +33,6 @@ settled-count s m ws r h =
     let e = partitions-even s.shape (given-in s m r).shape in
     let l : 65536 ≤ limit s.shape.P = omega arith in
     draws-enough (s.shape.P ∷ s.shape.P ∷ []) ws (cons l (cons l nil), h)
-
--- only the cache's question may differ
-either : (r n j x y v w : Bool) → (r ≡ true → v ≡ w) → (asks r n j x v ≡ asks r n j y w) ⊎ ((asks r n j x v ≡ 8) ⊎ (asks r n j y w ≡ 8))
-unfolding asks first_no
-either false n j x y v w e = inl refl
-either true false j x y v w e = inl refl
-either true true false x y v w e = inl refl
-either true true true true true v w e = inl (ap (asks true true true true) (e refl))
-either true true true false y v w e = inr (inl refl)
-either true true true true false v w e = inr (inr refl)
 
 pub only-eight : OnlyEight
 only-eight s c d k b k' b' bs bs' e e' f f' m w h h' =

@@ -2,6 +2,7 @@ pub mod Unread
 pub mod Decides
 pub mod Number
 pub mod Trades
+pub mod Wanted
 pub mod Rank
 pub mod Items
 pub mod Follows

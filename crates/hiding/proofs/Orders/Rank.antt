@@ -33,6 +33,7 @@ use Rattle.hiding.specs.Machines.Rules.{item_slots, items_in, orders_of, items_o
 use Rattle.hiding.specs.Machines.Needs.{Reachable}
 use Rattle.hiding.proofs.Orders.Decides.{decide-open}
 use Rattle.hiding.proofs.Orders.Unread.{open-in, open-mem}
+use Rattle.hiding.proofs.Orders.Wanted.{wanted-block, wanted-dummy, wanted-item}
 
 -- the first of the kept elements that has value 0
 find-zero : (p : ℕ → Bool) (f : ℕ → ℕ) (xs : List ℕ) (x : ℕ) → find (λ i. p i && is_none (named (f i))) xs ≡ some x →
@@ -66,18 +67,6 @@ find-zero p f (y ∷ ys) x e = go (p y) refl (f y) refl (find-zero p f ys x)
 clamp-id : (n k : ℕ) → k < n → clamp n k ≡ k
 unfolding clamp
 clamp-id n k l = rw (lt-ltb k n l)
-
-wanted-block : (t : Bool) (r : Request) (its : List ℕ) → member (suc r.block) its ≡ true → wanted t (some r) its ≡ index (suc r.block) its
-unfolding wanted
-wanted-block t r its e = rw e
-
-wanted-dummy : (t : Bool) (r : Request) (its : List ℕ) → t ≡ false → member (suc r.block) its ≡ false → wanted t (some r) its ≡ index 0 its
-unfolding wanted
-wanted-dummy t r its u e = rw (e, u)
-
-wanted-item : (t : Bool) (r : Request) (its : List ℕ) → t ≡ true → member (suc r.block) its ≡ false → wanted t (some r) its ≡ 0
-unfolding wanted
-wanted-item t r its u e = rw (e, u)
 
 -- the first of the kept elements is what is found
 find_head : (p : ℕ → Bool) (xs : List ℕ) (x : ℕ) → find p xs ≡ some x → index x (keep p xs) ≡ 0
