@@ -11,7 +11,8 @@ use Rattle.client.specs.View.{state_of, found_as}
 use Rattle.contract.specs.Answers.{cleared_client}
 use Rattle.contract.specs.Meets.{Meets, call_of, meets-no, closed_is}
 use Rattle.codec.specs.Codec.{answer_of, state_length}
-use Rattle.exports.specs.Exported.{Exported, Opened, zeros-say}
+use Rattle.exports.specs.Exported.{Exported, Opened}
+use Rattle.exports.proofs.Exported.{zeros-say}
 use Rattle.claims.specs.Claim.{Made, FromOpen, outcome_of, hands_out}
 
 abbrev no_shape : Shape

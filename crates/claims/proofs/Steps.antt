@@ -24,7 +24,8 @@ use Rattle.contract.specs.Meets.{Meets, call_of, command_of, reported, closed_is
 use Rattle.rules.proofs.Laws.Lengths.{Whole}
 use Rattle.contract.specs.Buffers.{state-whole, ready_of, ready-long}
 use Rattle.codec.specs.Codec.{answer_of, state_length}
-use Rattle.exports.specs.Exported.{looked_at, client_in, Exported, zeros-say}
+use Rattle.exports.specs.Exported.{looked_at, client_in, Exported}
+use Rattle.exports.proofs.Exported.{zeros-say}
 use Rattle.claims.specs.Claim.{Made, Contract, Handed, call_made, hands_out, takes, outcome_of}
 use Rattle.claims.proofs.Memory.{state-lent}
 use Rattle.claims.proofs.Buffers.{hands_out_lem}

@@ -1,7 +1,6 @@
 pub mod Small
 pub mod Progress
 pub mod Stays
-pub mod Stored
 pub mod Exported
 pub mod Idle
 pub mod Settled

@@ -5,5 +5,3 @@ pub mod Carried
 -- Laws
 pub mod Laws
 pub mod Steps
-pub mod Long
-pub mod Turns

@@ -1,5 +1,5 @@
 use mathlib.Core.Path.{sym, ◌∙◌}
-use Rattle.exports.specs.Settled.{none-held}
+use Rattle.exports.proofs.Settled.{none-held}
 use Rattle.exports.proofs.hand_back_turn.Goals as goal
 
 pub returns-then-not-is_held : goal.returns-then-not-is_held

@@ -1,7 +1,7 @@
 use mathlib.Core.Path.{ap, sym, ◌∙◌}
 use native.Mathlib.Omega.{arith}
 use lib.ListN.{take}
-use Rattle.exports.specs.Exported.{looked-whole}
+use Rattle.exports.proofs.Exported.{looked-whole}
 use Rattle.exports.proofs.looked_at.Goals as goal
 
 pub returns-then-len-lt8589934590 : goal.returns-then-len-lt8589934590

@@ -1,5 +1,5 @@
 use Rattle.releasing.specs.Released.{releasable}
-use Rattle.exports.specs.Settled.{found-stored}
+use Rattle.exports.proofs.Settled.{found-stored}
 use Rattle.exports.proofs.release.Goals as goal
 
 pub release-d-requires : goal.release-d-requires

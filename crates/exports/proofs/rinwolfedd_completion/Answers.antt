@@ -1,5 +1,5 @@
 use Rattle.rules.specs.State.{cmd}
-use Rattle.exports.specs.Stored.{completion-small, completion-ready, exported-completion}
+use Rattle.exports.proofs.Stored.{completion-small, completion-ready, exported-completion}
 use Rattle.exports.proofs.rinwolfedd_completion.Goals as goal
 
 pub hand_back_completion-requires : goal.hand_back_completion-requires

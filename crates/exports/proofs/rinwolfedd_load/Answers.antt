@@ -2,7 +2,7 @@ use mathlib.Core.Path.{refl}
 use mathlib.Core.List.{[]}
 use native.Mathlib.Omega.{arith}
 use Rattle.rules.specs.Questions.{load}
-use Rattle.exports.specs.Exported.{exported-start, meets-small}
+use Rattle.exports.proofs.Exported.{exported-start, meets-small}
 use Rattle.exports.proofs.rinwolfedd_load.Goals as goal
 
 pub hand_back_opened-requires : goal.hand_back_opened-requires

@@ -1,6 +1,7 @@
 use mathlib.Core.Path.{refl}
 use Rattle.rules.specs.Questions.{opening}
-use Rattle.exports.specs.Exported.{exported-start, numbers, meets-small}
+use Rattle.exports.specs.Exported.{numbers}
+use Rattle.exports.proofs.Exported.{exported-start, meets-small}
 use native.Mathlib.Omega.{arith}
 use Rattle.exports.proofs.rinwolfedd_open.Goals as goal
 

@@ -3,7 +3,7 @@ use mathlib.Core.List.{[]}
 use native.Mathlib.Omega.{arith}
 use Rattle.rules.specs.Questions.{request}
 use Rattle.rules.specs.Laws.Answers.{opens}
-use Rattle.exports.specs.Exported.{exported, meets-small}
+use Rattle.exports.proofs.Exported.{exported, meets-small}
 use Rattle.exports.proofs.rinwolfedd_request.Goals as goal
 
 pub hand_back-requires : goal.hand_back-requires

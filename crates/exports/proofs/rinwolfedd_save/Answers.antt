@@ -2,7 +2,7 @@ use mathlib.Core.Path.{refl, ◌∙◌}
 use mathlib.Core.List.{[]}
 use Rattle.rules.specs.Questions.{save}
 use Rattle.rules.specs.Laws.Answers.{opens}
-use Rattle.exports.specs.Exported.{exported-read, meets-small}
+use Rattle.exports.proofs.Exported.{exported-read, meets-small}
 use Rattle.exports.proofs.rinwolfedd_save.Goals as goal
 
 pub pack-requires : goal.pack-requires

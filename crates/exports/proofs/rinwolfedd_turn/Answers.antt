@@ -1,5 +1,5 @@
 use mathlib.Core.Path.{refl}
-use Rattle.exports.specs.Stored.{turn_small, turn-ready, exported-turn}
+use Rattle.exports.proofs.Stored.{turn_small, turn-ready, exported-turn}
 use Rattle.exports.proofs.rinwolfedd_turn.Goals as goal
 
 pub hand_back_turn-requires : goal.hand_back_turn-requires

@@ -2,7 +2,7 @@ use Rattle.std.proofs.Common.{refl, ◌∙◌, arith, rules, []}
 use Rattle.session.specs.Answers.{fresh-served}
 use Rattle.stream.specs.Stream.{buffers}
 use Rattle.stream.specs.History.{zeros}
-use Rattle.stream.specs.Turns.{history-start}
+use Rattle.stream.proofs.Turns.{history-start}
 use Rattle.stream.proofs.Carry.{moved-start, moved_on, followed-handed, broken-off, steps-on, closes-closed, turns-closed}
 use Rattle.stream.proofs.follow.Goals as goal
 

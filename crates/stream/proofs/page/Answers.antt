@@ -1,5 +1,5 @@
 use Rattle.stream.specs.History.{zeros}
-use Rattle.stream.specs.Turns.{followed-pages}
+use Rattle.stream.proofs.Turns.{followed-pages}
 use Rattle.stream.proofs.Carry.{on_err, page-sent, page-shown, page-broken, page-whole}
 use Rattle.stream.proofs.page.Goals as goal
 

@@ -6,7 +6,7 @@ use Rattle.client.specs.View.{state_of}
 use Rattle.report.specs.Page.{page_room, shown}
 use Rattle.report.specs.Laws.{shows-shown, shows-small}
 use Rattle.session.specs.Session.{memory_room}
-use Rattle.stream.specs.Turns.{followed-page}
+use Rattle.stream.proofs.Turns.{followed-page}
 use Rattle.stream.proofs.present.Goals as goal
 
 pub show-requires : goal.show-requires

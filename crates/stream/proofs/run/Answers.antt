@@ -1,5 +1,5 @@
 use Rattle.stream.specs.History.{zeros}
-use Rattle.stream.specs.Turns.{followed-prints}
+use Rattle.stream.proofs.Turns.{followed-prints}
 use Rattle.stream.proofs.Carry.{on_err, run-sent, run-answered, run-broken, run-whole}
 use Rattle.stream.proofs.run.Goals as goal
 

@@ -24,7 +24,7 @@ use Rattle.output.specs.Paged.{paged, PageDue}
 use Rattle.stream.specs.History.{given, behind_text, Follows, coming, kept_in, waiting, History, Turned, Followed, Prints, Pages}
 use Rattle.stream.specs.Laws.{most, waits-behind}
 use Rattle.stream.specs.Steps.{cut-plain, nothing-follows, line_gives, line-follows, part_gives, part-follows, until, Does, responds-does, begun-does}
-use Rattle.stream.specs.Long.{long-line, long-tape}
+use Rattle.stream.proofs.Long.{long-line, long-tape}
 
 -- no line prints nothing, and leaves the session as it is
 until_none : (done : Bool) (k : S.Session) → until done k [] ≡ (k, [])

@@ -32,9 +32,11 @@ use Rattle.contract.specs.declared.Answer.{Answer}
 use Rattle.contract.specs.Meets.{unasked}
 use Rattle.ready.specs.Usable.{usable}
 use Rattle.releasing.specs.Performs.{Performed, Performs}
-use Rattle.exports.specs.Exported.{looked_at, Exported, shape_same}
+use Rattle.exports.specs.Exported.{looked_at, Exported}
+use Rattle.exports.proofs.Exported.{shape_same}
 use Rattle.exports.specs.Progress.{same-state}
-use Rattle.exports.specs.Settled.{HandedBackReleased, performs-small, exported-released}
+use Rattle.exports.specs.Settled.{HandedBackReleased}
+use Rattle.exports.proofs.Settled.{performs-small, exported-released}
 use Rattle.exports.specs.Small.{low-shape, low-client}
 use Rattle.exports.specs.Idle.{Idle, low_word, none-kind, progress-idle}
 use Rattle.exports.specs.Stays.{step-queue, read_stays, write-stays, complete-waiting, read-done-stays}
