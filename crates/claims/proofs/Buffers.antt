@@ -1,16 +1,14 @@
--- The buffer after a call has the bytes that the rules hand out, where they hand out any.
+-- The buffer after an accepted call has the bytes that the rules hand out, where they hand out any; a refused one hands out nothing.
 use Rattle.std.specs.Prelude.{◌≡◌, Bool, true, false, not, ◌||◌, List, [], ℕ, eqb, length, drop, if◌then◌else◌}
 use Rattle.std.proofs.Math.Path.{refl}
 use Rattle.std.proofs.Common.{sym, ◌∙◌, eqb-true, ne_eqb}
-use Rattle.std.proofs.Math.Decide.{ℕ_discrete}
 use Rattle.std.proofs.Math.Seq.{take-append_seam}
 use Rattle.rules.specs.Blocks.{slot_bytes, holder}
 use Rattle.rules.specs.Collect.{answer}
-use Rattle.rules.specs.Draws.{draws}
 use Rattle.rules.specs.Form.Payload.{saved_form}
-use Rattle.rules.proofs.Laws.Answers.{Passed, accepted-passed, step-accepted, refused-outcome}
-use Rattle.rules.specs.Questions.{Ask, opening, request, turn, completion, collect, save, load, Call, questions, bounds, number}
-use Rattle.rules.specs.Run.{Outcome, act, step, accepted, refused, sent_command, handed, written, taken_of, numbers_of}
+use Rattle.rules.proofs.Laws.Answers.{Passed}
+use Rattle.rules.specs.Questions.{Ask, opening, request, turn, completion, collect, save, load, questions}
+use Rattle.rules.specs.Run.{act, sent_command, handed, written}
 use Rattle.rules.specs.State.{State, write}
 use Rattle.rules.specs.Turn.{decide, command}
 use Rattle.contract.specs.Meets.{handed_to, reported}
@@ -18,11 +16,9 @@ use Rattle.rules.proofs.Laws.Lengths.{Whole}
 use Rattle.contract.specs.Buffers.{filled, written-length, answer-length}
 use Rattle.claims.specs.Claim.{hands_out}
 
--- ---- What is handed out
-
 module _ (s : State) (m : ℕ) (ws : List ℕ) (n : ℕ) (w : Whole s) (b : List ℕ) (size : length b ≡ n) where
   -- an accepted call
-  accepted-hands : (a : Ask) → Passed (questions s a m ws n) → (js : List ℕ) (t : ℕ)
+  pub accepted-hands : (a : Ask) → Passed (questions s a m ws n) → (js : List ℕ) (t : ℕ)
       → hands_out a 0 (reported a t (handed s a (act s a js))) (sent_command s a).kind (handed_to b (handed s a (act s a js))) ≡ handed s a (act s a js)
   unfolding hands_out handed sent_command questions written
   accepted-hands (opening h) p js t = refl
@@ -44,7 +40,7 @@ module _ (s : State) (m : ℕ) (ws : List ℕ) (n : ℕ) (w : Whole s) (b : List
   accepted-hands (load form) p js t = refl
 
 -- a refused one hands out nothing
-refused-hands : (a : Ask) (n k : ℕ) (b : List ℕ) → (n ≡ 0 → ⊥) → hands_out a n (reported a 0 []) k b ≡ []
+pub refused-hands : (a : Ask) (n k : ℕ) (b : List ℕ) → (n ≡ 0 → ⊥) → hands_out a n (reported a 0 []) k b ≡ []
 unfolding hands_out
 refused-hands (opening h) n k b z = refl
 refused-hands (request j c bs) n k b z = refl
@@ -53,15 +49,3 @@ refused-hands (completion c bs) n k b z = refl
 refused-hands collect n k b z = rw (ne_eqb n 0 z)
 refused-hands save n k b z = refl
 refused-hands (load form) n k b z = refl
-
--- Every call: what is in the buffer after it is what the rules hand out
-pub hands_out_lem : (s : State) (c : Call) → (number s c ≡ 0 → Whole s) → (b : List ℕ) → length b ≡ c.buffer
-    → hands_out c.ask (step s c).1.number (reported c.ask (step s c).1.taken (step s c).1.bytes) (step s c).1.command.kind (handed_to b (step s c).1.bytes) ≡ (step s c).1.bytes
-hands_out_lem s c w b size = go (ℕ_discrete (number s c) 0)
-  where
-    hands : Outcome → List ℕ
-    hands o = hands_out c.ask o.number (reported c.ask o.taken o.bytes) o.command.kind (handed_to b o.bytes)
-
-    go : Dec (number s c ≡ 0) → hands (step s c).1 ≡ (step s c).1.bytes
-    go (yes z) = rw (step-accepted s c z) (unfold accepted in (accepted-hands s c.memory c.words c.buffer (w z) b size c.ask (accepted-passed s c z) (numbers_of (draws (bounds s c.ask) c.words)) (taken_of (draws (bounds s c.ask) c.words))))
-    go (no z) = rw (refused-outcome s c z) (unfold refused in (refused-hands c.ask (number s c) 0 b z))

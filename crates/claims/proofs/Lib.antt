@@ -7,8 +7,9 @@ pub mod ExportedReads
 -- A small run, computed; and one in which every call is accepted
 pub mod Example
 pub mod Accepted
--- The proof: the memory as far as it is lent, what is in the buffer, one call, and words as bytes
+-- The proof: the memory as far as it is lent, what is in the buffer and so is handed out, one call, and words as bytes
 pub mod Memory
 pub mod Buffers
+pub mod HandedOut
 pub mod Steps
 pub mod Words

@@ -28,7 +28,7 @@ use Rattle.exports.specs.Exported.{looked_at, client_in, Exported}
 use Rattle.exports.proofs.Exported.{zeros-say}
 use Rattle.claims.specs.Claim.{Made, Contract, Handed, call_made, hands_out, takes, outcome_of}
 use Rattle.claims.proofs.Memory.{state-lent}
-use Rattle.claims.proofs.Buffers.{hands_out_lem}
+use Rattle.claims.proofs.HandedOut.{hands_out_lem}
 
 -- ---- "Lent too little of that memory, it replies 2"
 
