@@ -1,39 +1,57 @@
-"""A copy of some crates in which rules are changed and checked; the repository itself stays as it is."""
+"""A copy of some crates in which texts are changed and checked; the repository itself stays as it is."""
 import re, shutil, subprocess, sys, tempfile
 from pathlib import Path
 
-from rattle import TOP, listed
-
+TOP = Path(__file__).resolve().parent.parent
 PARTS = 'specs', 'proofs'  # of a crate; a theorem stands in either
 FOLLOWS = re.compile(r'(`[^`]*`: )?`[^`]*` was not admitted|\d+ declarations? that depends? on |.*cannot be unfolded because')
 SLIP = re.compile(r'.*(is not in scope|can be named from here|parse error|unexpected|expected the end|cannot continue)')
 
 
+def listed(top):
+    """of each crate in crates.txt: what stands before the colon, and the libraries that it uses"""
+    found = {}
+    for line in (top / 'crates.txt').read_text(encoding='utf-8').splitlines():
+        head, _, libraries = line.partition('#')[0].partition(':')
+        if head.split():
+            found[head.split()[0]] = head, libraries.split()
+    return found
+
+
 class Copy:
     """crates of this repository in a folder of its own, lowest first"""
 
-    def __init__(self, crates):
-        self.crates, self.room = crates, tempfile.TemporaryDirectory(prefix='wrong-rules-')
+    def __init__(self, crates, source=TOP):
+        self.crates, self.source, self.room = crates, source, tempfile.TemporaryDirectory(prefix='copy-of-crates-')
         self.edited = {}  # the file of a module in which a text was changed last
         self.top = Path(self.room.name)
         (self.top / '.git').mkdir()
         (self.top / 'crates').mkdir()
-        lines = [f'{crate}: {" ".join(it for it in listed(TOP)[crate][1] if it in crates)}\n' for crate in crates]
+        lines = [f'{head}: {" ".join(it for it in uses if it in crates)}\n' for crate, (head, uses) in listed(source).items() if crate in crates]
         (self.top / 'crates.txt').write_text(''.join(lines), encoding='utf-8')
+        self.fresh()
 
-    def fresh(self):
-        """takes the crates' files anew; what checks left in out/ stays"""
-        for crate in self.crates:
+    def folder(self, crate):
+        return self.top / 'crates' / crate
+
+    def fresh(self, crates=None):
+        """takes the files of these crates, or of all, anew; what checks left in out/ stays"""
+        for crate in crates or self.crates:
             for part in ('src', *PARTS):
-                to, source = self.top / 'crates' / crate / part, TOP / 'crates' / crate / part
+                to, source = self.folder(crate) / part, self.source / 'crates' / crate / part
                 shutil.rmtree(to, ignore_errors=True)
                 if source.is_dir():
                     shutil.copytree(source, to)
 
+    def rt(self, verb, crate):
+        """runs a command of rt in a crate's folder"""
+        how = {'stdin': subprocess.DEVNULL, 'stdout': subprocess.PIPE, 'stderr': subprocess.STDOUT, 'text': True, 'errors': 'replace'}
+        return subprocess.run(['rt', verb], cwd=self.folder(crate), **how)
+
     def files(self, crate):
         """the files with definitions and theorems, and the module of each"""
         for part in PARTS:
-            top = self.top / 'crates' / crate / part
+            top = self.folder(crate) / part
             for path in sorted(top.rglob('*.antt')):
                 yield path, '.'.join(path.relative_to(top).with_suffix('').parts)
 
@@ -88,8 +106,7 @@ class Copy:
     def check(self):
         """None and nothing if all is proved, else the crate that is refused first, and the file, lemma and text of each of its errors that follow from no other"""
         for crate in self.crates:
-            verb = 'check' if crate == self.crates[-1] else 'lib'
-            ran = subprocess.run(['rt', verb], cwd=self.top / 'crates' / crate, stdout=subprocess.PIPE, stderr=subprocess.STDOUT, text=True, errors='replace')
+            ran = self.rt('check' if crate == self.crates[-1] else 'lib', crate)
             if ran.returncode:
                 errors = re.findall(r'(?m)^(?:\./)?((?:specs|proofs)/\S+?):\d+:\d+: error: (.*)', ran.stdout)
                 own = [(file, *re.match(r'(?:`([^`]+)`: )?(.*)', text).groups()) for file, text in errors if not FOLLOWS.match(text)]
