@@ -31,10 +31,11 @@ def tried(copy, edit):
     name, (texts, wrong) = edit.parts[-3], changed(edit)
     if wrong:
         return '\n'.join(wrong)
-    copy.fresh([name])
     for path, text in texts.items():
         (copy.folder(name) / path).write_text(text, encoding='utf-8')
-    return copy.rt('check', name).stdout
+    said = copy.rt('check', name).stdout
+    copy.fresh([name])  # crates above are tried in this copy, too
+    return said
 
 
 def run(top, logs):
