@@ -55,6 +55,10 @@ pub appends-step : (u v w : Option (List ℕ)) (text : List ℕ) (m n : ℕ) →
 appends-step u v w text m n h x y =
     subst (Appends u w) (ap (λ t. take m text ++ take n t) (take_rest text m) ∙ take-then m n text h) (appends-then u v w _ _ x y)
 
+-- a write that took nothing adds nothing
+pub appends-nothing : (u v w : Option (List ℕ)) (a b : List ℕ) (n : ℕ) → n ≡ 0 → Appends u v a → Appends v w (take n b) → Appends u w a
+appends-nothing u v w a b n z x y = subst (Appends u w) (append-nil a) (appends-then u v w a [] x (subst (λ k. Appends v w (take k b)) z y))
+
 pub step-within : (text : List ℕ) (m n : ℕ) → m ≤ length text → n ≤ length (take (length text - m) (drop m text)) → m + n ≤ length text
 step-within text m n h k =
     let l : length (take (length text - m) (drop m text)) ≡ length text - m = ap length (take_rest text m) ∙ length-drop m text in

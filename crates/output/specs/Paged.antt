@@ -16,7 +16,7 @@ pub page-opened : (host input : List ℕ) → paged host input ≡ (if opened ho
 unfolding paged shown
 page-opened host input = rw (opened-ready host (cut [] input))
 
--- A text may be handed to the system's write as the page: it is that of the state which some input leaves, and the output is silent
+-- A text may be handed to the writer as the page: it is that of the state which some input leaves, and the output is silent
 pub record PageDue (text : List ℕ) (o : Output) : Type 0 where
   pub silent : o.silent ≡ true
   pub host : List ℕ

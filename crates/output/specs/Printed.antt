@@ -14,7 +14,7 @@ cut had (x ∷ xs) = elim (eqb x 10) [ true ↦ had ∷ cut [] xs | false ↦ cu
 unfoldable pub printed : List ℕ → List ℕ → List ℕ
 printed host input = session host (cut [] input)
 
--- What the output's buffer holds may be handed to the system's write: of all that an input prints, it is what follows the bytes that left. The code can count it
+-- What the output's buffer holds may be handed to the writer: of all that an input prints, it is what follows the bytes that left. The code can count it
 pub record Due (out : List ℕ) (o : Output) : Type 0 where
   pub room : o.at ≤ out_room
   pub count : total o ≤ total_most

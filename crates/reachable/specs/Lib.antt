@@ -6,8 +6,7 @@ pub mod Terms
 pub mod Live
 pub mod Invariant
 pub mod Values
--- The steps, one file each, a lemma for each field of the record
+-- Two states that are the same but for what no call asks of them
 pub mod Same
--- For the theorems: each block has one place; when a request is held; that the block collected leaves the job; which slot a turn reads; the commands sent to
--- one slot over a run
+-- For the theorems: the job that a turn's step belongs to
 pub mod Counts
