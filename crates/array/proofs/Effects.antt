@@ -36,7 +36,6 @@ use Rattle.rules.specs.Turn
 use Rattle.rules.specs.Turn.{Step, idle, no_dummy, read_for_request, read_for_job, rebuild, write_next, decide, command, do_step}
 use Rattle.reachable.proofs.Outstanding.{command-is, same-command}
 use Rattle.reachable.proofs.Reached.{Was, was-reached}
-use Rattle.array.specs.Claim.{sends}
 use Rattle.reachable.specs.Values.{Out}
 
 one≢two : ◌≡◌ {A = ℕ} 1 2 → ⊥

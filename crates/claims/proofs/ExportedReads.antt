@@ -7,7 +7,7 @@ use Rattle.rules.specs.Laws.Answers.{opens}
 use Rattle.rules.proofs.Laws.Answers.{open-first}
 use Rattle.rules.specs.Laws.Awaited.{Holds}
 use Rattle.rules.specs.Laws.Found.{Between}
-use Rattle.rules.specs.Questions.{collect, Call, number}
+use Rattle.rules.specs.Questions.{collect, Call}
 use Rattle.rules.specs.Reader.{read_partition}
 use Rattle.rules.specs.Request.{held}
 use Rattle.rules.specs.Run.{Outcome, step, run, after}

@@ -5,7 +5,7 @@ use Rattle.std.proofs.Common.{◌∙◌, subst, length-take, take_all}
 use native.Mathlib.Omega.{arith}
 use Rattle.std.proofs.Math.Decide.{ℕ_discrete}
 use Rattle.std.proofs.Math.Seq.{take-length}
-use Rattle.rules.specs.Shape.{Shape, within}
+use Rattle.rules.specs.Shape.{within}
 use Rattle.rules.specs.State.{State, Command, found_number, closed}
 use Rattle.rules.specs.Draws.{draws}
 use Rattle.rules.specs.Form.Loading.{loads}

@@ -11,7 +11,7 @@ use Rattle.matching.specs.Keyed.{Key}
 use Rattle.rules.specs.Form.Loading.{loads, loaded_form}
 use Rattle.rules.specs.Form.Payload.{saved_form}
 use Rattle.rules.specs.Run.{act, perform}
-use Rattle.rules.specs.Questions.{bounds, number, questions, save, load, request}
+use Rattle.rules.specs.Questions.{bounds, number, questions, save, load}
 use Rattle.rules.specs.Draws.{Drew}
 use Rattle.rules.specs.Levels.{filled}
 use Rattle.rules.specs.Laws.Form.Saveable.{Saveable}

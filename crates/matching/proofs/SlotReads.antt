@@ -1,6 +1,6 @@
 -- A set of slots in a hidden arrangement, and the trades of a read. Where the slot at a hidden place is read, that slot is drawn when it is
 -- shown. Where the slot is known beforehand, its place is drawn, which nobody sees. Either way an arrangement of the other slots is left.
-use Rattle.std.specs.Prelude.{◌≡◌, refl, ◌⊎◌, List, [], ◌∷◌, ℕ, suc, ◌≤◌, ◌<◌, length, get_or}
+use Rattle.std.specs.Prelude.{◌≡◌, refl, List, [], ◌∷◌, ℕ, suc, ◌≤◌, ◌<◌, length, get_or}
 use Rattle.std.proofs.Common.{ap, sym, ◌∙◌, inl, ⊎_elim, arith}
 use Rattle.lists.specs.Members.{dec_mem, nodup-sub}
 use Rattle.lists.specs.Places.{insert_at, remove_at, remove-mem, length-remove, removed, insert-remove, nodup-remove, length-insert, nodup-insert, get-insert, mem-remove, mem-insert, remove-insert, index-insert}

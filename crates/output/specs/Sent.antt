@@ -1,5 +1,5 @@
 -- What left the output's buffer, and what a writer's bytes grow by for it where they are known.
-use Rattle.std.specs.Prelude.{◌≡◌, Bool, true, false, Option, List, [], ◌++◌, ℕ, ◌+◌, ◌-◌, ◌≤◌, take, if◌then◌else◌}
+use Rattle.std.specs.Prelude.{Option, List, [], ℕ, ◌-◌, ◌≤◌, take, if◌then◌else◌}
 use Rattle.std.specs.Io.KnownBytes.{Appends}
 use Rattle.output.specs.declared.Output.{Output}
 use Rattle.output.specs.Output.{total}

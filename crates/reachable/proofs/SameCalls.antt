@@ -28,7 +28,6 @@ use Rattle.rules.specs.Laws.Form.Saveable.{over}
 use Rattle.rules.proofs.Laws.Kept.{completed-in}
 use Rattle.rules.specs.Jobs.{joined, levels_of}
 use Rattle.rules.specs.Levels.{filled}
-use Rattle.rules.specs.Questions.{request}
 use Rattle.rules.specs.Ranges.{others}
 use Rattle.rules.specs.Run
 use Rattle.rules.specs.Shape.{Shape, cell, slots}

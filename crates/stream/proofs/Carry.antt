@@ -19,10 +19,10 @@ use Rattle.output.specs.Sent.{Sent, leaving}
 use Rattle.output.proofs.Known.{appends-none, appends-then, consumes-none, consumes-then, consumes-kept, take-then}
 use Rattle.session.specs.Answers.{Served}
 use Rattle.lines.specs.Lines.{tape_room}
-use Rattle.stream.specs.Stream.{line_room, Ready, Ended, Goes, Past, Buffers, buffers, Responds, Begun, Refilled}
+use Rattle.stream.specs.Stream.{Ready, Ended, Goes, Past, Buffers, buffers, Responds, Begun, Refilled}
 use Rattle.stream.specs.Steps.{responds-does, begun-does}
 use Rattle.stream.proofs.Turns.{rest-waits, whole-shut, long-shut, moved, with_len, with_done, line-turned, respond-turned, begin-turned, part_turned, long-turned}
-use Rattle.stream.specs.History.{given, Follows, coming, kept_in, waiting, taken, Leaves, History, Turned, Followed, Prints, Pages}
+use Rattle.stream.specs.History.{given, Follows, coming, kept_in, waiting, taken, Leaves, History, Turned, Followed}
 use Rattle.stream.specs.Carried.{brought, Carries, Closed, Handed, Broken, Answered, PageShown, PageBroken}
 
 -- the bytes that were read up to now, before a turn and after it

@@ -15,7 +15,6 @@ use Rattle.matching.specs.Machine.{Tape, Watch}
 use Rattle.matching.specs.Keyed.{Key}
 use Rattle.matching.proofs.TwoLists.{Any, matched}
 use Rattle.matching.proofs.Coded.{Codes, asked_all, coded-matched}
-use Rattle.hiding.specs.Machines.Ideal
 use Rattle.hiding.specs.Machines.Ideal.{Ideal, ideal}
 use Rattle.hiding.proofs.Orders.Stage.{Empty, Hidden₁, first-stage}
 use Rattle.hiding.specs.Machines.Middle

@@ -20,7 +20,6 @@ use Rattle.hiding.specs.Lists.Fixed.{Listing, opens, later, Listed, ask_in, at}
 use Rattle.hiding.proofs.Lists.Saves.{saved-nothing, last_save, saved_in, step-saved}
 use Rattle.hiding.proofs.Lists.Reloads.{call}
 use Rattle.hiding.proofs.Lists.Bytes.{length-zeros}
-use Rattle.hiding.proofs.Lists.Twins
 use Rattle.hiding.proofs.Lists.Twins.{head_or, tail_of, bare_listing, Twins, twins-alike}
 use Rattle.hiding.proofs.Lists.Tapes.{words, wants, keep, size, run-outcomes, run-watch, tape-flat, flat-tape}
 use Rattle.hiding.proofs.Lists.Matched.{zeroed, zero_of, zeros, last_in, zeros-length, words-matched}

@@ -33,7 +33,6 @@ use Rattle.hiding.proofs.Orders.Number.{formed-facts}
 use Rattle.hiding.specs.Machines.Middle.{off, on_m, Mid, unopened, shut, on, next_step_m, collected_m, next_m, bounds_open, open_m, mid, mid-legal, mid-next, mid-seen}
 use Rattle.hiding.proofs.Positions.Trades.{PlacedIn, ask_p, trade_p, next-shape, fresh-placed}
 use Rattle.hiding.proofs.Machines.Release.{hide-release, hide-completed}
-use Rattle.hiding.specs.Machines.Ideal
 use Rattle.hiding.specs.Machines.Ideal.{lacking, nothing_sent, seen_if, Seen, legal_if, rebuild_p, next_step_i, collected_i, perform_i, next_i, Ideal, open_i, ideal, ideal-legal, ideal-next, ideal-seen, on_i, closes, seen_shut}
 use Rattle.hiding.specs.Machines.Public.{Later, later-request, later-turn, later-completion, later-collect, Entry, first, later, formed, public_ask, public_later, public_entry, present, blank, hide, decide_p, bounds_p, questions_p, number_p, number_open, later-save, later-reload}
 

@@ -1,4 +1,4 @@
-use Rattle.std.proofs.Common.{ℕ, ◌+◌, rules, arith, take_all, sym, subst}
+use Rattle.std.proofs.Common.{arith, take_all, subst}
 use Rattle.std.specs.Io.KnownBytes.{Appends}
 use Rattle.output.proofs.Known.{appends-none, appends_kept, appends-nothing, appends-step, step-within, err_part}
 use Rattle.output.proofs.write_whole.Goals as goal

@@ -11,7 +11,7 @@ use Rattle.rules.specs.Laws.Range.{InRange}
 use Rattle.rules.specs.Levels.{written_levels}
 use Rattle.rules.specs.Request
 use Rattle.rules.specs.Shape.{slots}
-use Rattle.rules.specs.State.{State, write, Request, cmd}
+use Rattle.rules.specs.State.{State, write, cmd}
 use Rattle.rules.specs.Turn
 use Rattle.rules.specs.Turn.{write_next, do_step}
 use Rattle.reachable.proofs.Consequences.{reading-away, busy-begun, next-write}

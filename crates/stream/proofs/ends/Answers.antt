@@ -1,4 +1,3 @@
-use Rattle.std.proofs.Common.{rules}
 use Rattle.session.specs.Session.{ends}
 use Rattle.stream.proofs.ends.Goals as goal
 

@@ -1,4 +1,4 @@
-use Rattle.std.proofs.Common.{refl, ◌∙◌, arith, rules, []}
+use Rattle.std.proofs.Common.{refl, ◌∙◌, arith, []}
 use Rattle.session.specs.Answers.{fresh-served}
 use Rattle.stream.specs.Stream.{buffers}
 use Rattle.stream.specs.History.{zeros}

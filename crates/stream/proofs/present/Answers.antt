@@ -1,9 +1,8 @@
-use Rattle.std.proofs.Common.{◌≡◌, refl, ◌∙◌, ◌≤◌, ap, length, take, subst, arith, rules, IfOk, OnOk, OnErr}
+use Rattle.std.proofs.Common.{◌≡◌, refl, ◌∙◌, ◌≤◌, length, subst, arith, rules, OnOk, OnErr}
 use Rattle.std.proofs.lemmas.Result.{IfOk-weaker}
 use Rattle.std.specs.Io.KnownBytes.{Appends}
 use Rattle.output.specs.Sent.{Part}
-use Rattle.client.specs.View.{state_of}
-use Rattle.report.specs.Page.{page_room, shown}
+use Rattle.report.specs.Page.{page_room}
 use Rattle.report.specs.Laws.{shows-shown, shows-small}
 use Rattle.session.specs.Session.{memory_room}
 use Rattle.stream.proofs.Turns.{followed-page}

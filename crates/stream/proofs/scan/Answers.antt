@@ -1,4 +1,4 @@
-use Rattle.std.proofs.Common.{◌≡◌, ◌+◌, ◌≤◌, ◌++◌, length, take, get_or, length-set, sym, ap, ◌∙◌, append-nil, arith, rules, length-take-le, take_all}
+use Rattle.std.proofs.Common.{◌≡◌, ◌++◌, length, take, get_or, length-set, sym, ap, ◌∙◌, append-nil, arith, length-take-le, take_all}
 use Rattle.stream.specs.Laws.{plain_more, appended}
 use Rattle.stream.proofs.scan.Goals as goal
 

@@ -1,4 +1,4 @@
-use Rattle.std.proofs.Common.{refl, rules, arith}
+use Rattle.std.proofs.Common.{refl, arith}
 use Rattle.stream.proofs.Carry.{if_ok_two, if_ok_four, respond-carried, begin-carried, part-carried, long-carried}
 use Rattle.stream.proofs.turn.Goals as goal
 
