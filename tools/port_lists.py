@@ -124,7 +124,7 @@ for c in sorted(moved):
 for p in sorted(x for x in landed if x.endswith('.edit')):
     label = p[7:-5].replace('/must-fail/', '/')
     if p not in now: lists['edits'] += [f'### {label}', '', 'is gone', '']; continue
-    if pairs(landed[p]) == pairs(now[p]): continue
+    if landed[p] == now[p]: lists['untouched edits'].append(f'- {label}'); continue
     reasons = '; '.join(dict.fromkeys(re.sub(r'^proofs/|/?\.antt|\s\.\.|error: ', '', l[8:]).replace('/ `', ' `') for l in now[p].split('\n') if l.startswith('reason: ')))
     was_of, now_of = ([(f, o, n, change(o, n, names)) for f, o, n in x] for x in (pairs(landed[p]), pairs(now[p])))
     lost, places = list(was_of), {}
