@@ -4,26 +4,26 @@ from pathlib import Path
 TOP = Path(__file__).resolve().parent.parent
 FILE = TOP / 'crates/memory/specs/Tables.antt'
 
-# name, in the order in which they lie: how many entries it has, and what an entry is
+# name, in the order in which they lie: how many entries it has, what they are below as they are read, and what an entry is
 TABLES = {
-    'queue': ('64', 'partitions of the jobs, front first'),
-    'kinds': ('32', 'partition and kind of the outstanding commands'),
-    'spots': ('32', 'level and slot of the outstanding commands'),
-    'counter': ('64', 'of a partition'),
-    'partition': ('h.N', 'of a block'),
-    'place': ('h.N', 'of a block'),
-    'waiting': ('h.N', 'the waiting blocks, longest waiting first'),
-    'order': ('cells h', "slot of an item, by the item's cell"),
-    'holds': ('cells h', "block in a slot, by the slot's cell"),
-    'mark': ('cells h', 'whether a slot is unread, by its cell'),
+    'queue': ('64', 'h.P', 'partitions of the jobs, front first'),
+    'kinds': ('32', '65536', 'partition and kind of the outstanding commands'),
+    'spots': ('32', '65536', 'level and slot of the outstanding commands'),
+    'counter': ('64', '2 ^ h.L', 'of a partition'),
+    'partition': ('h.N', 'h.P', 'of a block'),
+    'place': ('h.N', 'slots h.L', 'of a block'),
+    'waiting': ('h.N', 'h.N', 'the waiting blocks, longest waiting first'),
+    'order': ('cells h', '65536', "slot of an item, by the item's cell"),
+    'holds': ('cells h', 'h.N + 1', "block in a slot, by the slot's cell"),
+    'mark': ('cells h', '2', 'whether a slot is unread, by its cell'),
 }
 
 # the fields of Tables, with their types
 FIELDS = {name: 'ℕ → ℕ' for name in TABLES} | {'blocks': 'ℕ → List ℕ', 'tail': 'List ℕ'}
 
 HEAD = f'''-- The tables that lie in the lent memory, one after the other, then the blocks; what is past them is the tail. Written by gen/tables.py.
-use Rattle.std.specs.Prelude.{{◌≡◌, refl, List, [], ◌∷◌, ℕ, eqb, drop, if◌then◌else◌}}
-use Rattle.rules.specs.Shape.{{Shape}}
+use Rattle.std.specs.Prelude.{{◌≡◌, refl, List, [], ◌∷◌, ℕ, ◌+◌, ◌^◌, eqb, drop, if◌then◌else◌}}
+use Rattle.rules.specs.Shape.{{Shape, slots}}
 use Rattle.rules.specs.Memory.{{needed}}
 use Rattle.memory.specs.Words.{{window}}
 use Rattle.memory.specs.Blocks.{{cells, block_table}}
@@ -66,7 +66,7 @@ def by_table(name, kind, case):
 
 
 def record():
-    entries = ''.join(f'  pub {name} : {FIELDS[name]}  -- {what}\n' for name, (_, what) in TABLES.items())
+    entries = ''.join(f'  pub {name} : {FIELDS[name]}  -- {what}\n' for name, (_, _, what) in TABLES.items())
     return f'''pub record Tables : Type 0 where
 {entries}  pub blocks : {FIELDS['blocks']}  -- contents of a block; entry N has those of a request in hand
   pub tail : {FIELDS['tail']}
@@ -107,10 +107,13 @@ places = {name: place for place, name in enumerate(TABLES)}
 text = '\n'.join([
     HEAD,
     titled('-- the sizes of the tables, in the order in which they lie, and the place of a table in that order', [
-        f'abbrev pub sizes : Shape → List ℕ\nsizes h = {" ∷ ".join(size for size, _ in TABLES.values())} ∷ []\n',
+        f'abbrev pub sizes : Shape → List ℕ\nsizes h = {" ∷ ".join(size for size, _, _ in TABLES.values())} ∷ []\n',
         by_table('abbrev pub index', 'Table → ℕ', lambda name: f'index {variant(name)} = {places[name]}'),
     ]),
     LAYOUT,
+    titled('-- what the entries of a table are below: one that is not reads as 0. Where a number has two values, or the bound is that of a level, it is what each\n-- number of two bytes is below', [
+        by_table('abbrev pub bound_of', 'Shape → Table → ℕ', lambda name: f'bound_of h {variant(name)} = {TABLES[name][1]}'),
+    ]),
     record(),
     titled('-- all tables at once, and one of them', [
         tables_by(),

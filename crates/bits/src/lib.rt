@@ -26,21 +26,11 @@ pub fn filled(c: usize, l: usize) -> bool
     (c >> l) & 1 == 1
 }
 
-// The lowest empty level, or `levels` where all are filled: the trailing zeros of the counter's complement.
-fn lowest_empty(c: usize, levels: usize) -> usize
-    requires { levels ≤ 64 }
-    ensures { (result ≡ trailing_ones levels c) × (result ≤ levels) }
+// The lowest empty level, of as many levels as a counter has bits: the trailing zeros of the counter's complement.
+fn lowest_empty(c: usize) -> usize
+    ensures { result ≡ trailing_ones 64 c }
 {
-    let t = wide(usize::trailing_zeros(!c));
-    if t < levels { t } else { levels }
-}
-
-// The highest bit of a number that is not 0.
-fn highest_bit(x: usize) -> usize
-    requires { 0 < x }
-    ensures { (2 ^ result ≤ x) × (x < 2 ^ suc result) }
-{
-    63 - wide(usize::leading_zeros(x))
+    (!c).trailing_zeros() as usize // as, since std has no From of u32 for usize; so below
 }
 
 // How many of n queued jobs run together: no more than make all levels filled, and one where they are.
@@ -52,7 +42,7 @@ pub fn joins(c: usize, n: usize, levels: usize) -> usize
     if room == 0 {
         return 1;
     }
-    if n < room { n } else { room }
+    n.min(room)
 }
 
 // The highest level that j jobs together write, up to which the filled levels are their sources. Of one job it is the lowest empty level, or the last
@@ -62,10 +52,9 @@ pub fn top_level(c: usize, j: usize, levels: usize) -> usize
     ensures { ((h : Shape) → h.L ≡ levels → result ≡ top_level h c j) × (result < levels) }
 {
     if j != 1 {
-        return highest_bit(c ^ (c + j));
+        return (c ^ (c + j)).ilog2() as usize;
     }
-    let t = lowest_empty(c, levels);
-    if t < levels { t } else { levels - 1 }
+    lowest_empty(c).min(levels - 1)
 }
 
 // The counter after j jobs: it grows by j, or from 2^L - 1 falls to 2^(L-1).
@@ -100,13 +89,5 @@ pub fn level_of(x: usize) -> usize
     requires { x ≤ 65536 }
     ensures { (2 ^ (result + 1) ≤ x + 2) × (x + 2 < 2 ^ (result + 2)) }
 {
-    let zeros = wide(usize::leading_zeros(x + 2));
-    62 - zeros
-}
-
-// A number of 32 bits as a usize.
-fn wide(x: u32) -> usize
-    ensures { result ≡ x }
-{
-    x as usize
+    (x + 2).ilog2() as usize - 1
 }

@@ -1,8 +1,7 @@
 -- The blocks that have waited longest for a partition leave the cache, and those behind them move up.
-use Rattle.std.specs.Prelude.{◌≡◌, refl, Bool, true, false, ◌&&◌, List, [], ◌∷◌, ◌++◌, ℕ, suc, ◌+◌, ◌-◌, ◌≤◌, ◌<◌, take, drop, eqb, ltb, if◌then◌else◌}
-use Rattle.std.proofs.Common.{ap, sym, ◌∙◌, append-nil, append_assoc, add-one, arith, take-append-drop, drop_of_length-le, drop-cons, lt-ltb, le-ltb, eq-eqb, ne_eqb}
+use Rattle.std.specs.Prelude.{◌≡◌, refl, Bool, true, false, ◌&&◌, None, List, [], ◌∷◌, ◌++◌, ℕ, zero, suc, ◌+◌, ◌-◌, ◌≤◌, ◌<◌, take, drop, eqb, ltb, if◌then◌else◌}
+use Rattle.std.proofs.Common.{ap, sym, ◌∙◌, append-nil, append_assoc, add-one, arith, take-append-drop, drop_of_length-le, drop-cons, lt-ltb, le-ltb}
 use Rattle.std.proofs.Math.Decide.{dec_lt}
-use Rattle.lists.specs.Tests.{and-false}
 use Rattle.lists.specs.Search.{keep, without_first}
 use Rattle.lists.specs.Tables.{put, put_other}
 use Rattle.lists.specs.Leaving.{without-first-none, without-first-yes, without-first-no, without-first-behind}
@@ -19,7 +18,7 @@ use Rattle.client.specs.Rows.{length-rows, get_d_rows, rows_take}
 use Rattle.client.specs.Changes.{fitted, fit-push}
 use Rattle.client.specs.Readings.{waiting-count}
 use Rattle.client.specs.Moves.{with_waiting, Stands}
-use Rattle.cache.specs.Longest.{waits_for, Longest}
+use Rattle.cache.specs.Longest.{waits_for, LongestAt, Longest}
 use Rattle.cache.specs.Waiting.{blocks_in, waiting-stands}
 
 -- block b is for q, by the tables
@@ -31,24 +30,6 @@ is_for h m q b = eqb (fit h.p ((tables_of (shape_of h) m).partition b)) q
 pub record MovedUp (h : Shape) (m m' : List ℕ) (q i gone k r : ℕ) : Type 0 where
   pub count : r ≡ (if ltb gone k && is_for h m q (blocks_in h m i) then gone + 1 else gone)
   pub tables : tables_of (shape_of h) m' ≡ (if ltb gone k && is_for h m q (blocks_in h m i) then tables_of (shape_of h) m else M.with_waiting (put (i - gone) (blocks_in h m i) (tables_of (shape_of h) m).waiting) (tables_of (shape_of h) m))
-
-module _ (h : Shape) (m : List ℕ) (q i gone k x : ℕ) (read : x ≡ blocks_in h m i) where
-  pub moved_out : (p : ℕ) → gone < k → p ≡ fit h.p ((tables_of (shape_of h) m).partition x) → p ≡ q → MovedUp h m m q i gone k (gone + 1)
-  moved_out p l e f =
-      let t : is_for h m q (blocks_in h m i) ≡ true = eq-eqb _ q (ap (λ b. fit h.p ((tables_of (shape_of h) m).partition b)) (sym read) ∙ sym e ∙ f) in
-      record { count = rw (lt-ltb gone k l, t); tables = rw (lt-ltb gone k l, t) }
-
-  moved : (m' : List ℕ) → (ltb gone k && is_for h m q (blocks_in h m i)) ≡ false → tables_of (shape_of h) m' ≡ M.with_waiting (put (i - gone) x (tables_of (shape_of h) m).waiting) (tables_of (shape_of h) m) → MovedUp h m m' q i gone k gone
-  moved m' f e = record { count = rw f; tables = rw f (rw read at e) }
-
-  pub moved_all : (m' : List ℕ) → k ≤ gone → tables_of (shape_of h) m' ≡ M.with_waiting (put (i - gone) x (tables_of (shape_of h) m).waiting) (tables_of (shape_of h) m) → MovedUp h m m' q i gone k gone
-  moved_all m' l e = moved m' (rw (le-ltb gone k l)) e
-
-  pub moved_other : (m' : List ℕ) (p : ℕ) → p ≡ fit h.p ((tables_of (shape_of h) m).partition x) → (p ≡ q → ⊥) → tables_of (shape_of h) m' ≡ M.with_waiting (put (i - gone) x (tables_of (shape_of h) m).waiting) (tables_of (shape_of h) m)
-      → MovedUp h m m' q i gone k gone
-  moved_other m' p e n t =
-      let f : is_for h m q (blocks_in h m i) ≡ false = ne_eqb _ q (λ d. n (e ∙ ap (λ b. fit h.p ((tables_of (shape_of h) m).partition b)) read ∙ d)) in
-      moved m' (and-false (ltb gone k) f) t
 
 -- ---- All of them: of the first i blocks those that stay are the first, and of those behind them k less the ones that are gone are still to leave
 pub record Leaves (h : Shape) (q k n : ℕ) (m₀ m : List ℕ) (gone i : ℕ) : Type 0 where
@@ -140,8 +121,8 @@ module _ (h : Shape) (q k n : ℕ) (m₀ : List ℕ) where
 
 -- ---- By the client
 module _ (c : Client) (q k : ℕ) (m₀ : List ℕ) where
-  pub leaving-start : (first : ℕ) → Longest (state_of c m₀) q first → Leaves c.shape q k c.waiting m₀ m₀ 0 first
-  leaving-start first f = leaves-start c.shape q k c.waiting m₀ first (omega (arith, f.le, waiting-count c m₀)) (unfold state_of view in f.before)
+  pub leaving-start : (first : ℕ) → LongestAt (state_of c m₀) q first → Leaves c.shape q k c.waiting m₀ m₀ 0 first
+  leaving-start first f = leaves-start c.shape q k c.waiting m₀ first (omega (arith, f.inside, waiting-count c m₀)) (unfold state_of view in f.before)
 
   pub leaving-more : (m m' : List ℕ) (gone i r : ℕ) → 1 ≤ c.shape.n → i < c.waiting → Leaves c.shape q k c.waiting m₀ m gone i → MovedUp c.shape m m' q i gone k r → Leaves c.shape q k c.waiting m₀ m' r (i + 1)
   leaving-more m m' gone i r a b s j = leaves-more c.shape q k c.waiting m₀ m m' gone i r a b s j
@@ -151,3 +132,12 @@ module _ (c : Client) (q k : ℕ) (m₀ : List ℕ) where
   leaving-done m gone i e s =
       let d = leaves-done c.shape q k c.waiting m₀ m gone i (omega arith) s in
       waiting-stands c m₀ m s.blocks (c.waiting - gone) _ s.tables (rw e at d ∙ unfold state_of view in refl)
+
+  -- none leaves where none waits for q
+  pub leaving-none : Longest (state_of c m₀) q None → Stands c m₀ m₀ (set_waiting (leave (take k (keep (waits_for (state_of c m₀) q) (state_of c m₀).waiting)) (state_of c m₀).waiting) (state_of c m₀))
+  unfolding leave
+  leaving-none e = record { state = sym (ap (λ bs. set_waiting (leave bs (state_of c m₀).waiting) (state_of c m₀)) (ap (take k) e ∙ none k)); tail = refl }
+    where
+      none : (n : ℕ) → take {A = ℕ} n [] ≡ []
+      none zero = refl
+      none (suc n) = refl

@@ -1,8 +1,8 @@
 -- The blocks that wait, in their table.
-use Rattle.std.specs.Prelude.{◌≡◌, Bool, true, false, not, List, [], ◌∷◌, ◌++◌, ℕ, zero, suc, ◌+◌, ◌≤◌, ◌<◌, length, eqb, ltb, if◌then◌else◌}
+use Rattle.std.specs.Prelude.{◌≡◌, Bool, true, false, not, Option, Some, None, MatchOption, is_some, unwrap_or, List, [], ◌∷◌, ◌++◌, ℕ, zero, suc, ◌+◌, ◌≤◌, ◌<◌, length, eqb, if◌then◌else◌}
 use Rattle.std.proofs.Math.Path.{refl, sym, fun_ext}
-use Rattle.std.proofs.Common.{ap, subst, ◌∙◌, true≢false, add-one, arith, below_none, below_more, eq-eqb, ne_eqb, lt-ltb, le-ltb}
-use Rattle.std.proofs.Math.Decide.{ℕ_discrete, dec_lt}
+use Rattle.std.proofs.Common.{ap, subst, ◌∙◌, true≢false, add-one, arith, below_none, below_more, eq-eqb, ne_eqb}
+use Rattle.std.proofs.Math.Decide.{ℕ_discrete}
 use mir.Val.{bool_byte}
 use Rattle.lists.specs.Search.{any, member}
 use Rattle.lists.specs.Tables.{put, put_same, put_other}
@@ -36,29 +36,30 @@ pub waiting-stands : (c : Client) (m₀ m : List ℕ) (f : ℕ → ℕ) (n : ℕ
 unfolding state_of view tables_of
 waiting-stands c m₀ m f n xs e l = stands (with_waiting n c) m₀ m (M.with_waiting f (tables_of (shape_of c.shape) m₀)) _ e refl (ap (λ r. set_waiting r (view c (tables_of (shape_of c.shape) m₀))) l)
 
--- ---- The first place of a block among the first n, or n
+-- ---- The first place of a block among the first n
 pub record FirstAt (f : ℕ → ℕ) (n b r : ℕ) : Type 0 where
-  pub le : r ≤ n
+  pub inside : r < n
   pub before : (x : ℕ) → x < r → eqb (f x) b ≡ false
-  pub here : r < n → f r ≡ b
+  pub here : f r ≡ b
 
--- it is among them exactly where that is below n
-pub waits-is : (c : Client) (m : List ℕ) (b r : ℕ) → FirstAt (blocks_in c.shape m) c.waiting b r → ltb r c.waiting ≡ member b (state_of c m).waiting
+abbrev pub First : (ℕ → ℕ) → ℕ → ℕ → Option ℕ → Type 0
+First f n b r = MatchOption r ((x : ℕ) → x < n → eqb (f x) b ≡ false) (FirstAt f n b)
+
+-- none of those before it, or of all where it has none, is b
+pub first-before : (f : ℕ → ℕ) (n b : ℕ) (r : Option ℕ) → First f n b r → (unwrap_or r n ≤ n) × ((x : ℕ) → x < unwrap_or r n → eqb (f x) b ≡ false)
+first-before f n b None a = (omega arith, a)
+first-before f n b (Some r) a = (omega (arith, a.inside), a.before)
+
+-- it has one exactly where it is among them
+pub waits-is : (c : Client) (m : List ℕ) (b : ℕ) (r : Option ℕ) → First (blocks_in c.shape m) c.waiting b r → is_some r ≡ member b (state_of c m).waiting
 unfolding member
-waits-is c m b r f = rw waiting-is (go (dec_lt r c.waiting))
-  where
-    go : Dec (r < c.waiting) → ltb r c.waiting ≡ any (eqb b) (rows (blocks_in c.shape m) c.waiting)
-    go (yes l) = lt-ltb r c.waiting l ∙ sym (any-hit (eqb b) _ _ r l (eq-eqb b _ (sym (f.here l))))
-    go (no l) = le-ltb r c.waiting (omega arith) ∙ sym (any-miss (eqb b) _ _ (λ x h. ne_eqb b _ (λ e. true≢false (sym (eq-eqb _ b (sym e)) ∙ f.before x (omega (arith, f.le))))))
+waits-is c m b None a = rw waiting-is (sym (any-miss (eqb b) _ _ (λ x h. ne_eqb b _ (λ e. true≢false (sym (eq-eqb _ b (sym e)) ∙ a x h)))))
+waits-is c m b (Some r) a = rw waiting-is (sym (any-hit (eqb b) _ _ r a.inside (eq-eqb b _ (sym a.here))))
 
 -- one that is not among them has no place
-pub waits-not : (c : Client) (m : List ℕ) (b : ℕ) → member b (state_of c m).waiting ≡ false → FirstAt (blocks_in c.shape m) c.waiting b c.waiting
+pub waits-not : (c : Client) (m : List ℕ) (b : ℕ) → member b (state_of c m).waiting ≡ false → First (blocks_in c.shape m) c.waiting b None
 unfolding member
-waits-not c m b e = record {
-  le = omega arith;
-  before = λ x l. ne_eqb _ b (λ q. true≢false (sym (any-hit (eqb b) _ _ x l (eq-eqb b _ (sym q))) ∙ rw waiting-is at e));
-  here = λ l. absurd (omega arith);
-}
+waits-not c m b e = λ x l. ne_eqb _ b (λ q. true≢false (sym (any-hit (eqb b) _ _ x l (eq-eqb b _ (sym q))) ∙ rw waiting-is at e))
 
 -- ---- A count k of the entries that are b, of the first i of n: it is 0 where none is
 pub record Counted (f : ℕ → ℕ) (n b k i : ℕ) : Type 0 where
@@ -102,15 +103,6 @@ pub record Joined (h : Shape) (m m' : List ℕ) (k i b r : ℕ) : Type 0 where
   pub count : r ≡ (if eqb (blocks_in h m i) b then k else k + 1)
   pub tables : tables_of (shape_of h) m' ≡ (if eqb (blocks_in h m i) b then tables_of (shape_of h) m else M.with_waiting (put k (blocks_in h m i) (tables_of (shape_of h) m).waiting) (tables_of (shape_of h) m))
 
-module _ (h : Shape) (m : List ℕ) (k i b : ℕ) where
-  pub joined-not : blocks_in h m i ≡ b → Joined h m m k i b k
-  joined-not e = record { count = rw (eq-eqb (blocks_in h m i) b e); tables = rw (eq-eqb (blocks_in h m i) b e) }
-
-  pub joined : (m' : List ℕ) (x : ℕ) → x ≡ blocks_in h m i → (x ≡ b → ⊥) → tables_of (shape_of h) m' ≡ M.with_waiting (put k x (tables_of (shape_of h) m).waiting) (tables_of (shape_of h) m) → Joined h m m' k i b (k + 1)
-  joined m' x e n t =
-      let f : eqb (blocks_in h m i) b ≡ false = ne_eqb (blocks_in h m i) b (λ q. n (e ∙ q)) in
-      record { count = rw f; tables = rw f (rw e at t) }
-
 -- nothing changes while b is not met
 kept-all : (p : ℕ → Bool) (g : ℕ → ℕ) (j : ℕ) → ((x : ℕ) → x < j → p (g x) ≡ true) → Kept p g g j j
 kept-all p g zero f = kept-none p g
@@ -123,8 +115,8 @@ kept-all p g (suc j) f = subst (λ (u : ℕ → ℕ). Kept p g u (suc j) (suc j)
         go x (yes e) = rw e (put_same j (g j) g)
         go x (no n) = put_other j (g j) g x n
 
-pub renewing-from : (h : Shape) (b : ℕ) (m : List ℕ) (n j : ℕ) → FirstAt (blocks_in h m) n b j → Renewing h b m m j j
-renewing-from h b m n j f = record { blocks = (tables_of (shape_of h) m).waiting; tables = refl; kept = kept-all (other b) (blocks_in h m) j (λ x l. ap not (f.before x l)) }
+pub renewing-from : (h : Shape) (b : ℕ) (m : List ℕ) (j : ℕ) → ((x : ℕ) → x < j → eqb (blocks_in h m x) b ≡ false) → Renewing h b m m j j
+renewing-from h b m j f = record { blocks = (tables_of (shape_of h) m).waiting; tables = refl; kept = kept-all (other b) (blocks_in h m) j (λ x l. ap not (f x l)) }
 
 pub renewing-more : (h : Shape) (b : ℕ) (m₀ m m' : List ℕ) (k i r : ℕ) → 1 ≤ h.n → Joined h m m' k i b r → Renewing h b m₀ m k i → Renewing h b m₀ m' r (i + 1)
 renewing-more h b m₀ m m' k i r l j s = go (eqb (blocks_in h m i) b) refl j.count j.tables

@@ -18,8 +18,7 @@ use Rattle.rules.specs.State.{State, closed}
 use Rattle.client.specs.declared.Client.{Client}
 use Rattle.client.specs.View.{state_of, view, found_as}
 use Rattle.client.specs.Readings.{as_number}
-use Rattle.contract.specs.declared.Answer.{Answer}
-use Rattle.contract.specs.Answers.{cleared_client}
+use Rattle.contract.specs.Answers.{Answer, cleared_client}
 use Rattle.contract.specs.Meets.{Meets, call_of, command_of, reported, closed_is}
 use Rattle.rules.proofs.Laws.Lengths.{Whole}
 use Rattle.contract.specs.Buffers.{state-whole, ready_of, ready-long}

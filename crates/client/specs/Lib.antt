@@ -4,3 +4,4 @@ pub mod Readings
 pub mod Changes
 pub mod Ready
 pub mod Moves
+pub mod Kinds

@@ -1,8 +1,10 @@
 -- A client with one number changed; and what it means that a function moves client and memory to another state.
-use Rattle.std.specs.Prelude.{◌≡◌, List, ℕ, length, drop}
+use Rattle.std.specs.Prelude.{◌≡◌, List, ℕ, ◌<◌, ◌≤◌, length, drop}
 use Rattle.std.proofs.Common.{ap, ◌∙◌}
+use Rattle.rules.specs.Shape.{slots}
 use Rattle.rules.specs.State.{State}
 use Rattle.rules.specs.Memory.{needed}
+use Rattle.memory.specs.declared.Shape.{Shape as Numbers}
 use Rattle.memory.specs.Tables.{Tables, tables_of}
 use Rattle.memory.specs.Fits.{shape_of, Fits}
 use Rattle.client.specs.declared.Client.{Client}
@@ -24,6 +26,10 @@ awaiting k r = record { kind = r.kind; block = r.block; next = r.next; evict = r
 -- no request in hand
 abbrev pub no_request : Request
 no_request = record { kind = 0; block = 0; next = 0; evict = 0; level = 0; found = 0; awaits = 0 }
+
+-- no request in hand, no command outstanding, no job begun
+abbrev pub resting_client : Numbers → ℕ → ℕ → Client
+resting_client h jobs waiting = record { shape = h; request = no_request; jobs = jobs; begun = 0; cursor = 0; sent = 0; waiting = waiting; out = 0 }
 
 abbrev pub with_request : Request → Client → Client
 with_request x c = record { shape = c.shape; request = x; jobs = c.jobs; begun = c.begun; cursor = c.cursor; sent = c.sent; waiting = c.waiting; out = c.out }
@@ -49,6 +55,22 @@ with_out x c = record { shape = c.shape; request = c.request; jobs = c.jobs; beg
 -- the memory m is long enough for the client's shape, whose numbers are within bounds
 abbrev pub Room : Client → List ℕ → Type 0
 Room c m = Fits (shape_of c.shape) (length m)
+
+-- Room, and the jobs that are queued fit their table
+abbrev pub QueueRoom : Client → List ℕ → Type 0
+QueueRoom c m = Room c m × (c.jobs ≤ 64)
+
+-- Room, and the blocks that wait fit their table
+abbrev pub CacheRoom : Client → List ℕ → Type 0
+CacheRoom c m = Room c m × (c.waiting ≤ c.shape.n)
+
+-- Room, and partition q has a level ℓ
+abbrev pub HasLevel : Client → List ℕ → ℕ → ℕ → Type 0
+HasLevel c m q ℓ = Room c m × (q < c.shape.p) × (ℓ < c.shape.l)
+
+-- Room, and partition q has a level ℓ with a slot i
+abbrev pub HasSlot : Client → List ℕ → ℕ → ℕ → ℕ → Type 0
+HasSlot c m q ℓ i = Room c m × (q < c.shape.p) × (ℓ < c.shape.l) × (i < slots ℓ)
 
 -- Client and memory stand for the state s, and what is past the memory that the shape needs is as it was in m₀
 pub record Stands (c : Client) (m₀ m : List ℕ) (s : State) : Type 0 where

@@ -1,5 +1,6 @@
 -- The state of the rules that a client and the lent memory stand for. Every content of the memory stands for one.
 use Rattle.std.specs.Prelude.{true, false, List, [], map, ℕ, zero, suc, ◌+◌, ◌-◌, ◌%◌, ◌^◌, replicate, ltb, leb, eqb, if◌then◌else◌}
+use Rattle.std.specs.Prelude as code
 use Rattle.std.proofs.Math.Option.{Option, none, some}
 use Rattle.lists.specs.Search.{below}
 use Rattle.rules.specs.Shape.{Shape, slots}
@@ -9,8 +10,6 @@ use Rattle.memory.specs.Tables.{Tables, tables_of}
 use Rattle.memory.specs.Fits.{shape_of, fit}
 use Rattle.client.specs.declared.Client.{Client}
 use Rattle.client.specs.declared.Request.{Request}
-use Rattle.client.specs.declared.Found.{Found}
-use Rattle.client.specs.declared.Found.TheVariants.{At, Nothing}
 
 -- A slot as one number, slots(level) + slot: its level among `levels`
 unfoldable pub level_of : ℕ → ℕ → ℕ
@@ -95,7 +94,7 @@ view c t = let h = shape_of c.shape in record {
 unfoldable pub state_of : Client → List ℕ → State
 state_of c m = view c (tables_of (shape_of c.shape) m)
 
--- what a search found, as an option
-abbrev pub found_of : Found → Option ℕ
-found_of (At i) = some i
-found_of Nothing = none
+-- what a search found, as the rules say it
+abbrev pub found_of : {A : Type 0} → code.Option A → Option A
+found_of (code.Some x) = some x
+found_of code.None = none

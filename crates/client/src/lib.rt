@@ -2,19 +2,53 @@
 #![tactic(auto)]
 
 ghost use Rattle.std.specs.Prelude.{◌≡◌};
-ghost use Rattle.rules.specs.Ranges.{is_kind};
-ghost use Rattle.client.specs.Moves.{no_request, awaiting as awaiting_of, at_level, at_found, with_request, with_jobs, with_begun, with_cursor, with_sent, with_waiting, with_out};
+ghost use Rattle.client.specs.Kinds.{kind_number, Says};
+ghost use Rattle.client.specs.Moves.{no_request, resting_client, awaiting as awaiting_of, at_level, at_found, with_request, with_jobs, with_begun, with_cursor, with_sent, with_waiting, with_out};
 
 use memory::Shape;
 
-// The kinds of requests and of commands.
+// The kinds of requests and of commands, as numbers: of a state, of an answer and of a caller.
 pub const READ: usize = 1;
 
 pub const WRITE: usize = 2;
 
+// A kind, with its number.
+#[derive(Clone, Copy, PartialEq, Eq)]
+pub enum Kind {
+    Read = 1,
+    Write = 2,
+}
+
+// Why a number says no kind: it is none of the two.
+#[derive(Clone, Copy)]
+pub struct NoKind;
+
+impl From<Kind> for usize {
+    ghost from_gives = { λ k n. n ≡ kind_number k };
+
+    fn from(k: Kind) -> usize {
+        k as usize
+    }
+}
+
+impl TryFrom<usize> for Kind {
+    type Error = NoKind;
+
+    ghost try_from_gives = { Says };
+
+    fn try_from(n: usize) -> Result<Kind, NoKind> {
+        match n {
+            READ => Ok(Kind::Read),
+            WRITE => Ok(Kind::Write),
+            _ => Err(NoKind),
+        }
+    }
+}
+
 // A request in hand, of one of these kinds; or none, of kind 0. The contents of a write are block N of the memory. While it is held, `found` is 0;
 // then it is one more than the number by which a collect tells where the block was found. `awaits` is how many of the outstanding commands, which are in
-// the order of sending, were sent before it was released or not after its last own read: those of its partition among them it waits for.
+// the order of sending, were sent before it was released or not after its last own read: those of its partition among them it waits for. Kind and place are
+// numbers here, and no enums: a state is nineteen numbers of any value (`client_of` of codec), of which `ready` says whether they are in range.
 #[derive(Clone, Copy)]
 pub struct Request {
     pub kind: usize,
@@ -37,20 +71,6 @@ pub struct Client {
     pub sent: usize,
     pub waiting: usize,
     pub out: usize,
-}
-
-// Whether a number is one of the kinds.
-pub fn is_kind(kind: usize) -> bool
-    ensures { result ≡ is_kind kind }
-{
-    (READ <= kind) & (kind <= WRITE)
-}
-
-// What a search finds: a place, or nothing.
-#[derive(Clone, Copy)]
-pub enum Found {
-    At(usize),
-    Nothing,
 }
 
 impl Request {
@@ -97,6 +117,23 @@ impl Request {
 }
 
 impl Client {
+    // A client at rest: no request in hand, no command outstanding, no job begun.
+    pub fn resting(shape: Shape, jobs: usize, waiting: usize) -> Client
+        ensures { result ≡ resting_client shape jobs waiting }
+    {
+        Client {
+            shape,
+            request: Request::none(),
+            jobs,
+            begun: 0,
+            cursor: 0,
+            sent: 0,
+            waiting,
+            out: 0,
+        }
+    }
+
+    // One method for each number: small state by value with `mut self` methods is a form that the project keeps (docs/DECISIONS.md, "Numbers of the state").
     pub fn with_jobs(mut self, n: usize) -> Self
         ensures { result ≡ with_jobs n self }
     {

@@ -10,7 +10,7 @@ use Rattle.memory.specs.declared.Shape.{Shape}
 use Rattle.client.specs.declared.Client.{Client}
 use Rattle.client.specs.declared.Request.{Request}
 use Rattle.client.specs.Moves.{at_level}
-use Rattle.contract.specs.declared.Answer.{Answer}
+use Rattle.contract.specs.Answers.{Answer}
 
 -- The state lies in 76 bytes
 abbrev pub state_length : ℕ

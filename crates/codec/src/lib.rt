@@ -1,36 +1,46 @@
 // The client's state as 76 bytes, and an answer as one number.
 #![tactic(auto)]
 
-ghost use Rattle.std.specs.Prelude.{◌≡◌, ◌*◌, ◌%◌, ◌≤◌, ◌<◌, length, eqb, false, if◌then◌else◌};
+ghost use Rattle.std.specs.Prelude.{◌≡◌, ◌*◌, ◌%◌, ◌≤◌, ◌<◌, eqb, false, if◌then◌else◌};
 ghost use Rattle.lists.specs.Tables.{put as put_at};
 ghost use Rattle.memory.specs.Words.{word_at};
-ghost use Rattle.codec.specs.Codec.{state_length, client_of, with_six, with_shape, with_asked, with_turn, with_completion, with_found, with_progress, with_rest, Small, packed};
+ghost use Rattle.contract.specs.Answers.{accepted_as};
+ghost use Rattle.codec.specs.Codec.{client_of, with_six, with_shape, with_asked, with_turn, with_completion, with_found, with_progress, with_rest, Small, packed};
 
 use client::{Client, READ, Request};
-use contract::Answer;
+use contract::Accepted;
 use memory::Shape;
 
 // The bytes of a state.
 pub const STATE: usize = 76;
 
 // Number k of the state.
-fn number(s: &[u8], k: usize) -> usize
-    requires { (length s.now ≡ state_length) × (k < 19) }
+fn number(s: &[u8; STATE], k: usize) -> usize
+    requires { k < 19 }
     ensures { result ≡ word_at s.now (k * 2) }
 {
     memory::word(s, k * 2)
 }
 
-fn set_number(s: &mut [u8], k: usize, v: usize)
-    requires { (length s.old ≡ state_length) × (k < 19) }
+fn set_number(s: &mut [u8; STATE], k: usize, v: usize)
+    requires { k < 19 }
     ensures { word_at s.new ≡ put_at (k * 2) (v % 65536) (word_at s.old) }
 {
     memory::set_word(s, k * 2, v % 65536);
 }
 
 // Stores six numbers from number k on. It takes plain numbers, since a struct lies in memory where this is a call.
-fn set_six(s: &mut [u8], k: usize, a: usize, b: usize, c: usize, d: usize, e: usize, f: usize)
-    requires { (length s.old ≡ state_length) × (k ≤ 13) }
+fn set_six(
+    s: &mut [u8; STATE],
+    k: usize,
+    a: usize,
+    b: usize,
+    c: usize,
+    d: usize,
+    e: usize,
+    f: usize,
+)
+    requires { k ≤ 13 }
     ensures { word_at s.new ≡ with_six k a b c d e f (word_at s.old) }
 {
     set_number(s, k, a);
@@ -41,8 +51,8 @@ fn set_six(s: &mut [u8], k: usize, a: usize, b: usize, c: usize, d: usize, e: us
     set_number(s, k + 5, f);
 }
 
-fn shape(s: &[u8]) -> Shape
-    requires { length s.now ≡ state_length }
+// As forms::header::shape reads a form's: one function for both would take what reads a number as a closure, and be no shorter.
+fn shape(s: &[u8; STATE]) -> Shape
     ensures { result ≡ (client_of (word_at s.now)).shape }
 {
     Shape {
@@ -55,8 +65,7 @@ fn shape(s: &[u8]) -> Shape
     }
 }
 
-fn request(s: &[u8]) -> Request
-    requires { length s.now ≡ state_length }
+fn request(s: &[u8; STATE]) -> Request
     ensures { result ≡ (client_of (word_at s.now)).request }
 {
     Request {
@@ -70,8 +79,7 @@ fn request(s: &[u8]) -> Request
     }
 }
 
-pub fn decode(s: &[u8]) -> Client
-    requires { length s.now ≡ state_length }
+pub fn decode(s: &[u8; STATE]) -> Client
     ensures { result ≡ client_of (word_at s.now) }
 {
     Client {
@@ -86,16 +94,14 @@ pub fn decode(s: &[u8]) -> Client
     }
 }
 
-fn put_shape(s: &mut [u8], h: Shape)
-    requires { length s.old ≡ state_length }
+fn put_shape(s: &mut [u8; STATE], h: Shape)
     ensures { word_at s.new ≡ with_shape h (word_at s.old) }
 {
     set_six(s, 0, h.n, h.p, h.l, h.b, h.e, h.w);
 }
 
 // What the request asks for.
-fn put_request(s: &mut [u8], r: Request)
-    requires { length s.old ≡ state_length }
+fn put_request(s: &mut [u8; STATE], r: Request)
     ensures { word_at s.new ≡ with_asked r (word_at s.old) }
 {
     set_number(s, 6, r.kind);
@@ -104,9 +110,9 @@ fn put_request(s: &mut [u8], r: Request)
     set_number(s, 9, r.evict);
 }
 
-// Stores what a turn changes that sends a command of this kind: the others stay as they are in the bytes.
-pub fn encode_turn(s: &mut [u8], c: Client, kind: usize)
-    requires { length s.old ≡ state_length }
+// Stores what a turn changes that sends a command of this kind: the others stay as they are in the bytes. The kind is a number: the answer's, 0 for none
+// (C interface).
+pub fn encode_turn(s: &mut [u8; STATE], c: Client, kind: usize)
     ensures { word_at s.new ≡ with_turn kind c (word_at s.old) }
 {
     set_number(s, 18, c.out);
@@ -121,9 +127,8 @@ pub fn encode_turn(s: &mut [u8], c: Client, kind: usize)
     set_number(s, 17, c.waiting);
 }
 
-// Stores what the completion of a command of this kind changes.
-pub fn encode_completion(s: &mut [u8], c: Client, kind: usize)
-    requires { length s.old ≡ state_length }
+// Stores what the completion of a command of this kind changes. The kind is a number: the caller's (C interface).
+pub fn encode_completion(s: &mut [u8; STATE], c: Client, kind: usize)
     ensures { word_at s.new ≡ with_completion kind c (word_at s.old) }
 {
     set_number(s, 18, c.out);
@@ -138,8 +143,7 @@ pub fn encode_completion(s: &mut [u8], c: Client, kind: usize)
 }
 
 // Stores how far the client is, where its request's block was found and what it awaits.
-fn encode_progress(s: &mut [u8], c: Client)
-    requires { length s.old ≡ state_length }
+fn encode_progress(s: &mut [u8; STATE], c: Client)
     ensures { word_at s.new ≡ with_progress c (word_at s.old) }
 {
     set_number(s, 10, c.request.level);
@@ -149,16 +153,14 @@ fn encode_progress(s: &mut [u8], c: Client)
 }
 
 // Stores all but the shape, which only an open changes.
-pub fn encode_rest(s: &mut [u8], c: Client)
-    requires { length s.old ≡ state_length }
+pub fn encode_rest(s: &mut [u8; STATE], c: Client)
     ensures { word_at s.new ≡ with_rest c (word_at s.old) }
 {
     put_request(s, c.request);
     encode_progress(s, c);
 }
 
-pub fn encode(s: &mut [u8], c: Client)
-    requires { length s.old ≡ state_length }
+pub fn encode(s: &mut [u8; STATE], c: Client)
     ensures { word_at s.new ≡ with_rest c (with_shape c.shape (word_at s.old)) }
 {
     put_shape(s, c.shape);
@@ -166,8 +168,7 @@ pub fn encode(s: &mut [u8], c: Client)
 }
 
 // Whether the request in hand is held. Mostly none is in hand, so that is asked first.
-pub fn is_held(s: &[u8]) -> bool
-    requires { length s.now ≡ state_length }
+pub fn is_held(s: &[u8; STATE]) -> bool
     ensures { result ≡ (if eqb (client_of (word_at s.now)).request.kind 0 then false else eqb (client_of (word_at s.now)).request.found 0) }
 {
     if number(s, 6) == 0 {
@@ -177,8 +178,7 @@ pub fn is_held(s: &[u8]) -> bool
 }
 
 // Stores where the request's block was found, and what it awaits.
-pub fn set_found(s: &mut [u8], found: usize, awaits: usize)
-    requires { length s.old ≡ state_length }
+pub fn set_found(s: &mut [u8; STATE], found: usize, awaits: usize)
     ensures { word_at s.new ≡ with_found found awaits (word_at s.old) }
 {
     set_number(s, 11, found);
@@ -186,16 +186,15 @@ pub fn set_found(s: &mut [u8], found: usize, awaits: usize)
 }
 
 // From the lowest bit on: the number in 5 bits, the kind in 2, the partition in 6, the level in 4, the slot in 11 and where a block was found in 4;
-// the words taken in the upper 32.
-pub fn pack(r: Answer) -> u64
-    requires { Small r }
-    ensures { result ≡ packed r }
+// the words taken in the upper 32. An accepted call's number is 0; a refusal has its number alone, and is packed by its conversion.
+pub fn pack(r: Accepted) -> u64
+    requires { Small (accepted_as r) }
+    ensures { result ≡ packed (accepted_as r) }
 {
-    let low = r.number
-        + 32 * r.kind
+    let low = 32 * r.kind
         + 128 * r.partition
         + 8192 * r.level
         + 131072 * r.slot
         + 268435456 * r.found;
-    (low + 4294967296 * r.taken) as u64
+    (low + 4294967296 * r.taken) as u64 // as, since std has no From of usize for u64
 }

@@ -6,15 +6,17 @@ ghost use Rattle.lists.specs.Search.{member};
 ghost use Rattle.rules.specs.State.{Command};
 ghost use Rattle.rules.specs.Blocks.{is_nowhere, contents};
 ghost use Rattle.rules.specs.Collect.{finished, finish as finish_of};
-ghost use Rattle.rules.specs.Questions.{collect as collect_of, number as number_of};
+ghost use Rattle.rules.specs.Questions.{collect as collect_of, number};
 ghost use Rattle.client.specs.Readings.{hand_of};
 ghost use Rattle.client.specs.View.{state_of};
 ghost use Rattle.client.specs.Moves.{no_request, Room, Stands};
+ghost use Rattle.contract.specs.Answers.{code_of, answered};
 ghost use Rattle.contract.specs.Meets.{Meets};
 ghost use Rattle.collecting.specs.Collecting.{call_with, Hand, new_bytes, empty_slot, Settled, Queued};
 
 use client::{Client, Request, WRITE};
-use contract::Answer;
+use contract::{Accepted, Refusal};
+use memory::tables::{self, Table};
 
 // How many of the outstanding commands the request awaits. Its number may be above all of them in a state that no calls left.
 fn awaited(c: Client) -> usize
@@ -34,31 +36,32 @@ fn is_finished(c: Client, m: &[u8]) -> bool
     if c.request.found == 0 {
         return false;
     }
-    let p = memory::tables::partition(c.shape, m, c.request.block);
+    let p = tables::get(c.shape, m, Table::Partition, c.request.block);
     let sources = reading::sources(c, m, p);
-    if reading::next_level(c, m, p, sources) < c.shape.l {
+    if reading::next_level(c, m, p, sources).is_some() {
         return false;
     }
     !commands::is_busy(c, m, p, awaited(c))
 }
 
-// The number of a collect, by the lengths lent.
-fn number(c: Client, m: &[u8], len: usize) -> usize
-    ensures { result ≡ number_of (state_of c m.now) (call_with m.now len) }
+// The questions of a collect, by the lengths lent.
+#[tactic(auto, unfolding(rules::specs::Questions::number, rules::specs::Questions::questions, rules::specs::Questions::first_no))]
+fn ask(c: Client, m: &[u8], len: usize) -> Result<(), Refusal>
+    ensures { code_of result ≡ number (state_of c m.now) (call_with m.now len) }
 {
     if !ready::is_ready(c, m) {
-        return 2;
+        return Err(Refusal::Unready);
     }
     if c.request.kind == 0 {
-        return 13;
+        return Err(Refusal::NoRequest);
     }
     if !is_finished(c, m) {
-        return 14;
+        return Err(Refusal::Unfinished);
     }
     if len != c.shape.b {
-        return 15;
+        return Err(Refusal::Buffer);
     }
-    0
+    Ok(())
 }
 
 // The block is nowhere, so that it reads as zeros.
@@ -67,7 +70,7 @@ fn is_blank(c: Client, m: &[u8]) -> bool
     ensures { result ≡ (is_nowhere ((state_of c m.now).place c.request.block) && not (member c.request.block (state_of c m.now).waiting)) }
 {
     let b = c.request.block;
-    if 2 <= memory::tables::place(c.shape, m, b) {
+    if 2 <= tables::get(c.shape, m, Table::Place, b) {
         return false;
     }
     !cache::is_waiting(c, m, b)
@@ -103,12 +106,12 @@ fn empty_slot(c: Client, m: &mut [u8], p: usize)
     requires { Hand c m.old × (p < c.shape.p) }
     ensures { Stands c m.old m.new (empty_slot c.request.block p (state_of c m.old)) }
 {
-    let x = memory::tables::place(c.shape, m, c.request.block);
+    let x = tables::get(c.shape, m, Table::Place, c.request.block);
     if x < 2 {
         return;
     }
     let cell = levels::cell_of(c.shape, p, x);
-    memory::tables::set_holds(c.shape, m, cell, 0);
+    tables::set(c.shape, m, Table::Holds, cell, 0);
 }
 
 // The block moves to the young end of the cache under its next partition.
@@ -117,8 +120,8 @@ fn settle(c: Client, m: &mut [u8]) -> Client
     ensures { Settled c m.old m.new result }
 {
     let b = c.request.block;
-    memory::tables::set_place(c.shape, m, b, 0);
-    memory::tables::set_partition(c.shape, m, b, c.request.next);
+    tables::set(c.shape, m, Table::Place, b, 0);
+    tables::set(c.shape, m, Table::Partition, b, c.request.next);
     cache::renew(c, m, b)
 }
 
@@ -137,7 +140,7 @@ fn finish(c: Client, m: &mut [u8], buffer: &[u8]) -> Client
     requires { Hand c m.old × (length buffer.now ≡ c.shape.b) × (buffer.now ≡ contents (state_of c m.old) c.request.block) }
     ensures { (result.request ≡ no_request) × Stands result m.old m.new (finish_of (hand_of c m.old) (state_of c m.old)) }
 {
-    let p = memory::tables::partition(c.shape, m, c.request.block);
+    let p = tables::get(c.shape, m, Table::Partition, c.request.block);
     let evict = c.request.evict;
     set_contents(c, m, buffer);
     empty_slot(c, m, p);
@@ -145,14 +148,11 @@ fn finish(c: Client, m: &mut [u8], buffer: &[u8]) -> Client
     queue(d, m, p, evict)
 }
 
-pub fn collect(c: Client, m: &mut [u8], buffer: &mut [u8]) -> Answer
-    ensures { Meets c (state_of c m.old) collect_of m.old [] buffer.old result m.new buffer.new }
+pub fn collect(c: Client, m: &mut [u8], buffer: &mut [u8]) -> Result<Accepted, Refusal>
+    ensures { Meets c (state_of c m.old) collect_of m.old [] buffer.old (answered c result) m.new buffer.new }
 {
-    let n = number(c, m, buffer.len());
-    if n != 0 {
-        return contract::refused(n, c);
-    }
+    ask(c, m, buffer.len())?;
     hand_out(c, m, buffer);
     let d = finish(c, m, buffer);
-    contract::collected(d, c.request.found - 1)
+    Ok(Accepted::collected(d, c.request.found - 1))
 }

@@ -1,10 +1,8 @@
 -- A command among those outstanding.
-use Rattle.std.specs.Prelude.{◌≡◌, Bool, true, false, List, ℕ, ◌-◌, ◌<◌, length, eqb, ltb, if◌then◌else◌}
+use Rattle.std.specs.Prelude.{◌≡◌, Bool, true, false, List, ℕ, ◌-◌, ◌<◌, length, eqb, ltb, if◌then◌else◌, Option, Some, None}
 use Rattle.lists.specs.Search.{any, without, first_left}
 use Rattle.rules.specs.State.{Command}
 use Rattle.rules.specs.Completion.{is_command}
-use Rattle.client.specs.declared.Found.{Found}
-use Rattle.client.specs.declared.Found.TheVariants.{At, Nothing}
 use Rattle.client.specs.View.{rows}
 use Rattle.client.specs.Rows.{drop_at, length-rows, any-hit, without-first, left-first}
 
@@ -20,9 +18,9 @@ pub record OutstandingAt (d : Command) (cs : List Command) (j : ℕ) : Type 0 wh
   pub gone : without (is_command d) cs ≡ drop_at j cs
   pub left : (k : ℕ) → first_left (is_command d) k cs ≡ (if ltb j k then k - 1 else k)
 
-abbrev pub Outstanding : Command → List Command → Found → Type 0
-Outstanding d cs (At j) = OutstandingAt d cs j
-Outstanding d cs Nothing = any (is_command d) cs ≡ false
+abbrev pub Outstanding : Command → List Command → Option ℕ → Type 0
+Outstanding d cs (Some j) = OutstandingAt d cs j
+Outstanding d cs None = any (is_command d) cs ≡ false
 
 pub outstanding-at : (d : Command) (cs : List Command) (g : ℕ → Command) (n j : ℕ) → cs ≡ rows g n → j < n → is_command d (g j) ≡ true → ((i : ℕ) → i < j → is_command d (g i) ≡ false) → OutstandingAt d cs j
 outstanding-at d cs g n j e l h b = record {

@@ -1,13 +1,13 @@
 -- Completion: its questions, and what the command that is found comes to.
-use Rattle.std.specs.Prelude.{◌≡◌, Bool, true, false, not, ◌&&◌, ◌⊎◌, ℕ, zero, suc, ◌+◌, ◌-◌, ◌^◌, ◌≤◌, ◌<◌, length, eqb, leb, ltb, if◌then◌else◌}
+use Rattle.std.specs.Prelude.{◌≡◌, Bool, true, false, not, ◌&&◌, ◌⊎◌, ℕ, zero, suc, ◌+◌, ◌-◌, ◌^◌, ◌≤◌, ◌<◌, length, eqb, ltb, if◌then◌else◌}
 use Rattle.std.proofs.Math.Path.{refl, ap, sym}
 use Rattle.std.proofs.Common.{◌∙◌, subst, inl, inr, arith, pow_pos}
 use Rattle.std.proofs.Math.Bool.{true≢false}
 use mathlib.Core.List.{List, [], ◌∷◌}
 use Rattle.std.proofs.Math.Option.{Option, some, map}
 use Rattle.std.specs.Int.Bits.{bit_and}
-use borrow.Author.Tests.{eqb-true, eq-eqb, ne_eqb, leb-true}
-use Rattle.lists.specs.Tests.{and_l, and_r, or-true, between}
+use borrow.Author.Tests.{eqb-true, eq-eqb, ne_eqb}
+use Rattle.lists.specs.Tests.{and_l, and_r, or-true}
 use Rattle.lists.specs.Search.{any, keep, without, first_left, below, count}
 use Rattle.lists.specs.All.{All, nil, cons}
 use Rattle.lists.specs.Tables.{put}
@@ -32,12 +32,11 @@ use Rattle.rules.proofs.Laws.Shapes.{complete-keeps}
 use Rattle.memory.specs.Tables.{tables_of, with_blocks, with_counter}
 use Rattle.memory.specs.Fits.{shape_of, fit, fit-lt}
 use Rattle.client.specs.declared.Client.{Client}
-use Rattle.client.specs.declared.Request.{Request}
 use Rattle.client.specs.View.{state_of, view, rows}
 use Rattle.client.specs.Rows.{drop_at, length-rows}
 use Rattle.client.specs.Changes.{view-bytes, view-counter}
 use Rattle.client.specs.Moves.{Room, Stands, stands, then as next, with_request, with_jobs, with_begun, with_cursor, with_sent}
-use Rattle.contract.specs.Answers.{refused_with}
+use Rattle.contract.specs.Answers.{refused_with, accepted_with}
 use Rattle.contract.specs.Meets.{call_of, meets-no}
 use Rattle.ready.specs.Usable.{Usable, usable}
 use Rattle.releasing.specs.Performs.{Performs, ready-after}
@@ -81,7 +80,7 @@ module _ (c : Client) (m : List ℕ) (d : Command) (bs : List ℕ) where
       passed e = rw (r, a, eq-eqb (length bs) (wanted c d) e)
 
       -- all answers are yes, and the act leaves the rules' state, which answers the first question too
-      pub yes : (c' : Client) (m' : List ℕ) → length bs ≡ wanted c d → (c'.request.kind ≡ 0 → c'.request ≡ c.request) → length m' ≡ length m → Stands c' m m' (complete d bs (state_of c m)) → Performs c (state_of c m) (completion d bs) m [] [] (refused_with 0 c') m' []
+      pub yes : (c' : Client) (m' : List ℕ) → length bs ≡ wanted c d → (c'.request.kind ≡ 0 → c'.request ≡ c.request) → length m' ≡ length m → Stands c' m m' (complete d bs (state_of c m)) → Performs c (state_of c m) (completion d bs) m [] [] (accepted_with c' 0 0 0 0 0) m' []
       unfolding bounds draws taken_of numbers_of perform sent_command handed handed_found found_number
       yes c' m' e k l s = record {
         refused = λ n. absurd (n refl);
@@ -143,12 +142,8 @@ pub record Completes (c : Client) (m : List ℕ) (d : Command) (bs : List ℕ) (
   pub long : length bs ≡ wanted c d
 
 -- what the search for it asks
-pub begins : (c : Client) (m : List ℕ) (kind : ℕ) → (ready (state_of c m) (length m) && is_kind kind) ≡ true → Room c m × (c.out ≤ 32) × (1 ≤ kind) × (kind ≤ 2)
-unfolding is_kind between
-begins c m kind e =
-    let u = usable c m (and_l (ready (state_of c m) (length m)) (is_kind kind) e) in
-    let k = and_r (ready (state_of c m) (length m)) (is_kind kind) e in
-    (u.room, omega (arith, u.counts.out, u.window), leb-true 1 kind (and_l (leb 1 kind) (leb kind 2) k), leb-true kind 2 (and_r (leb 1 kind) (leb kind 2) k))
+pub begins : (c : Client) (m : List ℕ) → ready (state_of c m) (length m) ≡ true → Room c m × (c.out ≤ 32)
+begins c m e = let u = usable c m e in (u.room, omega (arith, u.counts.out, u.window))
 
 pub completes : (c : Client) (m : List ℕ) (d : Command) (bs : List ℕ) (j : ℕ) → (ready (state_of c m) (length m) && is_kind d.kind) ≡ true → OutstandingAt d (state_of c m).outstanding j → length bs ≡ wanted c d → Completes c m d bs j
 unfolding state_of view

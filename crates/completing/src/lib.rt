@@ -7,22 +7,28 @@ ghost use Rattle.rules.specs.State.{cmd, read};
 ghost use Rattle.rules.specs.Blocks.{holder};
 ghost use Rattle.rules.specs.Completion.{gather_bytes, job_done, end_job, finish_job, complete as complete_of};
 ghost use Rattle.rules.specs.Questions.{completion as completion_of};
+ghost use Rattle.client.specs.Kinds.{kind_number};
 ghost use Rattle.client.specs.View.{state_of};
 ghost use Rattle.client.specs.Moves.{with_request, Room, Stands};
 ghost use Rattle.jobs.specs.Runs.{Runs};
+ghost use Rattle.contract.specs.Answers.{answered};
 ghost use Rattle.contract.specs.Meets.{Meets};
 ghost use Rattle.releasing.specs.Performs.{Performs};
 ghost use Rattle.completing.specs.Completing.{AllOfLevel, Completes};
 ghost use Rattle.completing.specs.Awaited.{lessened};
 
-use client::{Client, Found, READ};
-use contract::Answer;
+use client::{Client, Kind};
+use contract::{Accepted, Refusal};
+use memory::tables::{self, Table};
 
 // The length that is asked for: that of a block for a read, 0 for a write.
-fn expected(kind: usize, block: usize) -> usize
-    ensures { result ≡ (if eqb kind read then block else 0) }
+fn expected(kind: Kind, block: usize) -> usize
+    ensures { result ≡ (if eqb (kind_number kind) read then block else 0) }
 {
-    if kind == READ { block } else { 0 }
+    match kind {
+        Kind::Read => block,
+        Kind::Write => 0,
+    }
 }
 
 // A read's bytes are those of the block in its slot.
@@ -31,7 +37,7 @@ fn store_read(c: Client, m: &mut [u8], q: usize, l: usize, i: usize, bytes: &[u8
     ensures { Stands c m.old m.new (gather_bytes (holder (state_of c m.old) q l i) bytes.now (state_of c m.old)) }
 {
     let x = levels::cell(c.shape, q, l, i);
-    let b = memory::tables::holds(c.shape, m, x);
+    let b = tables::get(c.shape, m, Table::Holds, x);
     if b == 0 {
         return;
     }
@@ -70,7 +76,7 @@ fn end_job(c: Client, m: &mut [u8], q: usize) -> Client
 {
     let run = jobs::running(c, m, q);
     let n = bits::grown(run.counter, run.joined, c.shape.l);
-    memory::tables::set_counter(c.shape, m, q, n);
+    tables::set(c.shape, m, Table::Counter, q, n);
     jobs::leave(c, m, q, run.joined)
         .with_begun(0)
         .with_cursor(0)
@@ -111,24 +117,26 @@ fn complete(
     c: Client,
     m: &mut [u8],
     j: usize,
-    kind: usize,
+    kind: Kind,
     q: usize,
     l: usize,
     i: usize,
     bytes: &[u8],
 ) -> Client
-    requires { Completes c m.old (cmd kind q l i) bytes.now j }
-    ensures { (result.request ≡ lessened j c.request) × Stands result m.old m.new (complete_of (cmd kind q l i) bytes.now (state_of c m.old)) }
+    requires { Completes c m.old (cmd (kind_number kind) q l i) bytes.now j }
+    ensures { (result.request ≡ lessened j c.request) × Stands result m.old m.new (complete_of (cmd (kind_number kind) q l i) bytes.now (state_of c m.old)) }
 {
     let d = commands::complete(await_less(c, j), m, j);
-    if kind == READ {
-        store_read(d, m, q, l, i, bytes);
-        return d;
+    match kind {
+        Kind::Read => {
+            store_read(d, m, q, l, i, bytes);
+            d
+        }
+        Kind::Write => finish_job(d, m),
     }
-    finish_job(d, m)
 }
 
-// What a completion does before a request is released.
+// What a completion does before a request is released. Its kind is a number, which the caller names (C interface): one of no kind is refused.
 pub fn perform(
     c: Client,
     m: &mut [u8],
@@ -137,27 +145,27 @@ pub fn perform(
     level: usize,
     slot: usize,
     bytes: &[u8],
-) -> Answer
-    ensures { Performs c (state_of c m.old) (completion_of (cmd kind partition level slot) bytes.now) m.old [] [] result m.new [] }
+) -> Result<Accepted, Refusal>
+    ensures { Performs c (state_of c m.old) (completion_of (cmd kind partition level slot) bytes.now) m.old [] [] (answered c result) m.new [] }
 {
-    if !client::is_kind(kind) {
-        return contract::refused(2, c);
-    }
+    let Ok(kind) = Kind::try_from(kind) else {
+        return Err(Refusal::Unready);
+    };
     if !ready::shape_fits(c.shape, m.len()) {
-        return contract::refused(2, c);
+        return Err(Refusal::Unready);
     }
     if !ready::numbers_fit(c, m) {
-        return contract::refused(2, c);
+        return Err(Refusal::Unready);
     }
     let found = commands::find(c, m, kind, partition, level, slot);
-    let Found::At(j) = found else {
-        return contract::refused(11, c);
+    let Some(j) = found else {
+        return Err(Refusal::NotOutstanding);
     };
     if bytes.len() != expected(kind, c.shape.b) {
-        return contract::refused(12, c);
+        return Err(Refusal::Bytes);
     }
     let d = complete(c, m, j, kind, partition, level, slot, bytes);
-    contract::accepted(d, 0)
+    Ok(Accepted::new(d, 0))
 }
 
 pub fn completion(
@@ -168,9 +176,9 @@ pub fn completion(
     level: usize,
     slot: usize,
     bytes: &[u8],
-) -> Answer
-    ensures { Meets c (state_of c m.old) (completion_of (cmd kind partition level slot) bytes.now) m.old [] [] result m.new [] }
+) -> Result<Accepted, Refusal>
+    ensures { Meets c (state_of c m.old) (completion_of (cmd kind partition level slot) bytes.now) m.old [] [] (answered c result) m.new [] }
 {
-    let r = perform(c, m, kind, partition, level, slot, bytes);
-    releasing::settle(r, m)
+    let r = perform(c, m, kind, partition, level, slot, bytes)?;
+    Ok(releasing::settle(r, m))
 }

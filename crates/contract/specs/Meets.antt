@@ -22,8 +22,7 @@ use Rattle.client.specs.View.{state_of, view, rows, request_of, bytes_in, place_
 use Rattle.client.specs.Changes.{place-nowhere}
 use Rattle.client.specs.Moves.{no_request}
 use Rattle.tape.specs.Tape.{words_of}
-use Rattle.contract.specs.declared.Answer.{Answer}
-use Rattle.contract.specs.Answers.{refused_with, cleared_client}
+use Rattle.contract.specs.Answers.{Answer, refused_with, cleared_client}
 
 -- the call that is made: what is asked, with these bytes lent
 abbrev pub call_of : Ask → List ℕ → List ℕ → List ℕ → Call

@@ -9,7 +9,7 @@ use Rattle.lists.specs.Search.{keep, below, count, member}
 use Rattle.lists.specs.Lengths.{keep-le, length-below, below_last, keep-end-yes, keep-end-no}
 use Rattle.rules.specs.State.{State}
 use Rattle.rules.specs.Blocks.{is_nowhere}
-use Rattle.counting.specs.Counts.{table_room, most_partitions, entry_at, Row, more, added, row_of, CountedTo}
+use Rattle.counting.specs.Counts.{table_room, most_partitions, entry_at, RowCounts, more, added, row_of, CountedTo}
 
 -- ---- One entry of a table
 
@@ -25,7 +25,7 @@ added-length k q t = length-set (more (entry_at k q) t) _ _ ∙ length-set t _ _
 -- ---- One element of a row
 
 module _ (f : ℕ → ℕ) (xs : List ℕ) (k q : ℕ) (t : List ℕ) (short : q < most_partitions) (row : k < 4) (size : length t ≡ table_room) where
-  pub row-added : (x : ℕ) → f x ≡ q → Row f xs k t → Row f (xs ++ (x ∷ [])) k (added k q t)
+  pub row-added : (x : ℕ) → f x ≡ q → RowCounts f xs k t → RowCounts f (xs ++ (x ∷ [])) k (added k q t)
   row-added x e r = record { each = λ p l. go p l (ℕ_discrete p q); all = every }
     where
       go : (p : ℕ) → p < most_partitions → Dec (p ≡ q) → get_or (added k q t) (entry_at k p) 0 ≡ length (keep (λ y. eqb (f y) p) (xs ++ (x ∷ [])))
@@ -48,7 +48,7 @@ module _ (f : ℕ → ℕ) (xs : List ℕ) (k q : ℕ) (t : List ℕ) (short : q
           ∙ sym (length-append xs (x ∷ []))
 
   -- another row
-  pub row_other : (j : ℕ) → (j ≡ k → ⊥) → Row f xs j t → Row f xs j (added k q t)
+  pub row_other : (j : ℕ) → (j ≡ k → ⊥) → RowCounts f xs j t → RowCounts f xs j (added k q t)
   row_other j n r = record {
     each = λ p l. apart p (omega arith) ∙ r.each p l;
     all = apart most_partitions (omega arith) ∙ r.all;
@@ -60,11 +60,11 @@ module _ (f : ℕ → ℕ) (xs : List ℕ) (k q : ℕ) (t : List ℕ) (short : q
           ∙ more-other (entry_at k q) (entry_at j p) t (λ w. n (omega arith))
 
 -- the entries of a row are at most as many as are counted
-pub row-le : (f : ℕ → ℕ) (xs : List ℕ) (k q : ℕ) (t : List ℕ) → Row f xs k t → q < most_partitions → (get_or t (entry_at k q) 0 ≤ length xs) × (get_or t (entry_at k most_partitions) 0 ≤ length xs)
+pub row-le : (f : ℕ → ℕ) (xs : List ℕ) (k q : ℕ) (t : List ℕ) → RowCounts f xs k t → q < most_partitions → (get_or t (entry_at k q) 0 ≤ length xs) × (get_or t (entry_at k most_partitions) 0 ≤ length xs)
 row-le f xs k q t r l = (omega (arith, r.each q l, keep-le (λ x. eqb (f x) q) xs), omega (arith, r.all))
 
 -- nothing is counted yet
-pub row-none : (f : ℕ → ℕ) (k : ℕ) → k < 4 → Row f [] k (replicate table_room 0)
+pub row-none : (f : ℕ → ℕ) (k : ℕ) → k < 4 → RowCounts f [] k (replicate table_room 0)
 unfolding keep
 row-none f k h = record {
   each = λ q l. get_or-replicate table_room (entry_at k q) 0 0 (omega arith);
@@ -83,10 +83,10 @@ counted_none s = record {
 
 module _ (s : State) (n q : ℕ) (t : List ℕ) (short : q < most_partitions) (size : length t ≡ table_room) (part : s.partition n ≡ q) where
   -- the block passes the test of its row, and of no other
-  counts : (p : ℕ → Bool) (k : ℕ) → k < 4 → p n ≡ true → Row s.partition (keep p (below n)) k t → Row s.partition (keep p (below (n + 1))) k (added k q t)
+  counts : (p : ℕ → Bool) (k : ℕ) → k < 4 → p n ≡ true → RowCounts s.partition (keep p (below n)) k t → RowCounts s.partition (keep p (below (n + 1))) k (added k q t)
   counts p k h e r = rw (below_last n, keep-end-yes p (below n) n e) (row-added s.partition (keep p (below n)) k q t short h size n part r)
 
-  passes : (p : ℕ → Bool) (k j : ℕ) → k < 4 → p n ≡ false → (j ≡ k → ⊥) → Row s.partition (keep p (below n)) j t → Row s.partition (keep p (below (n + 1))) j (added k q t)
+  passes : (p : ℕ → Bool) (k j : ℕ) → k < 4 → p n ≡ false → (j ≡ k → ⊥) → RowCounts s.partition (keep p (below n)) j t → RowCounts s.partition (keep p (below (n + 1))) j (added k q t)
   passes p k j h e m r = rw (below_last n, keep-end-no p (below n) n e) (row_other s.partition (keep p (below n)) k q t short h size j m r)
 
   pub counted-more : CountedTo s n t → CountedTo s (n + 1) (added (row_of (is_nowhere (s.place n)) (member n s.waiting)) q t)

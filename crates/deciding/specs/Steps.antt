@@ -1,5 +1,5 @@
 -- Steps as the rules say them, and the laws by which they are decided.
-use Rattle.std.specs.Prelude.{◌≡◌, Bool, true, false, List, ◌∷◌, eqb}
+use Rattle.std.specs.Prelude.{◌≡◌, Bool, true, false, List, [], ◌∷◌, eqb}
 use Rattle.std.proofs.Math.Path.{refl, ap, sym}
 use Rattle.std.proofs.Common.{◌∙◌, add-one, eq-eqb, ne_eqb}
 use Rattle.std.proofs.Math.Option.{Option, none, some, get_or}
@@ -24,7 +24,7 @@ use Rattle.client.specs.Readings.{hand_of, hand-none, hand-some, hand-held, hand
 use Rattle.jobs.specs.declared.Run.{Run}
 use Rattle.jobs.specs.Runs.{RunOf, levels-are}
 use Rattle.commands.specs.Outstanding.{of_partition}
-use Rattle.levels.specs.Next.{NextLevel}
+use Rattle.levels.specs.Next.{NextAt}
 use Rattle.reading.specs.Slots.{Reads}
 use Rattle.deciding.specs.declared.Step.{Step}
 use Rattle.deciding.specs.declared.Step.TheVariants.{Idle, NoDummy, ReadForRequest, ReadForJob, Rebuild, WriteNext}
@@ -83,17 +83,17 @@ module _ (c : Client) (m : List ℕ) where
         ∙ ap (λ n. first_read q (slot_read s q (s.place c.request.block)) (keep (costs s q) (count c.request.level (n - c.request.level)))) levels-is
 
 -- the first level that costs a read
-module _ (c : Client) (m : List ℕ) (q ℓ : ℕ) (f : NextLevel (costs (state_of c m) q) c.shape.l c.request.level ℓ) (slot_of : ℕ → Option ℕ) where
+module _ (c : Client) (m : List ℕ) (q : ℕ) (slot_of : ℕ → Option ℕ) where
   abbrev left : List ℕ
   left = keep (costs (state_of c m) q) (count c.request.level (c.shape.l - c.request.level))
 
-  pub first-none : ℓ ≡ c.shape.l → none ≡ first_read q slot_of left
+  pub first-none : left ≡ [] → none ≡ first_read q slot_of left
   unfolding first_read
-  first-none l = sym (ap (first_read q slot_of) (f.none l))
+  first-none e = sym (ap (first_read q slot_of) e)
 
-  pub first-at : ℓ < c.shape.l → (o : Option ℕ) → o ≡ slot_of ℓ → some (read_step q ℓ o) ≡ first_read q slot_of left
+  pub first-at : (ℓ : ℕ) → NextAt (costs (state_of c m) q) c.shape.l c.request.level ℓ → (o : Option ℕ) → o ≡ slot_of ℓ → some (read_step q ℓ o) ≡ first_read q slot_of left
   unfolding first_read
-  first-at l o g = ap (λ o. some (read_step q ℓ o)) g ∙ sym (ap (first_read q slot_of) (f.some l))
+  first-at ℓ f o g = ap (λ o. some (read_step q ℓ o)) g ∙ sym (ap (first_read q slot_of) f.passes)
 
 -- ---- A look-up in hand
 module _ (c : Client) (m : List ℕ) (q : ℕ) where

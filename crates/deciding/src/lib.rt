@@ -14,9 +14,9 @@ ghost use Rattle.ready.specs.Usable.{Usable};
 ghost use Rattle.reading.specs.Slots.{Reads};
 ghost use Rattle.deciding.specs.Steps.{step_of, due_of};
 
-use client::{Client, Found};
+use client::Client;
 use jobs::Run;
-use levels::Spot;
+use memory::tables::{self, Table};
 
 // There is no command to send; the request lacks an unread dummy, or in a source an unread item; or the step: partition, and but for a rebuild level and
 // slot.
@@ -31,6 +31,7 @@ pub enum Step {
 }
 
 // What a request wants: a read of partition, level and slot, a dummy that is lacking, or nothing.
+// (An Option of a Result would be no plainer: what asks tells all three apart in one match.)
 #[derive(Clone, Copy)]
 enum Due {
     Read(usize, usize, usize),
@@ -45,19 +46,17 @@ fn read_partition(c: Client, m: &[u8], q: usize) -> Due
     ensures { due_of result ≡ first_read q (slot_read (state_of c m.now) q ((state_of c m.now).place c.request.block)) (keep (costs (state_of c m.now) q) (count c.request.level (c.shape.l - c.request.level))) }
 {
     // 1) the level where the block resides
-    let x = memory::tables::place(c.shape, m, c.request.block);
+    let x = tables::get(c.shape, m, Table::Place, c.request.block);
     let found = reading::level_of(x);
     // 2) the conditions of the levels
     let sources = reading::sources(c, m, q);
-    let l = reading::next_level(c, m, q, sources);
-    if l == c.shape.l {
+    let Some(l) = reading::next_level(c, m, q, sources) else {
         return Due::Nothing;
-    }
+    };
     // 3) in the level that was found the real block, in any other a fake
-    let slot = reading::read_level(c, m, q, l, x, found, sources);
-    match slot {
-        Found::At(i) => Due::Read(q, l, i),
-        Found::Nothing => Due::NoDummy,
+    match reading::read_level(c, m, q, l, x, found, sources) {
+        Some(i) => Due::Read(q, l, i),
+        None => Due::NoDummy,
     }
 }
 
@@ -73,7 +72,7 @@ fn request_step(c: Client, m: &[u8]) -> Due
     if r.found == 0 {
         return Due::Nothing;
     }
-    let q = memory::tables::partition(c.shape, m, r.block);
+    let q = tables::get(c.shape, m, Table::Partition, r.block);
     read_partition(c, m, q)
 }
 
@@ -89,7 +88,7 @@ fn is_released_for(c: Client, m: &[u8], q: usize) -> bool
     if x.found == 0 {
         return false;
     }
-    memory::tables::partition(c.shape, m, x.block) == q
+    tables::get(c.shape, m, Table::Partition, x.block) == q
 }
 
 // The job's next read; or the rebuild, once nothing of its partition is outstanding and no look-up there is to be collected.
@@ -97,8 +96,7 @@ fn gather_step(c: Client, m: &[u8], q: usize, run: Run) -> Step
     requires { Usable c m.now × (q < c.shape.p) × RunOf c m.now q run }
     ensures { step_of (state_of c m.now) result ≡ gather_step q (unread (state_of c m.now) q) (rebuild_step (state_of c m.now) q) }
 {
-    let spot = levels::unread(c, m, q, run.counter, run.top);
-    if let Spot::At(l, i) = spot {
+    if let Some((l, i)) = levels::unread(c, m, q, run.counter, run.top) {
         return Step::ReadForJob(q, l, i);
     }
     if commands::is_busy(c, m, q, c.out) {
@@ -116,10 +114,8 @@ fn write_step(c: Client, m: &[u8], q: usize, run: Run) -> Step
     ensures { step_of (state_of c m.now) result ≡ write_step (state_of c m.now) q }
 {
     let next = bits::grown(run.counter, run.joined, c.shape.l);
-    let mut l = run.top + 1;
     let mut i = c.sent;
-    while 0 < l {
-        l -= 1;
+    for l in (0..run.top + 1).rev() {
         let n = bits::slots_at(next, l);
         if i < n {
             return Step::WriteNext(q, l, i);
@@ -149,8 +145,7 @@ pub fn decide(c: Client, m: &[u8]) -> Step
     requires { Usable c m.now }
     ensures { step_of (state_of c m.now) result ≡ decide_of (state_of c m.now) }
 {
-    let due = request_step(c, m);
-    match due {
+    match request_step(c, m) {
         Due::Read(q, l, i) => Step::ReadForRequest(q, l, i),
         Due::NoDummy => Step::NoDummy,
         Due::Nothing => job_step(c, m),

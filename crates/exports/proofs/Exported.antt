@@ -1,5 +1,5 @@
 -- A call that meets the rules, handed back as bytes, meets its exported call's contract.
-use Rattle.std.specs.Prelude.{◌≡◌, refl, Bool, true, false, List, [], ℕ, ◌*◌, ◌%◌, ◌≤◌, length, take, replicate, if◌then◌else◌}
+use Rattle.std.specs.Prelude.{◌≡◌, refl, Result, Ok, Err, IfOk, Bool, true, false, List, [], ℕ, ◌*◌, ◌%◌, ◌≤◌, length, take, replicate, if◌then◌else◌}
 use Rattle.std.proofs.Math.Path.{ap, sym}
 use Rattle.std.proofs.Common.{◌∙◌, subst, length-take, take_all}
 use native.Mathlib.Omega.{arith}
@@ -26,13 +26,28 @@ use Rattle.client.specs.declared.Request.{Request}
 use Rattle.client.specs.Moves.{no_request}
 use Rattle.client.specs.View.{state_of, view}
 use Rattle.tape.specs.Tape.{words_of, length-words}
-use Rattle.contract.specs.declared.Answer.{Answer}
-use Rattle.contract.specs.Answers.{cleared_client}
+use Rattle.contract.specs.declared.Accepted.{Accepted}
+use Rattle.contract.specs.declared.Refusal.{Refusal}
+use Rattle.contract.specs.Answers.{Answer, accepted_as, answered, answered_length, cleared_client}
 use Rattle.contract.specs.Meets.{Meets, call_of, command_of, reported, reported-none, unasked}
 use Rattle.codec.specs.Codec.{state_length, client_of, reshaped, low_shape, low_client, with_rest, rest-is, stored_is, Between, between-rest, between-shape, Small, packed, unpacked, answer_of}
 use Rattle.exports.specs.Idle.{Idle, rest-idle}
 use Rattle.exports.specs.Small.{SmallCommand, accepted-small, accepted-found, low-shape, low-client}
 use Rattle.exports.specs.Exported.{Exported, HandedBack, HandedBackOpened, Reports, Started, client_in, looked_at, most_words, unlent}
+
+-- what holds of an accepted call's answer
+pub of-accepted : (P : Answer → Type 0) (c : Client) (r : Result Accepted Refusal) → ((answered c r).number ≡ 0 → P (answered c r)) → IfOk r (λ a. P (accepted_as a))
+of-accepted P c (Ok a) f = f refl
+of-accepted P c (Err e) f = tt
+
+-- a save's answer: its client and its length
+pub saved-client : (c : Client) (r : Result ℕ Refusal) → (answered_length c r).client ≡ c
+saved-client c (Ok n) = refl
+saved-client c (Err e) = refl
+
+pub saved-short : (c : Client) (r : Result ℕ Refusal) → IfOk r (λ n. n ≤ most_words) → (answered_length c r).taken ≤ most_words
+saved-short c (Ok n) k = k
+saved-short c (Err e) k = omega arith
 
 -- a tape that is not longer is looked at whole
 pub looked-whole : (tape : List ℕ) → length tape ≤ most_words * 2 → take (length tape) tape ≡ looked_at tape

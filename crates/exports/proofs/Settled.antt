@@ -11,7 +11,7 @@ use Rattle.memory.specs.Words.{word_at, word_at-lt}
 use Rattle.client.specs.declared.Client.{Client}
 use Rattle.client.specs.Moves.{at_found, with_request}
 use Rattle.client.specs.View.{state_of}
-use Rattle.contract.specs.declared.Answer.{Answer}
+use Rattle.contract.specs.Answers.{Answer}
 use Rattle.contract.specs.Meets.{Meets}
 use Rattle.releasing.specs.Released.{Released, not-held}
 use Rattle.releasing.specs.Performs.{Performs, released-meets}

@@ -28,7 +28,7 @@ use Rattle.rules.specs.Completion.{complete}
 use Rattle.client.specs.Readings.{jobs-count, waiting-count, hand-none, hand-some}
 use Rattle.tape.specs.Tape.{words_of}
 use Rattle.codec.specs.Codec.{state_length, client_of, with_turn, with_completion, between-turn, between-completion, progressed, low_shape, low_client, Small}
-use Rattle.contract.specs.declared.Answer.{Answer}
+use Rattle.contract.specs.Answers.{Answer}
 use Rattle.contract.specs.Meets.{unasked}
 use Rattle.ready.specs.Usable.{usable}
 use Rattle.releasing.specs.Performs.{Performed, Performs}

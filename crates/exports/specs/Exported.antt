@@ -8,8 +8,7 @@ use Rattle.rules.specs.Questions.{Ask, opening, request, turn, completion, colle
 use Rattle.memory.specs.Words.{word_at}
 use Rattle.client.specs.declared.Client.{Client}
 use Rattle.client.specs.View.{state_of}
-use Rattle.contract.specs.declared.Answer.{Answer}
-use Rattle.contract.specs.Answers.{cleared_client}
+use Rattle.contract.specs.Answers.{Answer, cleared_client}
 use Rattle.contract.specs.Meets.{Meets}
 use Rattle.codec.specs.Codec.{state_length, client_of, with_shape, with_rest, Between, packed, answer_of}
 

@@ -1,12 +1,11 @@
 -- What the exported page's contract says.
-use Rattle.std.specs.Prelude.{◌≡◌, refl, List, ℕ, length}
+use Rattle.std.specs.Prelude.{◌≡◌, refl, Result, Ok, Err, List, ℕ, ◌<◌, length}
 use Rattle.std.proofs.Common.{ap, sym, ◌∙◌, subst, arith}
-use Rattle.std.proofs.Math.Decide.{ℕ_discrete}
-use Rattle.rules.specs.State.{State, cmd}
+use Rattle.rules.specs.State.{cmd}
 use Rattle.client.specs.declared.Client.{Client}
 use Rattle.client.specs.View.{state_of}
-use Rattle.contract.specs.Answers.{cleared_client, refused_with, accepted_with}
-use Rattle.contract.specs.declared.Answer.{Answer}
+use Rattle.contract.specs.declared.Refusal.{Refusal}
+use Rattle.contract.specs.Answers.{Answer, answered_length, cleared_client}
 use Rattle.contract.specs.Meets.{command_of}
 use Rattle.codec.specs.Codec.{state_length, Small, packed, unpacked, answer_of}
 use Rattle.report.specs.Page.{Shows}
@@ -29,26 +28,29 @@ pub record Paged (st m b : List ℕ) (u : ℕ) (b' : List ℕ) : Type 0 where
 pub paged-length : {st m b : List ℕ} → (length st ≡ state_length → ⊥) → Paged st m b 2 b
 paged-length n = record { shows = λ l. absurd (n l); command = refl; found = refl; other = λ _. (refl, refl) }
 
+-- no command is told of, and nowhere
+tells-length : (c : Client) (r : Result ℕ Refusal) → (command_of (answered_length c r) ≡ cmd 0 0 0 0) × ((answered_length c r).found ≡ 0)
+tells-length c (Ok n) = (refl, refl)
+tells-length c (Err e) = (refl, refl)
+
+-- a length that has 32 bits
+pub tells-small : (c : Client) (r : Result ℕ Refusal) → (answered_length c r).number < 32 → (answered_length c r).taken < 4294967296 → Small (answered_length c r)
+tells-small c (Ok n) k t = record { number = k; taken = t; kind = omega arith; partition = omega arith; level = omega arith; slot = omega arith; found = omega arith }
+tells-small c (Err e) k t = record { number = k; taken = t; kind = omega arith; partition = omega arith; level = omega arith; slot = omega arith; found = omega arith }
+
 -- what is written, packed
-module _ (st m b : List ℕ) (number size : ℕ) (b' : List ℕ) (l : length st ≡ state_length) (k : Shows (state_of (client_in st) m) (length m) b number size b') (c : Client) where
-  abbrev s : State
-  s = state_of (client_in st) m
+module _ (st m b : List ℕ) (c : Client) (r : Result ℕ Refusal) (b' : List ℕ) (l : length st ≡ state_length)
+    (k : Shows (state_of (client_in st) m) (length m) b (answered_length c r).number (answered_length c r).taken b') where
+  pub small : Small (answered_length c r)
+  small = let w = shows-small _ _ b _ _ b' k in tells-small c r (omega arith) (omega arith)
 
-  pub small : Small (accepted_with c size 0 0 0 0) × Small (refused_with number c)
-  small = let w = shows-small _ _ b number size b' k in (
-    record { number = omega arith; taken = omega arith; kind = omega arith; partition = omega arith; level = omega arith; slot = omega arith; found = omega arith },
-    record { number = omega arith; taken = omega arith; kind = omega arith; partition = omega arith; level = omega arith; slot = omega arith; found = omega arith },
-  )
-
-  paged-yes : number ≡ 0 → (u : ℕ) → u ≡ packed (accepted_with c size 0 0 0 0) → Paged st m b u b'
-  paged-yes z u e =
-      let a : told u ≡ accepted_with cleared_client size 0 0 0 0 = ap told e ∙ unpacked (accepted_with c size 0 0 0 0) small.0 cleared_client in
-      record { shows = λ _. subst (λ (x : Answer). Shows s (length m) b x.number x.taken b') (sym a) (subst (λ n. Shows s (length m) b n size b') z k); command = ap command_of a; found = ap (λ (x : Answer). x.found) a; other = λ n. absurd (n l) }
-
-  paged-no : (number ≡ 0 → ⊥) → (u : ℕ) → u ≡ packed (refused_with number c) → Paged st m b u b'
-  paged-no n u e =
-      let a : told u ≡ refused_with number cleared_client = ap told e ∙ unpacked (refused_with number c) small.1 cleared_client in
-      record { shows = λ _. subst (λ (x : Answer). Shows s (length m) b x.number x.taken b') (sym a) (subst (λ i. Shows s (length m) b number i b') (k.refused n).0 k); command = ap command_of a; found = ap (λ (x : Answer). x.found) a; other = λ w. absurd (w l) }
-
-  pub paged : (u : ℕ) → (number ≡ 0 → u ≡ packed (accepted_with c size 0 0 0 0)) → ((number ≡ 0 → ⊥) → u ≡ packed (refused_with number c)) → Paged st m b u b'
-  paged u yes-is no-is = elim (ℕ_discrete number 0) [ yes z ↦ paged-yes z u (yes-is z) | no n ↦ paged-no n u (no-is n) ]
+  pub paged : (u : ℕ) → u ≡ packed (answered_length c r) → Paged st m b u b'
+  paged u e =
+      let a = ap told e ∙ unpacked (answered_length c r) small cleared_client in
+      let q = tells-length c r in
+      record {
+        shows = λ _. subst (λ (x : Answer). Shows (state_of (client_in st) m) (length m) b x.number x.taken b') (sym a) k;
+        command = ap command_of a ∙ q.0;
+        found = ap (λ (x : Answer). x.found) a ∙ q.1;
+        other = λ n. absurd (n l);
+      }

@@ -1,7 +1,7 @@
 -- What a turn and a completion hand back: a request is released in the bytes of the state, once the rest is stored there.
 use Rattle.std.specs.Prelude.{◌≡◌, List, ℕ}
 use Rattle.memory.specs.Words.{word_at}
-use Rattle.contract.specs.declared.Answer.{Answer}
+use Rattle.contract.specs.Answers.{Answer}
 use Rattle.releasing.specs.Released.{Released}
 use Rattle.codec.specs.Codec.{client_of, Between, packed}
 

@@ -1,9 +1,9 @@
 -- The questions about a form's blocks, levels and records, one after the other.
-use Rattle.std.specs.Prelude.{◌≡◌, Bool, ◌&&◌, List, ℕ, ◌+◌, ◌-◌, ◌≤◌, ◌<◌, eqb, length, drop, replicate}
+use Rattle.std.specs.Prelude.{◌≡◌, Some, None, Bool, ◌&&◌, List, ℕ, ◌+◌, ◌-◌, ◌≤◌, ◌<◌, eqb, length, drop, replicate}
 use Rattle.std.proofs.Math.Path.{refl}
 use Rattle.std.proofs.Math.Bool.{true, false}
 use Rattle.std.proofs.Math.Dec.{ltb}
-use borrow.Author.Tests.{eq-eqb, ne_eqb, le-leb, lt-leb, lt-ltb, le-ltb}
+use borrow.Author.Tests.{le-leb, lt-leb, lt-ltb, le-ltb}
 use Rattle.lists.specs.Search.{all}
 use Rattle.lists.specs.Tests.{every}
 use Rattle.rules.specs.Shape.{Shape}
@@ -45,13 +45,13 @@ module _ (p : List ℕ) (h : Shape) (b : ℕ) where
     body-many l = rw (e, lt-leb (wait_count (blocks_at p h.N b)) h.E l)
 
     module _ (l : wait_count (blocks_at p h.N b) ≤ h.E) where
-      pub body-level : behind_levels p h b ≡ 0 → body_fits p h b ≡ false
+      pub body-level : behind_levels p h b ≡ None → body_fits p h b ≡ false
       unfolding body_fits every
-      body-level k = rw (e, le-leb (wait_count (blocks_at p h.N b)) h.E l, eq-eqb (behind_levels p h b) 0 k)
+      body-level k = rw (e, le-leb (wait_count (blocks_at p h.N b)) h.E l, k)
 
-      pub body_is : ¬ (behind_levels p h b ≡ 0) → body_fits p h b ≡ records_fit p h.N h.B b (wait_count (blocks_at p h.N b)) (behind_levels p h b)
+      pub body_is : (a : ℕ) → behind_levels p h b ≡ Some a → body_fits p h b ≡ records_fit p h.N h.B b (wait_count (blocks_at p h.N b)) a
       unfolding body_fits every
-      body_is k = rw (e, le-leb (wait_count (blocks_at p h.N b)) h.E l, ne_eqb (behind_levels p h b) 0 k) (last (records_fit p h.N h.B b (wait_count (blocks_at p h.N b)) (behind_levels p h b)))
+      body_is a k = rw (e, le-leb (wait_count (blocks_at p h.N b)) h.E l, k) (last (records_fit p h.N h.B b (wait_count (blocks_at p h.N b)) a))
         where
           last : (t : Bool) → (t && true) ≡ t
           last true = refl

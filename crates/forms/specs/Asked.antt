@@ -1,14 +1,14 @@
 -- All that the code asks of a payload, and that a form loads exactly if each answer is yes.
-use Rattle.std.specs.Prelude.{◌≡◌, Bool, List, [], ◌∷◌, eqb, replicate, if◌then◌else◌}
+use Rattle.std.specs.Prelude.{◌≡◌, Option, Some, None, Bool, List, [], ◌∷◌, eqb, replicate, if◌then◌else◌}
 use Rattle.std.proofs.Math.Path.{refl, ap, sym}
 use Rattle.std.proofs.Common.{◌∙◌, subst, true≢false}
-use Rattle.std.proofs.Math.Bool.{true, false, not}
+use Rattle.std.proofs.Math.Bool.{true, false}
 use Rattle.std.proofs.Math.Option.{none, some}
 use Prim.Native.Nat.{ℕ, zero, suc, ◌+◌, ◌-◌, ◌*◌, ◌^◌, ◌≤◌, ◌<◌}
 use native.Mathlib.Omega.{arith}
 use Rattle.std.proofs.Math.Dec.{leb, ltb}
 use Rattle.std.proofs.Math.ListN.{length, get_or, drop, length-replicate, length-drop}
-use borrow.Author.Tests.{eqb-true, eq-eqb, ne_eqb, leb-true, le-leb, ltb-true, lt-ltb}
+use borrow.Author.Tests.{eqb-true, eq-eqb, leb-true, le-leb, ltb-true, lt-ltb}
 use Rattle.lists.specs.All.{All, all_map, all_both, all_yes, yes-all}
 use Rattle.lists.specs.Distinct.{NoDup}
 use Rattle.lists.specs.Lengths.{bit}
@@ -34,7 +34,7 @@ use Rattle.forms.specs.Held.{held-stored}
 use Rattle.forms.specs.Levels.{level_fits}
 use Rattle.forms.specs.Lists.{length-numbers, made_at}
 use Rattle.forms.specs.Once.{fresh_in, mark_all, Once, fresh-once, once-fresh, none_seen}
-use Rattle.forms.specs.Passes.{passed, keys_of, keys-are}
+use Rattle.forms.specs.Passes.{passed, holds_behind, keys_of, keys-are}
 use Rattle.forms.specs.Records.{numbers_by, names-are, ages-are, away, away-at, length-away}
 use Rattle.forms.specs.Sound.{facts-sound}
 use Rattle.forms.specs.Told.{sound-facts}
@@ -61,15 +61,14 @@ module _ (p : List ℕ) where
   abbrev pub behind_blocks : Shape → ℕ → ℕ
   behind_blocks h b = b + size_at (λ _. block_size p 1) (below h.N) b
 
-  abbrev pub behind_levels : Shape → ℕ → ℕ
+  abbrev pub behind_levels : Shape → ℕ → Option ℕ
   behind_levels h b = passed h p (met_in h b) (each (keys_of h.L (counter_in p h.P)) (below h.P)) (behind_blocks h b)
 
   unfoldable pub body_fits : Shape → ℕ → Bool
   body_fits h b = every
       (all_stand h (counter_in p h.P) (replicate 32768 0) (blocks_at p h.N b)
       ∷ leb (wait_count (blocks_at p h.N b)) h.E
-      ∷ not (eqb (behind_levels h b) 0)
-      ∷ records_fit h.N h.B b (wait_count (blocks_at p h.N b)) (behind_levels h b) ∷ [])
+      ∷ holds_behind (behind_levels h b) (records_fit h.N h.B b (wait_count (blocks_at p h.N b))) ∷ [])
 
   pub record Asked (h : Shape) : Type 0 where
     pub number : get_or p 0 0 ≡ 1
@@ -131,10 +130,6 @@ module _ (p : List ℕ) where
   unfolding below
   size-records w = ap (λ k. records_w w + k) (size-by h.B (wait_count (blocks_w w)) 0 (records_w w))
 
-  number-at-one : (form_at p).number ≡ number_at p 1 0
-  unfolding form_at
-  number-at-one = refl
-
   -- ---- Yes to all, from the facts, and back
 
   abbrev n : ℕ
@@ -143,11 +138,11 @@ module _ (p : List ℕ) where
   abbrev seen : List ℕ
   seen = mark_all (replicate 32768 0) (cells_of h (blocks_w 1))
 
-  behind-yes : all (level_fits h seen) (form_w 1).levels ≡ true → behind_levels p h from ≡ records_w 1
+  behind-yes : all (level_fits h seen) (form_w 1).levels ≡ true → behind_levels p h from ≡ Some (records_w 1)
   unfolding passed
   behind-yes e = ap (λ ks. passed h p seen ks (levels_w 1)) (keys-are h.P h.L (counter_in p h.P)) ∙ rw e
 
-  behind-no : all (level_fits h seen) (form_w 1).levels ≡ false → behind_levels p h from ≡ 0
+  behind-no : all (level_fits h seen) (form_w 1).levels ≡ false → behind_levels p h from ≡ None
   unfolding passed
   behind-no e = ap (λ ks. passed h p seen ks (levels_w 1)) (keys-are h.P h.L (counter_in p h.P)) ∙ rw e
 
@@ -199,7 +194,7 @@ module _ (p : List ℕ) where
       queue = yes-all (all_map (λ q v. lt-ltb q h.P v) k.queue);
       body = yes-every _ (
         facts-stand h (counter_in p h.P) (replicate 32768 0) k.placed k.apart (none_seen 32768 (cells_of h (blocks_w 1))),
-        (le-leb n h.E k.waiting, (rw (behind-yes (levels-yes k), ne_eqb (records_w 1) 0 (λ e. omega arith)) refl, (rw (behind-yes (levels-yes k)) records, tt))),
+        (le-leb n h.E k.waiting, (rw (behind-yes (levels-yes k)) records, tt)),
       );
     }
       where
@@ -229,9 +224,8 @@ module _ (p : List ℕ) where
         go : (t : Bool) → all (level_fits h seen) (form_w 1).levels ≡ t → Yes
             (all_stand h (counter_in p h.P) (replicate 32768 0) (blocks_at p h.N from)
             ∷ leb n h.E
-            ∷ not (eqb (behind_levels p h from) 0)
-            ∷ records_fit p h.N h.B from n (behind_levels p h from) ∷ []) → (size_w 1 ≤ length p) × Facts (form_w 1) (drop (size_w 1) p)
-        go false e y = absurd (true≢false (sym y.1.1.0 ∙ ap (λ k. not (eqb k 0)) (behind-no e)))
+            ∷ holds_behind (behind_levels p h from) (records_fit p h.N h.B from n) ∷ []) → (size_w 1 ≤ length p) × Facts (form_w 1) (drop (size_w 1) p)
+        go false e y = absurd (true≢false (sym y.1.1.0 ∙ ap (λ k. holds_behind k (records_fit p h.N h.B from n)) (behind-no e)))
         go true e y = (
           omega (arith, size-records 1, leb-true (records_end p h.B n (records_w 1)) (length p) r.0),
           record {
@@ -268,7 +262,7 @@ module _ (p : List ℕ) where
                 ∷ fresh_in (λ x. ltb x h.N) (away (replicate 4096 0) 0 (blocks_w 1)) (numbers_by p (4 + h.B) n (records_w 1))
                 ∷ fresh_in (λ x. ltb x n) (replicate 4096 0) (numbers_by p (4 + h.B) n (records_w 1 + 2))
                 ∷ all (eqb 0) (drop (records_end p h.B n (records_w 1)) p) ∷ [])
-            r = every-yes _ (subst (λ a. records_fit p h.N h.B from n a ≡ true) (behind-yes e) y.1.1.1.0)
+            r = every-yes _ (subst (λ k. holds_behind k (records_fit p h.N h.B from n) ≡ true) (behind-yes e) y.1.1.0)
 
             long : length (away (replicate 4096 0) 0 (blocks_w 1)) ≡ 4096
             long = length-away (replicate 4096 0) 0 (blocks_w 1) ∙ length-replicate {A = ℕ} 4096 0

@@ -1,7 +1,7 @@
--- The levels of a form in turn: the byte behind them, or 0 if one of them is not right.
+-- The levels of a form in turn: the byte behind them, or none if one of them is not right.
 use Rattle.std.proofs.Math.Path.{◌≡◌, refl, ap}
 use Rattle.std.proofs.Common.{sym, ◌∙◌, pow_mono}
-use Rattle.std.specs.Prelude.{Bool, ◌&&◌, ℕ, suc, ◌+◌, ◌-◌, ◌*◌, ◌^◌, ◌≤◌, ◌<◌, leb, if◌then◌else◌}
+use Rattle.std.specs.Prelude.{Option, Some, None, Bool, ◌&&◌, ℕ, suc, ◌+◌, ◌-◌, ◌*◌, ◌^◌, ◌≤◌, ◌<◌, leb, if◌then◌else◌}
 use Rattle.std.proofs.Math.Bool.{true, false}
 use mathlib.Core.List.{List, [], ◌∷◌, ◌++◌, map}
 use native.Mathlib.Omega.{arith}
@@ -23,8 +23,8 @@ module _ (h : Shape) (p seen : List ℕ) where
   abbrev all_fit : List (ℕ × ℕ) → ℕ → Bool
   all_fit ks a = all (level_fits h seen) (each_at (level_at p 1) (level_size 1) ks a)
 
-  unfoldable pub passed : List (ℕ × ℕ) → ℕ → ℕ
-  passed ks a = if all_fit ks a then a + size_at (level_size 1) ks a else 0
+  unfoldable pub passed : List (ℕ × ℕ) → ℕ → Option ℕ
+  passed ks a = if all_fit ks a then Some (a + size_at (level_size 1) ks a) else None
 
   fit_append : (ks js : List (ℕ × ℕ)) (a : ℕ) → all_fit (ks ++ js) a ≡ (all_fit ks a && all_fit js (a + size_at (level_size 1) ks a))
   unfolding all
@@ -41,42 +41,47 @@ module _ (h : Shape) (p seen : List ℕ) where
       both [] = refl
       both (l ∷ ls) = ap (λ t. level_fits h seen l && t) (both ls) ∙ assoc (level_fits h seen l) (all (level_fits h seen) ls) (all (level_fits h seen) rest)
 
-  pub pass-stop : (ks js : List (ℕ × ℕ)) (a : ℕ) → 0 < a → passed ks a ≡ 0 → passed (ks ++ js) a ≡ 0
+  pub pass-stop : (ks js : List (ℕ × ℕ)) (a : ℕ) → passed ks a ≡ None → passed (ks ++ js) a ≡ None
   unfolding passed
-  pass-stop ks js a l e = go (all_fit ks a) refl e
+  pass-stop ks js a e = go (all_fit ks a) refl e
     where
-      go : (t : Bool) → all_fit ks a ≡ t → ◌≡◌ {A = ℕ} (if t then a + size_at (level_size 1) ks a else 0) 0 → ◌≡◌ {A = ℕ} (if all_fit (ks ++ js) a then a + size_at (level_size 1) (ks ++ js) a else 0) 0
-      go true k z = absurd (omega arith)
+      go : (t : Bool) → all_fit ks a ≡ t → ◌≡◌ {A = Option ℕ} (if t then Some (a + size_at (level_size 1) ks a) else None) None
+          → ◌≡◌ {A = Option ℕ} (if all_fit (ks ++ js) a then Some (a + size_at (level_size 1) (ks ++ js) a) else None) None
+      go true k z = absurd (cc)
       go false k z = rw (fit_append ks js a, k)
 
-  pub pass-more : (ks js : List (ℕ × ℕ)) (a : ℕ) → ¬ (passed ks a ≡ 0) → passed (ks ++ js) a ≡ passed js (passed ks a)
+  pub pass-more : (ks js : List (ℕ × ℕ)) (a b : ℕ) → passed ks a ≡ Some b → passed (ks ++ js) a ≡ passed js b
   unfolding passed
-  pass-more ks js a n = go (all_fit ks a) refl n
+  pass-more ks js a b e = go (all_fit ks a) refl e
     where
-      go : (t : Bool) → all_fit ks a ≡ t → ¬ (◌≡◌ {A = ℕ} (if t then a + size_at (level_size 1) ks a else 0) 0)
-          → (if all_fit (ks ++ js) a then a + size_at (level_size 1) (ks ++ js) a else 0) ≡ (if all_fit js (if t then a + size_at (level_size 1) ks a else 0) then (if t then a + size_at (level_size 1) ks a else 0) + size_at (level_size 1) js (if t then a + size_at (level_size 1) ks a else 0) else 0)
-      go true k z =
-          let e : a + (size_at (level_size 1) ks a + size_at (level_size 1) js (a + size_at (level_size 1) ks a)) ≡ a + size_at (level_size 1) ks a + size_at (level_size 1) js (a + size_at (level_size 1) ks a) = omega arith in
-          rw (fit_append ks js a, k, size-append (level_size 1) ks js a) (ap (λ b. if all_fit js (a + size_at (level_size 1) ks a) then b else 0) e)
-      go false k z = absurd (z refl)
+      from : ℕ → Option ℕ
+      from c = if all_fit js c then Some (c + size_at (level_size 1) js c) else None
 
-  pub pass-none : (a : ℕ) → passed [] a ≡ a
+      go : (t : Bool) → all_fit ks a ≡ t → ◌≡◌ {A = Option ℕ} (if t then Some (a + size_at (level_size 1) ks a) else None) (Some b)
+          → (if all_fit (ks ++ js) a then Some (a + size_at (level_size 1) (ks ++ js) a) else None) ≡ from b
+      go true k z =
+          let same : a + size_at (level_size 1) ks a ≡ b = cc in
+          let e : a + (size_at (level_size 1) ks a + size_at (level_size 1) js (a + size_at (level_size 1) ks a)) ≡ a + size_at (level_size 1) ks a + size_at (level_size 1) js (a + size_at (level_size 1) ks a) = omega arith in
+          rw (fit_append ks js a, k, size-append (level_size 1) ks js a) (ap (λ c. if all_fit js (a + size_at (level_size 1) ks a) then Some c else None) e) ∙ ap from same
+      go false k z = absurd (cc)
+
+  pub pass-none : (a : ℕ) → passed [] a ≡ Some a
   unfolding passed each_at size_at all
-  pass-none a = omega arith
+  pass-none a = let e : a + 0 ≡ a = omega arith in ap Some e
 
   -- one level
-  pass-one : (q ℓ a : ℕ) → passed ((q, ℓ) ∷ []) a ≡ (if level_fits h seen (level_at p 1 (q, ℓ) a) then a + slots ℓ + slots ℓ else 0)
+  pass-one : (q ℓ a : ℕ) → passed ((q, ℓ) ∷ []) a ≡ (if level_fits h seen (level_at p 1 (q, ℓ) a) then Some (a + slots ℓ + slots ℓ) else None)
   unfolding passed each_at size_at all level_size
   pass-one q ℓ a = go (level_fits h seen (level_at p 1 (q, ℓ) a))
     where
-      go : (t : Bool) → (if t && true then a + (slots ℓ * 1 + slots ℓ + 0) else 0) ≡ (if t then a + slots ℓ + slots ℓ else 0)
-      go true = omega arith
+      go : (t : Bool) → (if t && true then Some (a + (slots ℓ * 1 + slots ℓ + 0)) else None) ≡ (if t then Some (a + slots ℓ + slots ℓ) else None)
+      go true = let e : a + (slots ℓ * 1 + slots ℓ + 0) ≡ a + slots ℓ + slots ℓ = omega arith in ap Some e
       go false = refl
 
-  pub pass-yes : (q ℓ a : ℕ) → level_fits h seen (level_at p 1 (q, ℓ) a) ≡ true → passed ((q, ℓ) ∷ []) a ≡ a + slots ℓ + slots ℓ
+  pub pass-yes : (q ℓ a : ℕ) → level_fits h seen (level_at p 1 (q, ℓ) a) ≡ true → passed ((q, ℓ) ∷ []) a ≡ Some (a + slots ℓ + slots ℓ)
   pass-yes q ℓ a e = pass-one q ℓ a ∙ rw e
 
-  pub pass-no : (q ℓ a : ℕ) → level_fits h seen (level_at p 1 (q, ℓ) a) ≡ false → passed ((q, ℓ) ∷ []) a ≡ 0
+  pub pass-no : (q ℓ a : ℕ) → level_fits h seen (level_at p 1 (q, ℓ) a) ≡ false → passed ((q, ℓ) ∷ []) a ≡ None
   pass-no q ℓ a e = pass-one q ℓ a ∙ rw e
 
   pub level-fits : (q ℓ a : ℕ) → level_fits h seen (level_at p 1 (q, ℓ) a)
@@ -91,6 +96,11 @@ module _ (h : Shape) (p seen : List ℕ) where
       go true true false = refl
       go true false z = refl
       go false y z = refl
+
+-- a test of the byte behind them, which is no if there is none
+abbrev pub holds_behind : Option ℕ → (ℕ → Bool) → Bool
+holds_behind None t = false
+holds_behind (Some a) t = t a
 
 -- ---- Keys in turn
 

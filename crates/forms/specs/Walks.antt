@@ -1,5 +1,6 @@
 -- A form's blocks as a loop goes through them: one more, and none.
-use Rattle.std.specs.Prelude.{◌≡◌, Bool, true, false, ℕ, ◌+◌, ◌-◌, ◌≤◌, ◌<◌, eqb, length, get_or, set}
+use Rattle.std.specs.Int.{from_bool}
+use Rattle.std.specs.Prelude.{◌≡◌, Bool, true, false, not, ℕ, ◌+◌, ◌-◌, ◌≤◌, ◌<◌, eqb, length, get_or, set}
 use Rattle.std.proofs.Math.Path.{refl, ap, sym}
 use Rattle.std.proofs.Common.{◌∙◌, arith}
 use mathlib.Core.List.{List, [], ◌∷◌, ◌++◌}
@@ -55,9 +56,25 @@ pub wait-none : (p : List ℕ) (n b a : ℕ) → n ≤ b → wait_count (blocks_
 unfolding wait_count keep
 wait-none p n b a l = ap (λ xs. length (keep is_waiting xs)) (blocks-none p n b a l)
 
-pub waits-is : (p : List ℕ) (a : ℕ) → bit (is_waiting (block_at p 1 a)) ≡ bit (eqb (get_or p (a + 2) 0) 254)
+pub waits-is : (p : List ℕ) (a : ℕ) → is_waiting (block_at p 1 a) ≡ eqb (get_or p (a + 2) 0) 254
 unfolding block_at is_waiting
-waits-is p a = ap bit (waits-at p 1 (a + 2))
+waits-is p a = waits-at p 1 (a + 2)
+
+-- a test as a number
+pub bit_from : (t : Bool) → from_bool t ≡ bit t
+unfolding bit
+bit_from true = refl
+bit_from false = refl
+
+pub bit_not : (t : Bool) → from_bool (not t) ≡ 1 - bit t
+unfolding bit
+bit_not true = refl
+bit_not false = refl
+
+pub bit_low : (t : Bool) → bit t ≤ 1
+unfolding bit
+bit_low true = omega arith
+bit_low false = omega arith
 
 -- ---- Standing apart
 

@@ -4,23 +4,32 @@ ghost use Rattle.rules.specs.Form.Sums.{out_of_blocks};
 ghost use Rattle.forms.specs.At.{number_at};
 ghost use Rattle.forms.specs.Bytes.{Whole};
 
-// Byte k of the payload.
-pub fn byte(form: &[u8], k: usize) -> usize
-    requires { Whole form.now × (k < 4294967296) }
-    ensures { (result ≡ get_or (out_of_blocks form.now) k 0) × (result < 256) }
-{
-    let at = k + k / 508 * 4;
-    if at < form.len() {
-        memory::wide(form[at])
-    } else {
-        0
-    }
+// The blocks of a form: all are whole.
+#[derive(Clone, Copy)]
+pub struct Form<'a> {
+    pub bytes: &'a [u8],
+    ghost whole: { Whole bytes.now },
 }
 
-// The number of two bytes from byte k on.
-pub fn number(form: &[u8], k: usize) -> usize
-    requires { Whole form.now × (k < 4294967295) }
-    ensures { (result ≡ number_at (out_of_blocks form.now) 2 k) × (result < 65536) }
-{
-    byte(form, k) + byte(form, k + 1) * 256
+impl Form<'_> {
+    // Byte k of the payload.
+    pub fn byte(self, k: usize) -> usize
+        requires { k < 4294967296 }
+        ensures { (result ≡ get_or (out_of_blocks self.entry.bytes.now) k 0) × (result < 256) }
+    {
+        let at = k + k / 508 * 4;
+        if at < self.bytes.len() {
+            usize::from(self.bytes[at])
+        } else {
+            0
+        }
+    }
+
+    // The number of two bytes from byte k on.
+    pub fn number(self, k: usize) -> usize
+        requires { k < 4294967295 }
+        ensures { (result ≡ number_at (out_of_blocks self.entry.bytes.now) 2 k) × (result < 65536) }
+    {
+        self.byte(k) + self.byte(k + 1) * 256
+    }
 }

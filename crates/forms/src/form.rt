@@ -7,17 +7,19 @@ ghost use Rattle.forms.specs.Asked.{records_fit, body_fits};
 ghost use Rattle.forms.specs.Bytes.{Whole};
 ghost use Rattle.forms.specs.Bounds.{Bounds};
 
-use crate::{blocks, bytes, header, records, slots};
+use crate::blocks::{self, CELLS};
+use crate::bytes::Form;
+use crate::{header, records, slots};
 use memory::Shape;
 
 // The n records at byte `at`, of the blocks at byte `from`, and zeros to the end, which is less than a block away.
-fn has_records(form: &[u8], h: Shape, from: usize, n: usize, at: usize) -> bool
-    requires { Whole form.now × Bounds h × (from < 65536) × (n ≤ 4096) × (at < 800000) }
-    ensures { result ≡ records_fit (out_of_blocks form.now) h.n h.b from n at }
+fn has_records(form: Form<'_>, h: Shape, from: usize, n: usize, at: usize) -> bool
+    requires { Bounds h × (from < 65536) × (n ≤ 4096) × (at < 800000) }
+    ensures { result ≡ records_fit (out_of_blocks form.entry.bytes.now) h.n h.b from n at }
 {
     let step = 4 + h.b;
     let end = at + n * step;
-    let len = form.len() / 512 * 508;
+    let len = form.bytes.len() / 512 * 508;
     if len < end {
         return false;
     }
@@ -30,11 +32,11 @@ fn has_records(form: &[u8], h: Shape, from: usize, n: usize, at: usize) -> bool
 }
 
 // The blocks at byte `from`, the levels behind them, and the records.
-fn has_body(form: &[u8], h: Shape, from: usize) -> bool
-    requires { Whole form.now × Bounds h × (0 < from) × (from < 4096) }
-    ensures { result ≡ body_fits (out_of_blocks form.now) (shape_of h) from }
+fn has_body(form: Form<'_>, h: Shape, from: usize) -> bool
+    requires { Bounds h × (from < 4096) }
+    ensures { result ≡ body_fits (out_of_blocks form.entry.bytes.now) (shape_of h) from }
 {
-    let mut seen = [0u8; 32768];
+    let mut seen = [0u8; CELLS];
     if !blocks::are_placed(form, h, from, &mut seen) {
         return false;
     }
@@ -42,10 +44,9 @@ fn has_body(form: &[u8], h: Shape, from: usize) -> bool
     if h.e < n {
         return false;
     }
-    let at = slots::behind(form, h, blocks::behind(form, h.n, from), &seen);
-    if at == 0 {
+    let Some(at) = slots::behind(form, h, blocks::behind(form, h.n, from), &seen) else {
         return false;
-    }
+    };
     has_records(form, h, from, n, at)
 }
 
@@ -54,23 +55,24 @@ pub fn is_form(form: &[u8]) -> bool
     requires { Whole form.now }
     ensures { result ≡ loads form.now }
 {
-    if bytes::byte(form, 0) != 1 {
+    let payload = Form { bytes: form };
+    if payload.byte(0) != 1 {
         return false;
     }
     let h = header::shape(form);
     if !contract::is_within(h) {
         return false;
     }
-    if !header::are_below(form, 13, h.p, bits::pow2(h.l)) {
+    if !header::are_below(payload, 13, h.p, bits::pow2(h.l)) {
         return false;
     }
     let queue = 13 + h.p * 2;
-    let jobs = bytes::number(form, queue);
+    let jobs = payload.number(queue);
     if 64 < jobs {
         return false;
     }
-    if !header::are_below(form, queue + 2, jobs, h.p) {
+    if !header::are_below(payload, queue + 2, jobs, h.p) {
         return false;
     }
-    has_body(form, h, queue + 2 + jobs * 2)
+    has_body(payload, h, queue + 2 + jobs * 2)
 }

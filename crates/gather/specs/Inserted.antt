@@ -1,14 +1,13 @@
 -- Insertion into an ascending list, by places.
-use Rattle.std.specs.Prelude.{◌≡◌, true, false, ◌&&◌, List, [], ◌∷◌, ℕ, zero, suc, ◌+◌, ◌-◌, ◌≤◌, ◌<◌, length, take, get_or, set, eqb, ltb}
+use Rattle.std.specs.Prelude.{◌≡◌, List, [], ◌∷◌, ℕ, zero, suc, ◌+◌, ◌-◌, ◌≤◌, ◌<◌, length, take, get_or, set}
 use Rattle.std.proofs.Math.Path.{refl}
-use Rattle.std.proofs.Common.{ap, sym, ◌∙◌, true≢false, arith, length-set, length-take-le, get_or-take, get_or-set_same, get_or-set_other, ext_get_or}
+use Rattle.std.proofs.Common.{ap, sym, ◌∙◌, arith, length-set, length-take-le, get_or-take, get_or-set_same, get_or-set_other, ext_get_or}
 use Rattle.std.proofs.Math.Decide.{ℕ_discrete, dec_lt}
-use borrow.Author.Tests.{ltb-true, eqb-true, lt-ltb, le-ltb, eq-eqb, ne_eqb}
-use Rattle.lists.specs.Tests.{and_l, and_r, and-true}
+use borrow.Author.Tests.{lt-ltb, le-ltb, eq-eqb, ne_eqb}
 use Rattle.lists.specs.Distinct.{mem-at}
 use Rattle.lists.specs.Members.{all-mem}
 use Rattle.lists.specs.Places.{insert_at, get-insert, length-insert}
-use Rattle.gather.specs.Gathered.{Ascending, inserted, Spot, Shifted}
+use Rattle.gather.specs.Gathered.{Ascending, inserted}
 
 -- how insertion computes
 module _ (x y : ℕ) (ys : List ℕ) where
@@ -23,6 +22,11 @@ module _ (x y : ℕ) (ys : List ℕ) where
   pub inserted-behind : y < x → inserted x (y ∷ ys) ≡ y ∷ inserted x ys
   unfolding inserted
   inserted-behind h = rw (le-ltb x y (omega arith), ne_eqb x y (λ e. omega arith), inserted)
+
+-- x belongs at place i of l: those before it are less, and those from there on are not
+record Spot (x : ℕ) (l : List ℕ) (i : ℕ) : Type 0 where
+  less : (j : ℕ) → j < i → get_or l j 0 < x
+  others : (j : ℕ) → i ≤ j → j < length l → x ≤ get_or l j 0
 
 rest : (x y : ℕ) (ys : List ℕ) (i : ℕ) → Spot x (y ∷ ys) (suc i) → Spot x ys i
 rest x y ys i s = record { less = λ j l. s.less (suc j) (omega arith); others = λ j l k. s.others (suc j) (omega arith) (omega arith) }
@@ -64,39 +68,30 @@ insert-more (suc i) x [] j h k = absurd (omega arith)
 insert-more (suc i) x (y ∷ ys) zero h k = absurd (omega arith)
 insert-more (suc i) x (y ∷ ys) (suc j) h k = insert-more i x ys j (omega arith) (omega arith)
 
--- The first k entries of a list
-module _ (l : List ℕ) (k x i : ℕ) (long : k < length l) (h : i ≤ k) where
+pub ascending-le : (l : List ℕ) → Ascending l → (i j : ℕ) → i ≤ j → j < length l → get_or l i 0 ≤ get_or l j 0
+ascending-le l a i j h k = go (ℕ_discrete i j)
+  where
+    go : Dec (i ≡ j) → get_or l i 0 ≤ get_or l j 0
+    go (yes e) = rw e (omega arith)
+    go (no n) = omega (arith, ascending-at l i j a (omega arith) k)
+
+-- The first k entries of a list, which ascend
+module _ (l : List ℕ) (k x i : ℕ) (long : k < length l) (a : Ascending (take k l)) where
   short : length (take k l) ≡ k
   short = length-take-le k l (omega arith)
 
-  -- x belongs at place i if it is greater than the one before it, and not than the others
-  pub spot-at : Ascending (take k l) → (0 < i → get_or l (i - 1) 0 < x) → ((j : ℕ) → i ≤ j → j < k → x ≤ get_or l j 0) → Spot x (take k l) i
-  spot-at a b o = record {
-    less = λ j u. go j u (ℕ_discrete j (i - 1));
-    others = λ j u w. rw (get_or-take k l j 0 (omega (arith, short))) (o j u (omega (arith, short)));
-  }
-    where
-      last : 0 < i → get_or (take k l) (i - 1) 0 ≡ get_or l (i - 1) 0
-      last u = get_or-take k l (i - 1) 0 (omega arith)
-
-      go : (j : ℕ) → j < i → Dec (j ≡ i - 1) → get_or (take k l) j 0 < x
-      go j u (yes e) = rw e (omega (arith, last (omega arith), b (omega arith)))
-      go j u (no n) = omega (arith, ascending-at (take k l) j (i - 1) a (omega arith) (omega (arith, short)), last (omega arith), b (omega arith))
-
-  pub there : Spot x (take k l) i → (ltb i k && eqb (get_or l i 0) x) ≡ true → take k l ≡ inserted x (take k l)
-  there s t =
-      let u = ltb-true i k (and_l (ltb i k) (eqb (get_or l i 0) x) t) in
-      let e = eqb-true (get_or l i 0) x (and_r (ltb i k) (eqb (get_or l i 0) x) t) in
-      sym (inserted-there x (take k l) i s (omega (arith, short)) (get_or-take k l i 0 u ∙ e))
+  -- x is there
+  pub there : i < length (take k l) → get_or (take k l) i 0 ≡ x → take k l ≡ inserted x (take k l)
+  there h e = sym (inserted-there x (take k l) i (record { less = λ j u. omega (arith, ascending-at (take k l) j i a u h); others = λ j u v. omega (arith, ascending-le (take k l) a i j u v) }) h e)
 
   -- x is stored where it belongs, once the others are moved up
-  pub stored : (l' : List ℕ) → length l' ≡ length l → Shifted l l' i k → Spot x (take k l) i → (ltb i k && eqb (get_or l i 0) x) ≡ false → take (k + 1) (set l' i x) ≡ inserted x (take k l)
-  stored l' e f s t = ext_get_or 0 _ _ same (λ j u. at j (omega (arith, size))) ∙ sym (inserted_new x (take k l) i s (omega (arith, short)) new)
+  pub stored : (l' : List ℕ) → length l' ≡ length l → ((j d : ℕ) → j < i + 1 → get_or l' j d ≡ get_or l j d) → ((j d : ℕ) → i + 1 ≤ j → j < i + 1 + (k - i) → get_or l' j d ≡ get_or l (i + (j - (i + 1))) d)
+      → i ≤ length (take k l) → ((j : ℕ) → j < i → get_or (take k l) j 0 < x) → ((j : ℕ) → i ≤ j → j < length (take k l) → x < get_or (take k l) j 0) → take (k + 1) (set l' i x) ≡ inserted x (take k l)
+  stored l' n kept moved h less more =
+      ext_get_or 0 _ _ same (λ j u. at j (omega (arith, size))) ∙ sym (inserted_new x (take k l) i (record { less = less; others = λ j u v. omega (arith, more j u v) }) h new)
     where
       new : i < length (take k l) → get_or (take k l) i 0 ≡ x → ⊥
-      new u q =
-          let v : i < k = omega (arith, short) in
-          true≢false (sym (and-true (lt-ltb i k v) (eq-eqb (get_or l i 0) x (sym (get_or-take k l i 0 v) ∙ q))) ∙ t)
+      new u q = omega (arith, more i (omega arith) u)
 
       size : length (take (k + 1) (set l' i x)) ≡ k + 1
       size = length-take-le (k + 1) (set l' i x) (omega (arith, length-set l' i x))
@@ -106,11 +101,11 @@ module _ (l : List ℕ) (k x i : ℕ) (long : k < length l) (h : i ≤ k) where
 
       go : (j : ℕ) → j < k + 1 → Dec (j ≡ i) → Dec (j < i) → get_or (set l' i x) j 0 ≡ get_or (insert_at i x (take k l)) j 0
       go j u (yes q) d = rw q (get_or-set_same l' i x 0 (omega arith) ∙ sym (get-insert i x (take k l) (omega (arith, short))))
-      go j u (no q) (yes d) = get_or-set_other l' i j x 0 q ∙ f.kept j d ∙ sym (insert-less i x (take k l) j d (omega (arith, short)) ∙ get_or-take k l j 0 (omega arith))
+      go j u (no q) (yes d) = get_or-set_other l' i j x 0 q ∙ kept j 0 (omega arith) ∙ sym (insert-less i x (take k l) j d h ∙ get_or-take k l j 0 (omega (arith, short)))
       go zero u (no q) (no d) = absurd (omega arith)
-      go (suc j) u (no q) (no d) = get_or-set_other l' i (suc j) x 0 q ∙ f.moved (suc j) (omega arith) (omega arith) ∙ ap (λ n. get_or l n 0) back ∙ sym (insert-more i x (take k l) j (omega arith) (omega (arith, short)) ∙ get_or-take k l j 0 (omega arith))
+      go (suc j) u (no q) (no d) = get_or-set_other l' i (suc j) x 0 q ∙ moved (suc j) 0 (omega arith) (omega (arith, short)) ∙ ap (λ n. get_or l n 0) back ∙ sym (insert-more i x (take k l) j (omega arith) (omega (arith, short)) ∙ get_or-take k l j 0 (omega arith))
         where
-          back : suc j - 1 ≡ j
+          back : i + (suc j - (i + 1)) ≡ j
           back = omega arith
 
       at : (j : ℕ) → j < k + 1 → get_or (take (k + 1) (set l' i x)) j 0 ≡ get_or (insert_at i x (take k l)) j 0

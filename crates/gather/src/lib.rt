@@ -1,4 +1,4 @@
-// The blocks that a rebuild gathers, ascending.
+// The blocks that a rebuild gathers, ascending: the first k entries of a list of fixed length, which stays a list and k, since memory is lent and no heap is used.
 #![tactic(auto)]
 
 ghost use Rattle.std.specs.Prelude.{◌≡◌, true, [], ◌+◌, ◌<◌, ◌≤◌, length, take};
@@ -7,55 +7,30 @@ ghost use Rattle.rules.specs.Levels.{filled};
 ghost use Rattle.rules.specs.Jobs.{top_of};
 ghost use Rattle.rules.specs.Rebuild.{chosen, gather_from, gathered};
 ghost use Rattle.client.specs.View.{state_of};
-ghost use Rattle.client.specs.Moves.{Room};
+ghost use Rattle.client.specs.Moves.{Room, CacheRoom};
 ghost use Rattle.cache.specs.Longest.{waits_for, Longest};
-ghost use Rattle.gather.specs.Gathered.{Ascending, inserted, added, Spot, Shifted, gathered_to, Gathers};
-ghost use Rattle.gather.specs.Cached.{EntryFor};
+ghost use Rattle.gather.specs.Gathered.{Ascending, inserted, added, gathered_to, Gathers};
+ghost use Rattle.gather.specs.Cached.{BlockFor};
 
 use client::Client;
-
-// Where x belongs among the first k entries of the list, which ascend: how many of them are less.
-fn place(list: &[usize], k: usize, x: usize) -> usize
-    requires { (k < length list.now) × Ascending (take k list.now) }
-    ensures { Spot x (take k list.now) result × (result ≤ k) }
-{
-    let mut i = k;
-    while 0 < i {
-        if list[i - 1] < x {
-            return i;
-        }
-        i -= 1;
-    }
-    0
-}
-
-// Moves entries i to k - 1 up by one.
-fn shift(list: &mut [usize], i: usize, k: usize)
-    requires { (i ≤ k) × (k < length list.old) }
-    ensures { Shifted list.old list.new i k }
-{
-    let mut j = k;
-    while i < j {
-        list[j] = list[j - 1];
-        j -= 1;
-    }
-}
+use memory::tables::{self, Table};
 
 // Puts x into the first k entries of the list, which ascend, unless it is there: how many they are then.
 pub fn insert(list: &mut [usize], k: usize, x: usize) -> usize
     requires { (k < length list.old) × Ascending (take k list.old) }
     ensures { (take result list.new ≡ inserted x (take k list.old)) × (result ≤ k + 1) × (k ≤ result) }
 {
-    let i = place(list, k, x);
-    if (i < k) & (list[i] == x) {
-        return k;
+    match list[..k].binary_search(&x) {
+        Ok(_) => k,
+        Err(i) => {
+            list.copy_within(i..k, i + 1);
+            list[i] = x;
+            k + 1
+        }
     }
-    shift(list, i, k);
-    list[i] = x;
-    k + 1
 }
 
-// Puts in the block that an entry of a slot names: none for 0, b for b + 1.
+// Puts in the block that an entry of the table of slots names: none for 0, b for b + 1, as it lies in memory (`tables_of`).
 fn add(list: &mut [usize], k: usize, entry: usize) -> usize
     requires { (k < length list.old) × Ascending (take k list.old) }
     ensures { (take result list.new ≡ added entry (take k list.old)) × (result ≤ k + 1) }
@@ -66,42 +41,44 @@ fn add(list: &mut [usize], k: usize, entry: usize) -> usize
     insert(list, k, entry - 1)
 }
 
-// The block at place i of the cache as such an entry, if it waits for partition q; else 0.
-fn entry_for(c: Client, m: &[u8], q: usize, i: usize) -> usize
-    requires { Room c m.now × (c.waiting ≤ c.shape.n) × (i < c.waiting) }
-    ensures { EntryFor (state_of c m.now) q i result }
+// The block at place i of the cache, if it waits for partition q.
+fn block_for(c: Client, m: &[u8], q: usize, i: usize) -> Option<usize>
+    requires { CacheRoom c m.now × (i < c.waiting) }
+    ensures { BlockFor (state_of c m.now) q i result }
 {
-    let b = memory::tables::waiting(c.shape, m, i);
-    if memory::tables::partition(c.shape, m, b) != q {
-        return 0;
+    let b = tables::get(c.shape, m, Table::Waiting, i);
+    if tables::get(c.shape, m, Table::Partition, b) != q {
+        return None;
     }
-    b + 1
+    Some(b)
 }
 
-// Gathers the k blocks that have waited longest for partition q, or all that wait for it; the first of them is at place `first` of the cache.
+// Gathers the k blocks that have waited longest for partition q, or all that wait for it; the first of them is at place `first`, if there
+// is one.
 pub fn gather_waiting(
     c: Client,
     m: &[u8],
     q: usize,
-    first: usize,
+    first: Option<usize>,
     k: usize,
     list: &mut [usize],
 ) -> usize
-    requires { Room c m.now × (c.waiting ≤ c.shape.n) × (k < length list.old) × Longest (state_of c m.now) q first }
+    requires { CacheRoom c m.now × (k < length list.old) × Longest (state_of c m.now) q first }
     ensures { (take result list.new ≡ gather_from (take k (keep (waits_for (state_of c m.now) q) (state_of c m.now).waiting)) [] c.shape.n) × (result ≤ k) }
 {
-    let n = c.waiting;
+    let Some(first) = first else {
+        return 0;
+    };
     let mut r = 0;
     let mut taken = 0;
-    let mut i = first;
-    while i < n {
+    for i in first..c.waiting {
         if k <= taken {
             return r;
         }
-        let x = entry_for(c, m, q, i);
-        r = add(list, r, x);
-        taken += (x != 0) as usize;
-        i += 1;
+        if let Some(b) = block_for(c, m, q, i) {
+            r = insert(list, r, b);
+            taken += 1;
+        }
     }
     r
 }
@@ -122,14 +99,12 @@ fn gather_level(
     let n = bits::pow2(l + 1);
     let base = levels::cell(c.shape, q, l, 0);
     let mut r = k;
-    let mut j = 0;
-    while j < n {
-        let x = memory::tables::holds(c.shape, m, base + j);
+    for j in 0..n {
+        let x = tables::get(c.shape, m, Table::Holds, base + j);
         r = add(list, r, x);
         if limit < r {
             return r;
         }
-        j += 1;
     }
     r
 }
@@ -170,13 +145,11 @@ pub fn gather(
     ensures { Gathers (gathered (state_of c m.now) q) limit result list.new }
 {
     let mut k = taken;
-    let mut l = 0;
-    while l <= top {
+    for l in 0..=top {
         k = gather_source(c, m, q, counter, l, limit, list, k);
         if limit < k {
             return k;
         }
-        l += 1;
     }
     k
 }

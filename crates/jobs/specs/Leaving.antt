@@ -26,13 +26,6 @@ pub record Stays (h : Shape) (m m' : List ℕ) (k i q j r : ℕ) : Type 0 where
   pub count : r ≡ (if leaves h m k i q j then k else k + 1)
   pub tables : tables_of (shape_of h) m' ≡ (if leaves h m k i q j then tables_of (shape_of h) m else with_queue (put k (jobs_in h m i) (tables_of (shape_of h) m).queue) (tables_of (shape_of h) m))
 
-module _ (h : Shape) (m : List ℕ) (k i q j p : ℕ) (e : p ≡ jobs_in h m i) where
-  pub stays-not : (eqb p q && ltb (i - k) j) ≡ true → Stays h m m k i q j k
-  stays-not t = let u : leaves h m k i q j ≡ true = rw e at t in record { count = rw u; tables = rw u }
-
-  pub stays : (m' : List ℕ) → (eqb p q && ltb (i - k) j) ≡ false → tables_of (shape_of h) m' ≡ with_queue (put k p (tables_of (shape_of h) m).queue) (tables_of (shape_of h) m) → Stays h m m' k i q j (k + 1)
-  stays m' t s = let u : leaves h m k i q j ≡ false = rw e at t in record { count = rw u; tables = rw u (rw e at s) }
-
 -- ---- After i of n jobs, k of which stay
 pub record Leaving (h : Shape) (n q j : ℕ) (m₀ m : List ℕ) (k i : ℕ) : Type 0 where
   pub jobs : ℕ → ℕ

@@ -1,6 +1,5 @@
 -- Lines of document 01's worked session, and malformed lines, as the checker computes them.
-use Rattle.std.specs.Prelude.{◌≡◌, refl, List, [], ◌∷◌, map, ℕ}
-use Rattle.std.proofs.Math.Option.{none, some}
+use Rattle.std.specs.Prelude.{◌≡◌, refl, List, [], ◌∷◌, map, ℕ, None, Some}
 use Rattle.lists.specs.Tests.{between}
 use Rattle.lines.specs.Lines.{opens, reads, writes, turns, collects, malformed, front, fields, letter, others, at_most, digit, digits, begins, number, also, numbers, up_to, hex_digit, pair, pairs, contents, opened, read, stored, written, bare, by_letter, line_of, tape_of}
 
@@ -19,7 +18,7 @@ tapes =
     ∷ []
     ∷ [])
 
-pub tapes-told : map tape_of tapes ≡ (some (0 ∷ 0 ∷ 0 ∷ 1 ∷ 0 ∷ 0 ∷ 0 ∷ []) ∷ some [] ∷ none ∷ none ∷ none ∷ [])
+pub tapes-told : map tape_of tapes ≡ (Some (0 ∷ 0 ∷ 0 ∷ 1 ∷ 0 ∷ 0 ∷ 0 ∷ []) ∷ Some [] ∷ None ∷ None ∷ None ∷ [])
 unfolding lines tapes
 tapes-told = refl
 

@@ -1,6 +1,5 @@
 -- Document 01, "A session, whole": what a line says. A line is a list of bytes, without the newline that ends it.
-use Rattle.std.specs.Prelude.{Bool, true, false, not, List, [], ◌∷◌, ℕ, ◌+◌, ◌-◌, ◌*◌, length, get_or, eqb, leb, if◌then◌else◌}
-use Rattle.std.proofs.Math.Option.{Option, none, some}
+use Rattle.std.specs.Prelude.{Bool, true, false, not, List, [], ◌∷◌, ℕ, ◌+◌, ◌-◌, ◌*◌, length, get_or, eqb, leb, if◌then◌else◌, Option, None, Some}
 use Rattle.lists.specs.Tests.{between}
 use Rattle.rules.specs.Shape.{Shape}
 
@@ -41,17 +40,17 @@ others (f ∷ fs) = fs
 
 -- v, if there is one and it is at most m
 unfoldable pub at_most : ℕ → Option ℕ → Option ℕ
-at_most m none = none
-at_most m (some v) = if leb v m then some v else none
+at_most m None = None
+at_most m (Some v) = if leb v m then Some v else None
 
 -- the digits 0 to 9 are bytes 48 to 57
 unfoldable pub digit : ℕ → Option ℕ
-digit x = if between 48 57 x then some (x - 48) else none
+digit x = if between 48 57 x then Some (x - 48) else None
 
 -- the number that digits say, behind digits that said v
 unfoldable pub digits : ℕ → List ℕ → Option ℕ
-digits v [] = some v
-digits v (x ∷ xs) = elim (digit x) [ none ↦ none | some d ↦ digits (v * 10 + d) xs ]
+digits v [] = Some v
+digits v (x ∷ xs) = elim (digit x) [ None ↦ None | Some d ↦ digits (v * 10 + d) xs ]
 
 -- there is a digit, and a zero stands first only where it stands alone
 unfoldable pub begins : List ℕ → Bool
@@ -60,39 +59,39 @@ begins (x ∷ []) = true
 begins (x ∷ y ∷ ys) = not (eqb x 48)
 
 unfoldable pub number : List ℕ → Option ℕ
-number s = if begins s then at_most 65535 (digits 0 s) else none
+number s = if begins s then at_most 65535 (digits 0 s) else None
 
 -- v in front of a list, if there are both
 unfoldable pub also : Option ℕ → Option (List ℕ) → Option (List ℕ)
-also none o = none
-also (some v) none = none
-also (some v) (some vs) = some (v ∷ vs)
+also None o = None
+also (Some v) None = None
+also (Some v) (Some vs) = Some (v ∷ vs)
 
 -- the numbers that fields say
 unfoldable pub numbers : List (List ℕ) → Option (List ℕ)
-numbers [] = some []
+numbers [] = Some []
 numbers (f ∷ fs) = also (number f) (numbers fs)
 
 -- a list, if there is one and it has at most n elements
 unfoldable pub up_to : ℕ → Option (List ℕ) → Option (List ℕ)
-up_to n none = none
-up_to n (some vs) = if leb (length vs) n then some vs else none
+up_to n None = None
+up_to n (Some vs) = if leb (length vs) n then Some vs else None
 
 -- ---- "contents are 1 to 1,024 pairs of lower-case hexadecimal digits"
 
 -- the letters a to f are bytes 97 to 102, and say 10 to 15
 unfoldable pub hex_digit : ℕ → Option ℕ
-hex_digit x = if between 97 102 x then some (x - 87) else digit x
+hex_digit x = if between 97 102 x then Some (x - 87) else digit x
 
 -- the high digit stands first
 unfoldable pub pair : Option ℕ → Option ℕ → Option ℕ
-pair none o = none
-pair (some h) none = none
-pair (some h) (some l) = some (h * 16 + l)
+pair None o = None
+pair (Some h) None = None
+pair (Some h) (Some l) = Some (h * 16 + l)
 
 unfoldable pub pairs : List ℕ → Option (List ℕ)
-pairs [] = some []
-pairs (x ∷ []) = none
+pairs [] = Some []
+pairs (x ∷ []) = None
 pairs (x ∷ y ∷ ys) = also (pair (hex_digit x) (hex_digit y)) (pairs ys)
 
 -- "1 to 1,024 pairs"
@@ -100,26 +99,26 @@ abbrev pub contents_room : ℕ
 contents_room = 1024
 
 unfoldable pub contents : List ℕ → Option (List ℕ)
-contents [] = none
+contents [] = None
 contents (x ∷ xs) = up_to contents_room (pairs (x ∷ xs))
 
 -- ---- "A session line is told by its first letter"
 
 -- O: six numbers
 unfoldable pub opened : Option (List ℕ) → Line
-opened none = malformed
-opened (some ns) = if eqb (length ns) 6 then opens (record { N = get_or ns 0 0; P = get_or ns 1 0; L = get_or ns 2 0; B = get_or ns 3 0; E = get_or ns 4 0; W = get_or ns 5 0 }) else malformed
+opened None = malformed
+opened (Some ns) = if eqb (length ns) 6 then opens (record { N = get_or ns 0 0; P = get_or ns 1 0; L = get_or ns 2 0; B = get_or ns 3 0; E = get_or ns 4 0; W = get_or ns 5 0 }) else malformed
 
 -- R: one number
 unfoldable pub read : Option (List ℕ) → Line
-read none = malformed
-read (some ns) = if eqb (length ns) 1 then reads (get_or ns 0 0) else malformed
+read None = malformed
+read (Some ns) = if eqb (length ns) 1 then reads (get_or ns 0 0) else malformed
 
 -- W: a number and contents
 unfoldable pub stored : Option ℕ → Option (List ℕ) → Line
-stored none o = malformed
-stored (some b) none = malformed
-stored (some b) (some bytes) = writes b bytes
+stored None o = malformed
+stored (Some b) None = malformed
+stored (Some b) (Some bytes) = writes b bytes
 
 unfoldable pub written : List (List ℕ) → Line
 written [] = malformed
@@ -155,4 +154,4 @@ tape_room = 16384
 
 -- the tape that a first line says, if it says one
 unfoldable pub tape_of : List ℕ → Option (List ℕ)
-tape_of l = if eqb (letter (fields l)) 84 then up_to most_words (numbers (others (fields l))) else none
+tape_of l = if eqb (letter (fields l)) 84 then up_to most_words (numbers (others (fields l))) else None

@@ -1,8 +1,6 @@
 -- What the code's answers say.
-use Rattle.std.specs.Prelude.{List, ℕ, ◌/◌, ◌≤◌, ◌<◌, length, take, leb, eqb, if◌then◌else◌}
-use Rattle.std.proofs.Math.Option.{Option, none, some}
+use Rattle.std.specs.Prelude.{List, ℕ, ◌≤◌, ◌<◌, take, Option, None, Some, length, eqb, if◌then◌else◌}
 use Rattle.memory.specs.Fits.{shape_of}
-use Rattle.tape.specs.Tape.{words_of}
 use Rattle.lines.specs.Lines as Lines
 use Rattle.lines.specs.Lines.{opens, reads, writes, turns, collects, malformed}
 use Rattle.lines.specs.declared.Line.{Line}
@@ -26,10 +24,12 @@ Small Turn = Unit {0}
 Small Collect = Unit {0}
 Small Malformed = Unit {0}
 
--- the first k words of a tape; none if it has fewer
-unfoldable pub words : ℕ → List ℕ → Option (List ℕ)
-words k t = if leb k (length t / 2) then some (take k (words_of t)) else none
+-- the first elements of a list, as many as an answer tells, if it tells a number
+abbrev pub firsts : Option ℕ → List ℕ → Option (List ℕ)
+firsts None xs = None
+firsts (Some k) xs = Some (take k xs)
 
--- the first k bytes; none if k is 0
-unfoldable pub bytes : ℕ → List ℕ → Option (List ℕ)
-bytes k t = if eqb k 0 then none else some (take k t)
+-- a list, if there is one and it has just n elements
+unfoldable pub exactly : ℕ → Option (List ℕ) → Option (List ℕ)
+exactly n None = None
+exactly n (Some vs) = if eqb (length vs) n then Some vs else None

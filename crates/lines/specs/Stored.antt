@@ -1,20 +1,18 @@
 -- Numbers and contents that the code stores, one at a time.
-use Rattle.std.specs.Prelude.{◌≡◌, refl, List, [], ◌∷◌, ◌++◌, get_or, take, drop, set}
+use Rattle.std.specs.Prelude.{◌≡◌, refl, List, [], ◌∷◌, ◌++◌, get_or, take, drop, set, Option, None, Some}
 use Rattle.std.proofs.Math.Path.{ap, sym}
-use Rattle.std.proofs.Common.{◌∙◌, add-one, length-set, drop_of_length-le, take-suc, take-suc-set, get_or-take, ext_get_or, length-take-le, le-leb, ne_eqb}
-use Rattle.std.proofs.Math.Option.{Option, none, some}
+use Rattle.std.proofs.Common.{◌∙◌, add-one, length-set, drop_of_length-le, take-suc, take-suc-set, get_or-take, ext_get_or, length-take-le}
 use Prim.Native.Nat.{ℕ, suc, ◌+◌, ◌-◌, ◌*◌, ◌/◌, ◌≤◌, ◌<◌}
 use native.Mathlib.Omega.{arith}
 use Rattle.std.proofs.Math.Decide.{dec_lt}
 use Rattle.std.proofs.Math.ListN.{length}
 use Rattle.std.proofs.Math.Seq.{drop-cons}
-use Rattle.std.proofs.lemmas.Bool.{lt-leb}
 use Rattle.memory.specs.Words.{word_at, set_word, length-set_word, word_same, word-other}
 use Rattle.tape.specs.Tape.{words_of, length-words, word-is}
-use Rattle.lines.specs.Lines.{at_most, number, also, numbers, up_to, hex_digit, pair, pairs, contents, contents_room}
-use Rattle.lines.specs.Said.{words, bytes}
-use Rattle.lines.specs.Fields.{after, Cut, after-blank, after-end}
-use Rattle.lines.specs.Numbers.{behind, behind-none, behind-all, behind_more, behind-not, behind-over, up_in, up-out, up_none, told, untold}
+use Rattle.lines.specs.Said.{exactly}
+use Rattle.lines.specs.Lines.{number, also, numbers, up_to, hex_digit, pair, pairs, contents, contents_room}
+use Rattle.lines.specs.Fields.{after, Cut, after-blank, after-end, some-field}
+use Rattle.lines.specs.Numbers.{behind, behind-none, behind-all, behind_more, behind-not, behind-over, up_in, up-out, up_none, exactly_none, exactly-out, exactly-over}
 
 -- ---- Words
 
@@ -48,59 +46,60 @@ words_more t k v h fits = rw (add-one k, take-suc (words_of t') k 0 (rw (length-
         one : (i : ℕ) → i < k → get_or (take k (words_of t')) i 0 ≡ get_or (take k (words_of t)) i 0
         one i l = first-is k i t' l (omega (arith, here)) ∙ word-other t k v i (λ e. omega arith) ∙ sym (first-is k i t l (omega arith))
 
--- k words are there
-pub words-in : (k : ℕ) (t : List ℕ) → k ≤ length t / 2 → words k t ≡ some (take k (words_of t))
-unfolding words
-words-in k t h = rw (le-leb k (length t / 2) h)
+-- ---- Numbers: the fields behind the letter say vs, up to place i
 
--- fewer are there
-pub words-out : (k : ℕ) (t : List ℕ) → length t / 2 < k → words k t ≡ none
-unfolding words
-words-out k t h = rw (lt-leb k (length t / 2) h)
+-- the field behind place i says v, and ends at place e
+pub record Next (l : List ℕ) (i v e : ℕ) : Type 0 where
+  pub more : i < e
+  pub within : e ≤ length l
+  pub small : v < 65536
+  pub says : numbers (after (drop i l)) ≡ also (Some v) (numbers (after (drop e l)))
 
--- ---- Numbers: of the fields behind place `at`, those up to place i say the first k words
-pub record Stored (l : List ℕ) (at : ℕ) (t₀ t : List ℕ) (i k : ℕ) : Type 0 where
-  pub kept : length t ≡ length t₀
-  pub few : k ≤ length t₀ / 2
-  pub said : numbers (after (drop at l)) ≡ behind (take k (words_of t)) (numbers (after (drop i l)))
+-- what the field from i + 1 to e says comes first
+pub next-field : (l : List ℕ) (i e : ℕ) → i < length l → Cut l (i + 1) e → numbers (after (drop i l)) ≡ also (number (take (e - (i + 1)) (drop (i + 1) l))) (numbers (after (drop e l)))
+unfolding numbers
+next-field l i e h c = ap numbers (after-blank l i h ∙ c.field)
 
--- at first none is stored
-pub stored-none : (l : List ℕ) (at : ℕ) (t : List ℕ) → Stored l at t t at 0
-stored-none l at t = record { kept = refl; few = omega arith; said = sym (behind-none (numbers (after (drop at l)))) }
+abbrev pub Passed : List ℕ → ℕ → List ℕ → Type 0
+Passed l i vs = numbers (after (drop 1 l)) ≡ behind vs (numbers (after (drop i l)))
 
-module _ (l : List ℕ) (at : ℕ) (t₀ t : List ℕ) (i k : ℕ) (s : Stored l at t₀ t i k) where
+-- at first these are none
+pub passed_none : (l : List ℕ) → Passed l 1 []
+passed_none l = sym (behind-none _)
+
+module _ (l : List ℕ) (i : ℕ) (vs : List ℕ) (p : Passed l i vs) where
+  -- one more
+  pub passed_more : (v e : ℕ) → Next l i v e → Passed l e (vs ++ (v ∷ []))
+  passed_more v e n = p ∙ ap (behind vs) n.says ∙ behind_more vs v _
+
   -- all fields are passed
-  pub stored-all : length l ≤ i → words k t ≡ up_to (length t₀ / 2) (numbers (after (drop at l)))
+  pub passed-all : length l ≤ i → numbers (after (drop 1 l)) ≡ Some vs
   unfolding numbers
-  stored-all h =
-      let few : k ≤ length t / 2 = rw s.kept s.few in
-      words-in k t few ∙ sym (rw (s.said, after-end l i h, behind-all (take k (words_of t))) (up_in _ _ (rw (length-first k t few) s.few)))
+  passed-all h = p ∙ ap (λ fs. behind vs (numbers fs)) (after-end l i h) ∙ behind-all vs
 
-  module _ (e v : ℕ) (h : i < length l) (c : Cut l (i + 1) e) (r : at_most 65535 (some v) ≡ number (take (e - (i + 1)) (drop (i + 1) l))) where
-    next : numbers (after (drop i l)) ≡ also (number (take (e - (i + 1)) (drop (i + 1) l))) (numbers (after (drop e l)))
-    unfolding numbers
-    next = ap numbers (after-blank l i h ∙ c.field)
+  -- a field says no number
+  pub passed-not : numbers (after (drop i l)) ≡ None → numbers (after (drop 1 l)) ≡ None
+  unfolding behind
+  passed-not h = p ∙ ap (behind vs) h
 
-    none_more : words (length t₀ / 2 + 1) t ≡ none
-    none_more = words-out _ t (rw s.kept (omega arith))
+  -- there is room for no more
+  pub passed-over : (n v e : ℕ) → Next l i v e → n ≤ length vs → up_to n (numbers (after (drop 1 l))) ≡ None
+  passed-over n v e s h = ap (up_to n) (p ∙ ap (behind vs) s.says) ∙ behind-over n vs _ _ h
 
-    -- one more is stored
-    pub stored_more : v ≤ 65535 → k < length t₀ / 2 → Stored l at t₀ (set_word t k v) e (k + 1)
-    stored_more u f = record {
-      kept = length-set_word t k v ∙ s.kept;
-      few = omega arith;
-      said = s.said ∙ ap (behind (take k (words_of t))) (next ∙ ap (λ o. also o (numbers (after (drop e l)))) (told 65535 v r u)) ∙ behind_more _ v _ ∙ ap (λ w. behind w (numbers (after (drop e l)))) (sym (words_more t k v (rw s.kept f) (omega arith)));
-    }
+  -- fewer than n, and the next field, if there is one, says no number
+  pub passed-short : (n : ℕ) → length vs < n → (i < length l → numbers (after (drop i l)) ≡ None) → exactly n (numbers (after (drop 1 l))) ≡ None
+  passed-short n f h = go (dec_lt i (length l))
+    where
+      go : Dec (i < length l) → exactly n (numbers (after (drop 1 l))) ≡ None
+      go (yes u) = ap (exactly n) (passed-not (h u)) ∙ exactly_none n
+      go (no u) = ap (exactly n) (passed-all (omega arith)) ∙ exactly-out n vs (λ e. omega arith)
 
-    -- a field says no number
-    pub stored-not : 65535 < v → words (length t₀ / 2 + 1) t ≡ up_to (length t₀ / 2) (numbers (after (drop at l)))
-    stored-not u = none_more ∙ sym (ap (up_to (length t₀ / 2)) (s.said ∙ ap (behind (take k (words_of t))) (next ∙ ap (λ o. also o (numbers (after (drop e l)))) (untold 65535 v r u)) ∙ behind-not _ _) ∙ up_none _)
-
-    -- there is no room
-    pub stored-over : k ≡ length t₀ / 2 → words (length t₀ / 2 + 1) t ≡ up_to (length t₀ / 2) (numbers (after (drop at l)))
-    stored-over u =
-        let full : length t₀ / 2 ≤ length (take k (words_of t)) = rw (length-first k t (rw s.kept s.few)) (omega arith) in
-        none_more ∙ sym (rw (s.said, next) (behind-over (length t₀ / 2) (take k (words_of t)) _ _ full))
+  -- n, and another field
+  pub passed-long : (n : ℕ) → length vs ≡ n → i < length l → exactly n (numbers (after (drop 1 l))) ≡ None
+  unfolding numbers
+  passed-long n f h =
+      ap (exactly n) (p ∙ ap (λ fs. behind vs (numbers fs)) (after-blank l i h))
+      ∙ some-field (λ fs. exactly n (behind vs (numbers fs)) ≡ None) (λ g gs. exactly-over n vs (number g) (numbers gs) (omega arith)) (drop (i + 1) l)
 
 -- ---- Contents: the first k pairs say the first k bytes
 pub record Paired (s t₀ t : List ℕ) (k : ℕ) : Type 0 where
@@ -109,8 +108,8 @@ pub record Paired (s t₀ t : List ℕ) (k : ℕ) : Type 0 where
 
 -- a list of pairs is half as long as its digits
 abbrev Halved : ℕ → Option (List ℕ) → Type 0
-Halved n none = Unit {0}
-Halved n (some bs) = n ≡ length bs * 2
+Halved n None = Unit {0}
+Halved n (Some bs) = n ≡ length bs * 2
 
 halved : (s : List ℕ) → Halved (length s) (pairs s)
 unfolding pairs also
@@ -119,63 +118,52 @@ halved (x ∷ []) = tt
 halved (x ∷ y ∷ ys) = go (pair (hex_digit x) (hex_digit y)) (pairs ys) (halved ys)
   where
     go : (a : Option ℕ) (o : Option (List ℕ)) → Halved (length ys) o → Halved (suc (suc (length ys))) (also a o)
-    go none o h = tt
-    go (some v) none h = tt
-    go (some v) (some vs) h = omega arith
+    go None o h = tt
+    go (Some v) None h = tt
+    go (Some v) (Some vs) h = omega arith
 
-contents-none : (s : List ℕ) → pairs s ≡ none → contents s ≡ none
+contents-none : (s : List ℕ) → pairs s ≡ None → contents s ≡ None
 unfolding contents
 contents-none [] e = refl
 contents-none (x ∷ xs) e = rw e (up_none contents_room)
 
--- 0 stands for none
-pub bytes-none : (t : List ℕ) → bytes 0 t ≡ none
-unfolding bytes
-bytes-none t = refl
-
--- any other k for the first k bytes
-pub bytes-some : (k : ℕ) (t : List ℕ) → 0 < k → bytes k t ≡ some (take k t)
-unfolding bytes
-bytes-some k t h = rw (ne_eqb k 0 (λ e. omega arith))
-
 -- digits that are no pairs, or too many
-pub contents-not : (s t : List ℕ) → ((n : ℕ) → length s ≡ n * 2 → n ≤ contents_room → ⊥) → bytes 0 t ≡ contents s
+pub contents-not : (s : List ℕ) → ((n : ℕ) → length s ≡ n * 2 → 0 < n → n ≤ contents_room → ⊥) → contents s ≡ None
 unfolding contents
-contents-not [] t h = bytes-none t
-contents-not (x ∷ xs) t h = bytes-none t ∙ sym (go (pairs (x ∷ xs)) (halved (x ∷ xs)))
+contents-not [] h = refl
+contents-not (x ∷ xs) h = go (pairs (x ∷ xs)) (halved (x ∷ xs))
   where
-    go : (o : Option (List ℕ)) → Halved (length (x ∷ xs)) o → up_to contents_room o ≡ none
-    go none q = up_none contents_room
-    go (some bs) q = elim (dec_lt contents_room (length bs)) [ yes l ↦ up-out contents_room bs l | no l ↦ absurd (h (length bs) q (omega arith)) ]
+    go : (o : Option (List ℕ)) → Halved (length (x ∷ xs)) o → up_to contents_room o ≡ None
+    go None q = up_none contents_room
+    go (Some bs) q = elim (dec_lt contents_room (length bs)) [ yes l ↦ up-out contents_room bs l | no l ↦ absurd (h (length bs) q (omega arith) (omega arith)) ]
 
 -- at first none is stored
 pub paired_none : (s t : List ℕ) → Paired s t t 0
 paired_none s t = record { kept = refl; said = sym (behind-none (pairs s)) }
 
 -- all pairs are passed
-pub paired-all : (s t₀ t : List ℕ) (k : ℕ) → Paired s t₀ t k → length s ≡ k * 2 → k ≤ contents_room → k ≤ length t → bytes k t ≡ contents s
+pub paired-all : (s t₀ t : List ℕ) (k : ℕ) → Paired s t₀ t k → length s ≡ k * 2 → 0 < k → k ≤ contents_room → k ≤ length t → contents s ≡ Some (take k t)
 unfolding contents pairs
-paired-all [] t₀ t k p e u f = let z : k ≡ 0 = omega arith in rw z (bytes-none t)
-paired-all (x ∷ xs) t₀ t k p e u f =
-    bytes-some k t (omega arith)
-    ∙ sym (ap (up_to contents_room) (p.said ∙ ap (λ r. behind (take k t) (pairs r)) (drop_of_length-le (x ∷ xs) {i = k * 2} (omega arith)) ∙ behind-all (take k t)) ∙ up_in contents_room (take k t) (omega (arith, length-take-le k t f)))
+paired-all [] t₀ t k p e h u f = absurd (omega arith)
+paired-all (x ∷ xs) t₀ t k p e h u f =
+    ap (up_to contents_room) (p.said ∙ ap (λ r. behind (take k t) (pairs r)) (drop_of_length-le (x ∷ xs) {i = k * 2} (omega arith)) ∙ behind-all (take k t))
+    ∙ up_in contents_room (take k t) (omega (arith, length-take-le k t f))
 
-module _ (s t₀ t : List ℕ) (k : ℕ) (p : Paired s t₀ t k) where
-  module _ (v : ℕ) (h : k * 2 + 1 < length s) (r : at_most 255 (some v) ≡ pair (hex_digit (get_or s (k * 2) 0)) (hex_digit (get_or s (k * 2 + 1) 0))) where
-    next-pair : pairs (drop (k * 2) s) ≡ also (pair (hex_digit (get_or s (k * 2) 0)) (hex_digit (get_or s (k * 2 + 1) 0))) (pairs (drop ((k + 1) * 2) s))
-    unfolding pairs
-    next-pair =
-        let e : k * 2 + 1 ≡ suc (k * 2) = omega arith in
-        let f : (k + 1) * 2 ≡ suc (suc (k * 2)) = omega arith in
-        rw (e, f, drop-cons s (k * 2) 0 (omega arith), drop-cons s (suc (k * 2)) 0 (omega arith))
+module _ (s t₀ t : List ℕ) (k : ℕ) (p : Paired s t₀ t k) (h : k * 2 + 1 < length s) where
+  next-pair : pairs (drop (k * 2) s) ≡ also (pair (hex_digit (get_or s (k * 2) 0)) (hex_digit (get_or s (k * 2 + 1) 0))) (pairs (drop ((k + 1) * 2) s))
+  unfolding pairs
+  next-pair =
+      let e : k * 2 + 1 ≡ suc (k * 2) = omega arith in
+      let f : (k + 1) * 2 ≡ suc (suc (k * 2)) = omega arith in
+      rw (e, f, drop-cons s (k * 2) 0 (omega arith), drop-cons s (suc (k * 2)) 0 (omega arith))
 
-    -- one more is stored
-    pub paired-more : v ≤ 255 → k < length t → Paired s t₀ (set t k v) (k + 1)
-    paired-more u f = record {
-      kept = length-set t k v ∙ p.kept;
-      said = p.said ∙ ap (behind (take k t)) (next-pair ∙ ap (λ o. also o (pairs (drop ((k + 1) * 2) s))) (told 255 v r u)) ∙ behind_more _ v _ ∙ ap (λ w. behind w (pairs (drop ((k + 1) * 2) s))) (sym (rw (add-one k) (take-suc-set t k v f)));
-    }
+  -- one more is stored
+  pub paired-more : (v : ℕ) → Some v ≡ pair (hex_digit (get_or s (k * 2) 0)) (hex_digit (get_or s (k * 2 + 1) 0)) → k < length t → Paired s t₀ (set t k v) (k + 1)
+  paired-more v r f = record {
+    kept = length-set t k v ∙ p.kept;
+    said = p.said ∙ ap (behind (take k t)) (next-pair ∙ ap (λ o. also o (pairs (drop ((k + 1) * 2) s))) (sym r)) ∙ behind_more _ v _ ∙ ap (λ w. behind w (pairs (drop ((k + 1) * 2) s))) (sym (rw (add-one k) (take-suc-set t k v f)));
+  }
 
-    -- a pair says no byte
-    pub paired-not : 255 < v → bytes 0 t ≡ contents s
-    paired-not u = bytes-none t ∙ sym (contents-none s (p.said ∙ ap (behind (take k t)) (next-pair ∙ ap (λ o. also o (pairs (drop ((k + 1) * 2) s))) (untold 255 v r u)) ∙ behind-not _ _))
+  -- a pair says no byte
+  pub paired-not : None ≡ pair (hex_digit (get_or s (k * 2) 0)) (hex_digit (get_or s (k * 2 + 1) 0)) → contents s ≡ None
+  paired-not r = contents-none s (p.said ∙ ap (behind (take k t)) (next-pair ∙ ap (λ o. also o (pairs (drop ((k + 1) * 2) s))) (sym r)) ∙ behind-not _ _)

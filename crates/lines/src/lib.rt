@@ -1,18 +1,17 @@
 // What a line of a session says. A line is told by the letter that is its first field; numbers and contents are stored in lent bytes.
 #![tactic(auto)]
 
-ghost use Rattle.std.specs.Prelude.{◌≡◌, List, ℕ, ◌/◌, ◌≤◌, length, drop};
-ghost use Rattle.std.proofs.Math.Option.{some};
-ghost use Rattle.lines.specs.Lines.{line_of, tape_of, at_most, number as number_of, digit as digit_of, digits as digits_of, hex_digit, begins as begins_of, contents as contents_of, numbers as numbers_of, up_to, pair as pair_of, opened, read, written, bare, contents_room, tape_room};
-ghost use Rattle.lines.specs.Said.{said, Small, words, bytes};
+ghost use Rattle.std.specs.Prelude.{◌≡◌, List, ℕ, ◌/◌, ◌≤◌, ◌<◌, None, IfSome, IfNone, length, drop};
+ghost use Rattle.tape.specs.Tape.{words_of};
+ghost use Rattle.lines.specs.Lines.{line_of, tape_of, at_most, number as number_of, digit as digit_of, digits as digits_of, hex_digit, begins as begins_of, contents as contents_of, numbers as numbers_of, up_to, pair as pair_of, opened, read, written, bare, contents_room, most_words};
+ghost use Rattle.lines.specs.Said.{said, Small, firsts, exactly as exactly_of};
 ghost use Rattle.lines.specs.Fields.{after, Cut, Led};
+ghost use Rattle.lines.specs.Stored.{Next};
 
 use memory::Shape;
 
-// A line's contents are at most so many bytes, and a tape has at most so many words, of two bytes each.
+// A line's contents are at most so many bytes, and a tape has at most so many, two for each of its words.
 pub const CONTENTS: usize = 1024;
-
-pub const WORDS: usize = 8192;
 
 pub const TAPE: usize = 16384;
 
@@ -27,24 +26,23 @@ pub enum Line {
     Malformed,
 }
 
-// What a decimal digit says; 10 if x is none.
-fn digit(x: u8) -> usize
-    ensures { at_most 9 (some result) ≡ digit_of x }
+// What a decimal digit says, if x is one.
+fn digit(x: u8) -> Option<u8>
+    ensures { result ≡ digit_of x }
 {
     match x {
-        b'0'..=b'9' => memory::wide(x) - 48,
-        _ => 10,
+        b'0'..=b'9' => Some(x - b'0'),
+        _ => None,
     }
 }
 
-// What a hexadecimal digit says; 16 if x is none.
-fn hex(x: u8) -> usize
-    ensures { at_most 15 (some result) ≡ hex_digit x }
+// What a hexadecimal digit says, if x is one.
+fn hex(x: u8) -> Option<u8>
+    ensures { result ≡ hex_digit x }
 {
     match x {
-        b'0'..=b'9' => memory::wide(x) - 48,
-        b'a'..=b'f' => memory::wide(x) - 87,
-        _ => 16,
+        b'a'..=b'f' => Some(x - b'a' + 10),
+        _ => digit(x),
     }
 }
 
@@ -53,28 +51,23 @@ fn end(line: &[u8], from: usize) -> usize
     requires { from ≤ length line.now }
     ensures { Cut line.now from result }
 {
-    let mut i = from;
-    while i < line.len() {
+    for i in from..line.len() {
         if line[i] == b' ' {
             return i;
         }
-        i += 1;
     }
-    i
+    line.len()
 }
 
-// The letter that is the first field; a blank if there is none.
+// The letter that is the first field; a blank if there is none: with an Option, a line that is one blank would need a case of its own.
 fn letter(line: &[u8]) -> u8
     ensures { Led line.now result }
 {
-    let n = line.len();
-    if n == 0 {
-        return b' ';
+    match line {
+        [x] => *x,
+        [x, b' ', ..] => *x,
+        _ => b' ',
     }
-    if n == 1 {
-        return line[0];
-    }
-    if line[1] == b' ' { line[0] } else { b' ' }
 }
 
 // Whether there is a digit, and no needless zero before it.
@@ -87,132 +80,128 @@ fn begins(s: &[u8]) -> bool
     s[0] != b'0'
 }
 
-// The number that digits say; 65,536 if it is larger, or a byte is no digit. The first digit too many ends it, so that no sum wraps.
-fn digits(s: &[u8]) -> usize
-    ensures { at_most 65535 (some result) ≡ at_most 65535 (digits_of 0 s.now) }
+// The number that digits say, if it is at most 65,535. The first digit too many ends it, so that no sum wraps.
+fn digits(s: &[u8]) -> Option<usize>
+    ensures { result ≡ at_most 65535 (digits_of 0 s.now) }
 {
     let mut v = 0;
-    let mut i = 0;
-    while i < s.len() {
-        let d = digit(s[i]);
-        if 9 < d {
-            return 65536;
-        }
-        v = v * 10 + d;
+    for x in s {
+        v = v * 10 + usize::from(digit(*x)?);
         if 65535 < v {
-            return 65536;
+            return None;
         }
-        i += 1;
     }
-    v
+    Some(v)
 }
 
-// The number that a field says; 65,536 if it says none.
-fn number(s: &[u8]) -> usize
-    ensures { at_most 65535 (some result) ≡ number_of s.now }
+// The number that a field says.
+fn number(s: &[u8]) -> Option<usize>
+    ensures { result ≡ number_of s.now }
 {
-    if begins(s) { digits(s) } else { 65536 }
+    if begins(s) { digits(s) } else { None }
 }
 
-// The byte that a pair of hexadecimal digits says; 256 if it says none.
-fn pair(a: u8, b: u8) -> usize
-    ensures { at_most 255 (some result) ≡ pair_of (hex_digit a) (hex_digit b) }
+// The number of the field behind place `at`, where the field before it ended, and where this one ends.
+fn next(line: &[u8], at: usize) -> Option<(usize, usize)>
+    ensures found { IfSome result (λ r. Next line.now at r.0 r.1) }
+    ensures none { IfNone result (at < length line.now → numbers_of (after (drop at line.now)) ≡ None) }
 {
-    let h = hex(a);
-    let l = hex(b);
-    if 15 < h {
-        return 256;
+    if line.len() <= at {
+        return None;
     }
-    if 15 < l {
-        return 256;
-    }
-    h * 16 + l
+    let from = at + 1;
+    let e = end(line, from);
+    let x = number(&line[from..e])?;
+    Some((x, e))
 }
 
-// Stores the numbers that the fields behind place `at` say, two bytes each, and tells how many; one more than there is room for if there are more,
-// or a field says none.
-fn numbers(line: &[u8], at: usize, room: &mut [u8]) -> usize
-    ensures { words result room.new ≡ up_to (length room.old / 2) (numbers_of (after (drop at line.now))) }
+// The byte that a pair of hexadecimal digits says.
+fn pair(a: u8, b: u8) -> Option<u8>
+    ensures { result ≡ pair_of (hex_digit a) (hex_digit b) }
+{
+    let h = hex(a)?;
+    let l = hex(b)?;
+    Some(h * 16 + l)
+}
+
+// Stores the numbers that the fields behind the letter say, two bytes each, and tells how many, if there is room for all.
+fn numbers(line: &[u8], room: &mut [u8]) -> Option<usize>
+    ensures numbers { firsts result (words_of room.new) ≡ up_to (length room.old / 2) (numbers_of (after (drop 1 line.now))) }
+    ensures within { IfSome result (λ k. k ≤ length room.old / 2) }
 {
     let most = room.len() / 2;
     let mut k = 0;
-    let mut i = at;
-    while i < line.len() {
-        let from = i + 1;
-        let e = end(line, from);
-        let x = number(&line[from..e]);
-        if 65535 < x {
-            return most + 1;
-        }
+    let mut at = 1;
+    // the place goes on by whole fields, which no range counts
+    while at < line.len() {
+        let (x, e) = next(line, at)?;
         if k == most {
-            return most + 1;
+            return None;
         }
         memory::set_word(room, k, x);
         k += 1;
-        i = e;
+        at = e;
     }
-    k
+    Some(k)
 }
 
-// Stores the bytes that pairs of hexadecimal digits say, and tells how many; 0 if these are no contents.
-fn contents(s: &[u8], room: &mut [u8]) -> usize
-    requires { length room.old ≡ contents_room }
-    ensures { (bytes result room.new ≡ contents_of s.now) × (result ≤ contents_room) }
+// The numbers that the fields behind the letter say, if they are N.
+fn exactly<const N: usize>(line: &[u8]) -> Option<[usize; N]>
+    ensures { result ≡ exactly_of N (numbers_of (after (drop 1 line.now))) }
+{
+    let mut found = [0; N];
+    let mut at = 1;
+    for k in 0..N {
+        let (x, e) = next(line, at)?;
+        found[k] = x;
+        at = e;
+    }
+    if at < line.len() {
+        return None;
+    }
+    Some(found)
+}
+
+// Stores the bytes that pairs of hexadecimal digits say, and tells how many, if these are contents.
+fn contents(s: &[u8], room: &mut [u8; CONTENTS]) -> Option<usize>
+    ensures contents { firsts result room.new ≡ contents_of s.now }
+    ensures within { IfSome result (λ k. (0 < k) × (k ≤ contents_room)) }
 {
     let n = s.len() / 2;
-    if s.len() != n * 2 {
-        return 0;
+    if n == 0 || s.len() != n * 2 || CONTENTS < n {
+        return None;
     }
-    if CONTENTS < n {
-        return 0;
-    }
-    let mut k = 0;
-    while k < n {
+    for k in 0..n {
         let at = k * 2;
-        let v = pair(s[at], s[at + 1]);
-        if 255 < v {
-            return 0;
-        }
-        room[k] = v as u8;
-        k += 1;
+        room[k] = pair(s[at], s[at + 1])?;
     }
-    n
+    Some(n)
 }
 
 // O: six numbers.
 fn open_line(line: &[u8]) -> Line
     ensures { ((b : List ℕ) → said result b ≡ opened (numbers_of (after (drop 1 line.now)))) × Small result }
 {
-    let mut room = [0u8; 12];
-    let k = numbers(line, 1, &mut room);
-    if k != 6 {
+    let Some(numbers) = exactly::<6>(line) else {
         return Line::Malformed;
-    }
-    Line::Open(Shape {
-        n: memory::word(&room, 0),
-        p: memory::word(&room, 1),
-        l: memory::word(&room, 2),
-        b: memory::word(&room, 3),
-        e: memory::word(&room, 4),
-        w: memory::word(&room, 5),
-    })
+    };
+    let [n, p, l, b, e, w] = numbers;
+    Line::Open(Shape { n, p, l, b, e, w })
 }
 
 // R: a block.
 fn block_line(line: &[u8]) -> Line
     ensures { ((b : List ℕ) → said result b ≡ read (numbers_of (after (drop 1 line.now)))) × Small result }
 {
-    let mut room = [0u8; 2];
-    let k = numbers(line, 1, &mut room);
-    if k != 1 {
+    let Some(numbers) = exactly::<1>(line) else {
         return Line::Malformed;
-    }
-    Line::Read(memory::word(&room, 0))
+    };
+    let [block] = numbers;
+    Line::Read(block)
 }
 
 // W: a block and contents.
-fn write_line(line: &[u8], room: &mut [u8]) -> Line
-    requires { length room.old ≡ contents_room }
+fn write_line(line: &[u8], room: &mut [u8; CONTENTS]) -> Line
     ensures { (said result room.new ≡ written (after (drop 1 line.now))) × Small result }
 {
     let n = line.len();
@@ -228,14 +217,12 @@ fn write_line(line: &[u8], room: &mut [u8]) -> Line
     if z < n {
         return Line::Malformed;
     }
-    let b = number(&line[2..e]);
-    if 65535 < b {
+    let Some(b) = number(&line[2..e]) else {
         return Line::Malformed;
-    }
-    let k = contents(&line[a..z], room);
-    if k == 0 {
+    };
+    let Some(k) = contents(&line[a..z], room) else {
         return Line::Malformed;
-    }
+    };
     Line::Write(b, k)
 }
 
@@ -251,12 +238,10 @@ fn bare_line(line: &[u8], r: Line) -> Line
 }
 
 // What a line says. The contents of a write are the first bytes of `room`.
-pub fn read_line(line: &[u8], room: &mut [u8]) -> Line
-    requires { length room.old ≡ contents_room }
+pub fn read_line(line: &[u8], room: &mut [u8; CONTENTS]) -> Line
     ensures { (said result room.new ≡ line_of line.now) × Small result }
 {
-    let x = letter(line);
-    match x {
+    match letter(line) {
         b'O' => open_line(line),
         b'R' => block_line(line),
         b'W' => write_line(line, room),
@@ -266,14 +251,13 @@ pub fn read_line(line: &[u8], room: &mut [u8]) -> Line
     }
 }
 
-// Stores the words of the tape that a first line says, low byte first, and tells how many; 8,193 if it is no T, or malformed.
-pub fn read_tape(line: &[u8], tape: &mut [u8]) -> usize
-    requires { length tape.old ≡ tape_room }
-    ensures { words result tape.new ≡ tape_of line.now }
+// Stores the words of the tape that a first line says, low byte first, and tells how many, if it is a T that is not malformed.
+pub fn read_tape(line: &[u8], tape: &mut [u8; TAPE]) -> Option<usize>
+    ensures words { firsts result (words_of tape.new) ≡ tape_of line.now }
+    ensures within { IfSome result (λ k. k ≤ most_words) }
 {
-    let x = letter(line);
-    match x {
-        b'T' => numbers(line, 1, tape),
-        _ => 8193,
+    match letter(line) {
+        b'T' => numbers(line, tape),
+        _ => None,
     }
 }

@@ -1,5 +1,6 @@
 -- Numbers put into a table one after the other, from an entry on.
-use Rattle.std.specs.Prelude.{◌≡◌, List, [], ◌∷◌, ℕ, ◌+◌}
+use denote.Param.Members.{Shared}
+use Rattle.std.specs.Prelude.{◌≡◌, List, [], ◌∷◌, ℕ, ◌+◌, ◌<◌}
 use Rattle.std.proofs.Common.{ap, sym, ◌∙◌}
 use Rattle.lists.specs.Entries.{put_all-none, put_first}
 use Rattle.lists.specs.Tables.{put, put_all}
@@ -10,6 +11,12 @@ use Rattle.memory.specs.Stored.{table-with, table-again}
 unfoldable pub laid : Table → ℕ → List ℕ → Tables → Tables
 laid t a [] x = x
 laid t a (v ∷ vs) x = laid t (a + 1) vs (with_table t (put a v (table_at t x)) x)
+
+-- f gives each of n numbers, and left says which are left from number i on
+pub record Lays {F : Type 0} (g : Shared F (ℕ × Unit {0}) ℕ) (f : F) (n : ℕ) (left : ℕ → List ℕ) : Type 0 where
+  pub may : (i : ℕ) → i < n → g.pre f (i, tt)
+  pub next : (i x : ℕ) → i < n → g.post f (i, tt) x → (left i ≡ x ∷ left (i + 1)) × (x < 65536)
+  pub end : left n ≡ []
 
 -- one more of those that are left; and none is
 pub laid-step : (t : Table) (k k' v : ℕ) (vs us : List ℕ) (x x' y : Tables) → k' ≡ k + 1 → us ≡ v ∷ vs → x' ≡ with_table t (put k v (table_at t x)) x → laid t k us x ≡ y → laid t k' vs x' ≡ y

@@ -23,7 +23,7 @@ use Rattle.memory.specs.declared.Shape.{Shape as Numbers}
 use Rattle.memory.specs.Fits.{shape_of}
 use Rattle.memory.specs.Parts.{empty}
 use Rattle.memory.specs.Tables.{tables_of}
-use Rattle.client.specs.Moves.{Stands, stands}
+use Rattle.client.specs.Moves.{resting_client, Stands, stands}
 use Rattle.client.specs.View.{view}
 use Rattle.contract.specs.Meets.{call_of}
 use Rattle.forms.specs.Asked.{form_w, size_w, size-records, loads-facts, loads-made, loads-state}
@@ -35,7 +35,7 @@ use Rattle.forms.specs.Facts.{Made, Facts, unmapped}
 use Rattle.forms.specs.Lists.{length-numbers}
 use Rattle.forms.specs.Passes.{keys_of, keys-are}
 use Rattle.loading.specs.Records.{InStore, records_at}
-use Rattle.loading.specs.Restored.{resting_client, put_form, restored, restored-tail}
+use Rattle.loading.specs.Restored.{put_form, restored, restored-tail}
 
 unfoldable pub load_number : List ℕ → ℕ → ℕ
 load_number form len = first_no ((summed form, 17) ∷ (loads form, 18) ∷ (leb (needed (loaded_form form).shape) len, 2) ∷ [])

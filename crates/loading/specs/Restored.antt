@@ -31,7 +31,7 @@ use Rattle.rules.specs.Memory.{needed}
 use Rattle.client.specs.declared.Client.{Client}
 use Rattle.client.specs.View.{view, rows, request_of, bytes_in, place_of, level_at, command_by}
 use Rattle.client.specs.Changes.{place_is, place-nowhere, cell-level}
-use Rattle.client.specs.Moves.{no_request}
+use Rattle.client.specs.Moves.{resting_client}
 use Rattle.forms.specs.Bytes.{get_d_past}
 use Rattle.forms.specs.Cells.{PlacedIn, SpotIn, lay-few}
 use Rattle.forms.specs.Facts.{counter_of, names_of, Known, Sized, Ordered, Made, Facts, levels-known}
@@ -41,10 +41,6 @@ use Rattle.loading.specs.Blocks.{place_number, put_blocks, blocks_laid, blocks-a
 use Rattle.loading.specs.Levels.{put_levels}
 use Rattle.loading.specs.Records.{put_records, by_age, by_block, records-are}
 use Rattle.loading.specs.Waiting.{key-else, age-is, age-lt, block-is}
-
--- no request in hand, no command outstanding, no job begun
-abbrev pub resting_client : Numbers → ℕ → ℕ → Client
-resting_client h jobs waiting = record { shape = h; request = no_request; jobs = jobs; begun = 0; cursor = 0; sent = 0; waiting = waiting; out = 0 }
 
 -- the parts of a form in the order in which they are put
 unfoldable pub put_form : Form → Tables → Tables

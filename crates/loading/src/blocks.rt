@@ -7,45 +7,40 @@ ghost use Rattle.memory.specs.Fits.{shape_of, Fits};
 ghost use Rattle.memory.specs.Tables.{tables_of};
 ghost use Rattle.forms.specs.At.{block_at, block_size, size_at};
 ghost use Rattle.forms.specs.Blocks.{blocks_at, counter_in};
-ghost use Rattle.forms.specs.Bytes.{Whole};
 ghost use Rattle.forms.specs.Cells.{PlacedIn};
 ghost use Rattle.loading.specs.Blocks.{put_block, put_blocks};
 
-use forms::{blocks, bytes};
-use memory::{Shape, tables};
-
-// From here on a level is none: 254 is for waiting, 255 for nowhere.
-const WAITING: usize = 254;
+use forms::blocks::{self, WAITING};
+use forms::bytes::Form;
+use memory::Shape;
+use memory::tables::{self, Table};
 
 // Block b, which is at byte `at`.
-fn block(form: &[u8], h: Shape, m: &mut [u8], b: usize, at: usize)
-    requires { Whole form.now × Fits (shape_of h) (length m.old) × (b < h.n) × (at < 4294967000) × PlacedIn (shape_of h) (counter_in (out_of_blocks form.now) h.p) (block_at (out_of_blocks form.now) 1 at) }
-    ensures { tables_of (shape_of h) m.new ≡ put_block (shape_of h) b (block_at (out_of_blocks form.now) 1 at) (tables_of (shape_of h) m.old) }
+fn block(form: Form<'_>, h: Shape, m: &mut [u8], b: usize, at: usize)
+    requires { Fits (shape_of h) (length m.old) × (b < h.n) × (at < 4294967000) × PlacedIn (shape_of h) (counter_in (out_of_blocks form.bytes.now) h.p) (block_at (out_of_blocks form.bytes.now) 1 at) }
+    ensures { tables_of (shape_of h) m.new ≡ put_block (shape_of h) b (block_at (out_of_blocks form.entry.bytes.now) 1 at) (tables_of (shape_of h) m.old) }
 {
-    let q = bytes::number(form, at);
-    tables::set_partition(h, m, b, q);
-    let l = bytes::byte(form, at + 2);
+    let q = form.number(at);
+    tables::set(h, m, Table::Partition, b, q);
+    let l = form.byte(at + 2);
     if WAITING <= l {
-        tables::set_place(h, m, b, 0);
+        tables::set(h, m, Table::Place, b, 0);
         return;
     }
-    let x = bits::pow2(l + 1) + bytes::byte(form, at + 3);
-    tables::set_place(h, m, b, x);
-    tables::set_holds(h, m, levels::cell_of(h, q, x), b + 1);
+    let x = bits::pow2(l + 1) + form.byte(at + 3);
+    tables::set(h, m, Table::Place, b, x);
+    tables::set(h, m, Table::Holds, levels::cell_of(h, q, x), b + 1);
 }
 
 // All of them, the first of which is at byte `from`; returns the byte behind them.
-pub fn blocks(form: &[u8], h: Shape, m: &mut [u8], from: usize) -> usize
-    requires { Whole form.now × Fits (shape_of h) (length m.old) × (from < 65536) × All (PlacedIn (shape_of h) (counter_in (out_of_blocks form.now) h.p)) (blocks_at (out_of_blocks form.now) h.n from) }
-    ensures { (result ≡ from + size_at (λ _. block_size (out_of_blocks form.now) 1) (below h.n) from) × (result ≤ from + h.n * 4) × (tables_of (shape_of h) m.new ≡ put_blocks (shape_of h) 0 (blocks_at (out_of_blocks form.now) h.n from) (tables_of (shape_of h) m.old)) }
+pub fn blocks(form: Form<'_>, h: Shape, m: &mut [u8], from: usize) -> usize
+    requires { Fits (shape_of h) (length m.old) × (from < 65536) × All (PlacedIn (shape_of h) (counter_in (out_of_blocks form.bytes.now) h.p)) (blocks_at (out_of_blocks form.bytes.now) h.n from) }
+    ensures { (result ≡ from + size_at (λ _. block_size (out_of_blocks form.entry.bytes.now) 1) (below h.n) from) × (result ≤ from + h.n * 4) × (tables_of (shape_of h) m.new ≡ put_blocks (shape_of h) 0 (blocks_at (out_of_blocks form.entry.bytes.now) h.n from) (tables_of (shape_of h) m.old)) }
 {
-    let n = h.n;
     let mut at = from;
-    let mut b = 0;
-    while b < n {
+    for b in 0..h.n {
         block(form, h, m, b, at);
         at += blocks::size(form, at);
-        b += 1;
     }
     at
 }

@@ -1,5 +1,5 @@
 -- Blocks of B bytes behind the tables, and a part of the memory that is replaced.
-use Rattle.std.specs.Prelude.{◌≡◌, true, false, List, ℕ, ◌+◌, ◌-◌, ◌*◌, ◌≤◌, ◌<◌, leb, take, drop, set, replicate}
+use Rattle.std.specs.Prelude.{◌≡◌, true, false, List, ℕ, ◌+◌, ◌*◌, ◌≤◌, ◌<◌, leb, take, drop, set, replicate}
 use Rattle.std.proofs.Common.{sym, ap, ◌∙◌, arith, drop-set-lt, le-leb}
 use Rattle.std.proofs.Math.Path.{fun_ext}
 use Rattle.std.proofs.Math.Decide.{dec_lt}

@@ -1,17 +1,20 @@
 -- A shape within bounds, and memory that is long enough for it.
-use Rattle.std.specs.Prelude.{◌≡◌, Bool, true, false, ◌||◌, [], ◌∷◌, ℕ, zero, ◌+◌, ◌*◌, ◌≤◌, ◌<◌, eqb, ltb, leb}
-use Rattle.std.proofs.Common.{sym, ap, true≢false, mul-le-mul, arith, inl, inr, pow_mono, eqb-true, leb-true, lt-ltb, le-ltb}
+use Rattle.std.specs.Prelude.{◌≡◌, Bool, true, false, ◌||◌, [], ◌∷◌, ℕ, ◌+◌, ◌*◌, ◌≤◌, ◌<◌, eqb, ltb, leb}
+use Rattle.std.proofs.Common.{sym, true≢false, mul-le-mul, arith, inl, inr, pow_mono, eqb-true, leb-true, lt-ltb, le-ltb}
 use Rattle.std.proofs.Math.Decide.{dec_lt}
 use Rattle.lists.specs.Tests.{and_l, and_r, or-true, every-yes, between}
 use Rattle.lists.specs.Search.{any, member}
 use Rattle.rules.specs.Shape.{Shape, within, slots}
 use Rattle.rules.specs.Memory.{needed}
-use Rattle.memory.specs.Blocks.{cells}
 use Rattle.memory.specs.declared.Shape.{Shape as Numbers}
 
 -- the shape that six numbers say
 abbrev pub shape_of : Numbers → Shape
 shape_of h = record { N = h.n; P = h.p; L = h.l; B = h.b; E = h.e; W = h.w }
+
+-- the bounds by which the cells of all levels of all partitions are counted
+abbrev pub CellsFit : Numbers → Type 0
+CellsFit h = (h.l ≤ 8) × (h.p ≤ 64) × (h.p * slots h.l ≤ 32768)
 
 -- what the code goes by: each number's bounds, and that the memory is long enough
 pub record Fits (h : Shape) (len : ℕ) : Type 0 where

@@ -6,3 +6,4 @@ pub mod Stored
 pub mod Parts
 pub mod Fits
 pub mod Closing
+pub mod Filling

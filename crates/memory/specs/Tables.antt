@@ -1,6 +1,6 @@
 -- The tables that lie in the lent memory, one after the other, then the blocks; what is past them is the tail. Written by gen/tables.py.
-use Rattle.std.specs.Prelude.{◌≡◌, refl, List, [], ◌∷◌, ℕ, eqb, drop, if◌then◌else◌}
-use Rattle.rules.specs.Shape.{Shape}
+use Rattle.std.specs.Prelude.{◌≡◌, refl, List, [], ◌∷◌, ℕ, ◌+◌, ◌^◌, eqb, drop, if◌then◌else◌}
+use Rattle.rules.specs.Shape.{Shape, slots}
 use Rattle.rules.specs.Memory.{needed}
 use Rattle.memory.specs.Words.{window}
 use Rattle.memory.specs.Blocks.{cells, block_table}
@@ -30,6 +30,20 @@ start_of h t = starts_at 0 (index t) (sizes h)
 
 abbrev pub size_of : Shape → Table → ℕ
 size_of h t = size_at (index t) (sizes h)
+
+-- what the entries of a table are below: one that is not reads as 0. Where a number has two values, or the bound is that of a level, it is what each
+-- number of two bytes is below
+abbrev pub bound_of : Shape → Table → ℕ
+bound_of h Queue = h.P
+bound_of h Kinds = 65536
+bound_of h Spots = 65536
+bound_of h Counter = 2 ^ h.L
+bound_of h Partition = h.P
+bound_of h Place = slots h.L
+bound_of h Waiting = h.N
+bound_of h Order = 65536
+bound_of h Holds = h.N + 1
+bound_of h Mark = 2
 
 pub record Tables : Type 0 where
   pub queue : ℕ → ℕ  -- partitions of the jobs, front first

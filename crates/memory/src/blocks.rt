@@ -5,31 +5,15 @@ ghost use Rattle.rules.specs.Shape.{slots};
 ghost use Rattle.memory.specs.Blocks.{block_start};
 ghost use Rattle.memory.specs.Tables.{tables_of, with_blocks};
 ghost use Rattle.memory.specs.Parts.{replaced};
-ghost use Rattle.memory.specs.Fits.{shape_of, Fits};
+ghost use Rattle.memory.specs.Fits.{shape_of, CellsFit, Fits};
 
 use crate::Shape;
 
-// Copies all of src over dst.
-pub fn copy(dst: &mut [u8], src: &[u8])
-    requires { length src.now ≡ length dst.old }
-    ensures { dst.new ≡ src.now }
-{
-    let mut i = 0;
-    while i < src.len() {
-        dst[i] = src[i];
-        i += 1;
-    }
-}
-
-// Makes all of dst zeros.
+// Makes all of dst zeros. (What `fill` says is of clones; here it is an equation, which callers use as it stands.)
 pub fn zeros(dst: &mut [u8])
     ensures { dst.new ≡ replicate (length dst.old) 0 }
 {
-    let mut i = 0;
-    while i < dst.len() {
-        dst[i] = 0;
-        i += 1;
-    }
+    dst.fill(0);
 }
 
 // The first n bytes become zeros.
@@ -42,7 +26,7 @@ pub fn clear(m: &mut [u8], n: usize)
 
 // The first byte of block b. Block N has what a request in hand writes; where block N + 1 would start, the memory that a shape needs ends.
 pub fn start(h: Shape, b: usize) -> usize
-    requires { (h.n ≤ 4096) × (h.l ≤ 8) × (h.p ≤ 64) × (h.b ≤ 512) × (h.p * slots h.l ≤ 32768) × (b ≤ h.n + 1) }
+    requires { CellsFit h × (h.n ≤ 4096) × (h.b ≤ 512) × (b ≤ h.n + 1) }
     ensures { result ≡ block_start (shape_of h) b }
 {
     384 + 6 * h.n + 6 * crate::tables::cells(h) + b * h.b
@@ -55,7 +39,7 @@ pub fn load(h: Shape, m: &[u8], b: usize, dst: &mut [u8])
 {
     let a = start(h, b);
     let e = a + h.b;
-    copy(dst, &m[a..e]);
+    dst.copy_from_slice(&m[a..e]);
 }
 
 // Stores src as block b.
@@ -65,7 +49,7 @@ pub fn store(h: Shape, m: &mut [u8], b: usize, src: &[u8])
 {
     let a = start(h, b);
     let e = a + h.b;
-    copy(&mut m[a..e], src);
+    m[a..e].copy_from_slice(src);
 }
 
 // Copies block b over block d.

@@ -4,20 +4,13 @@
 ghost use Rattle.std.specs.Prelude.{◌≡◌, ◌+◌, ◌*◌, ◌<◌, length};
 ghost use Rattle.memory.specs.Words.{word_at, set_word};
 
-// The byte x as a usize.
-pub fn wide(x: u8) -> usize
-    ensures { (result ≡ x) × (result < 256) }
-{
-    x as usize
-}
-
 // Number k of the bytes m.
 pub fn word(m: &[u8], k: usize) -> usize
     requires { k * 2 + 1 < length m.now }
     ensures { (result ≡ word_at m.now k) × (result < 65536) }
 {
     let at = k * 2;
-    wide(m[at]) + wide(m[at + 1]) * 256
+    usize::from(u16::from_le_bytes([m[at], m[at + 1]]))
 }
 
 // Stores v as number k.
@@ -26,8 +19,9 @@ pub fn set_word(m: &mut [u8], k: usize, v: usize)
     ensures { m.new ≡ set_word m.old k v }
 {
     let at = k * 2;
-    m[at] = (v % 256) as u8;
-    m[at + 1] = (v / 256 % 256) as u8;
+    let bytes = (v as u16).to_le_bytes(); // as, since it fits: TryFrom would answer an Err that never comes
+    m[at] = bytes[0];
+    m[at + 1] = bytes[1];
 }
 
 pub mod blocks;

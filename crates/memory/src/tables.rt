@@ -1,11 +1,11 @@
 // The tables in the lent memory. Every content decodes: a number out of range reads as 0.
-ghost use Rattle.std.specs.Prelude.{◌≡◌, ◌+◌, ◌-◌, ◌*◌, ◌^◌, ◌<◌, ◌≤◌, length};
-ghost use Rattle.lists.specs.Tables.{put as put_at};
+ghost use Rattle.std.specs.Prelude.{◌≡◌, ◌+◌, ◌-◌, ◌*◌, ◌^◌, ◌<◌, ◌≤◌, length, replicate};
+ghost use Rattle.lists.specs.Tables.{put as put_at, put_all};
 ghost use Rattle.rules.specs.Shape.{slots};
-ghost use Rattle.memory.specs.Tables.{tables_of, start_of, size_of, table_at, with_table, with_queue, with_kinds, with_spots, with_counter, with_partition, with_place, with_waiting, with_order, with_holds, with_mark};
+ghost use Rattle.memory.specs.Tables.{tables_of, start_of, size_of, bound_of, table_at, with_table};
 ghost use Rattle.memory.specs.Words.{word_at, Numbers};
 ghost use Rattle.memory.specs.Closing.{closed_up};
-ghost use Rattle.memory.specs.Fits.{shape_of, Fits, fit as fit_of};
+ghost use Rattle.memory.specs.Fits.{shape_of, CellsFit, Fits, fit as fit_of};
 
 use crate::Shape;
 
@@ -18,31 +18,41 @@ pub fn fit(bound: usize, x: usize) -> usize
 
 // The cells of all levels of all partitions.
 pub fn cells(h: Shape) -> usize
-    requires { (h.l ≤ 8) × (h.p ≤ 64) × (h.p * slots h.l ≤ 32768) }
+    requires { CellsFit h }
     ensures { result ≡ h.p * slots h.l }
 {
     let n = bits::pow2(h.l + 1);
     h.p * n
 }
 
-// The tables, in the order in which they lie. Each has numbers of two bytes.
+// The tables, in the order in which they lie. Each has numbers of two bytes. A cell is a slot's number among all slots, `cells` of them.
 #[derive(Clone, Copy)]
 pub enum Table {
+    // By job of the queue, front first: its partition.
     Queue,
+    // By outstanding command: the number that has its partition and kind.
     Kinds,
+    // By outstanding command: the number that has its level and slot.
     Spots,
+    // By partition: its counter.
     Counter,
+    // By block: its partition.
     Partition,
+    // By block: its place, 0 or 1 for nowhere, else slots(level) + slot.
     Place,
+    // The blocks that wait, longest waiting first.
     Waiting,
+    // By an item's cell: the item's slot, below the slots of its level.
     Order,
+    // By a slot's cell: what the slot holds, 0 for a dummy, b + 1 for block b.
     Holds,
+    // By a slot's cell: 1 if the slot is unread, else 0; a number, as all entries are (`tables_of`).
     Mark,
 }
 
 // The number of the memory that is the first of table t. Each caller names its table, so that the compiler leaves only that arm.
 fn start(h: Shape, t: Table) -> usize
-    requires { (h.n ≤ 4096) × (h.l ≤ 8) × (h.p ≤ 64) × (h.p * slots h.l ≤ 32768) }
+    requires { CellsFit h × (h.n ≤ 4096) }
     ensures { result ≡ start_of (shape_of h) t }
 {
     let n = h.n;
@@ -61,20 +71,37 @@ fn start(h: Shape, t: Table) -> usize
     }
 }
 
+// What the entries of table t are below. Kinds and Spots have two values in one number, and the bound of an item's slot is that of its level: what a
+// number of two bytes is below stands for these, and callers read them by `entry`.
+fn bound(h: Shape, t: Table) -> usize
+    requires { (h.n ≤ 4096) × (h.l ≤ 8) }
+    ensures { result ≡ bound_of (shape_of h) t }
+{
+    match t {
+        Table::Queue | Table::Partition => h.p,
+        Table::Kinds | Table::Spots | Table::Order => 65536,
+        Table::Counter => bits::pow2(h.l),
+        Table::Place => bits::pow2(h.l + 1),
+        Table::Waiting => h.n,
+        Table::Holds => h.n + 1,
+        Table::Mark => 2,
+    }
+}
+
 // Entry i of table t, as it is stored.
-fn entry(h: Shape, m: &[u8], t: Table, i: usize) -> usize
+pub fn entry(h: Shape, m: &[u8], t: Table, i: usize) -> usize
     requires { Fits (shape_of h) (length m.now) × (i < size_of (shape_of h) t) }
     ensures { result ≡ table_at t (tables_of (shape_of h) m.now) i }
 {
     crate::word(m, start(h, t) + i)
 }
 
-// Entry i of table t, 0 where it is not below the bound.
-fn get(h: Shape, m: &[u8], t: Table, i: usize, bound: usize) -> usize
+// Entry i of table t, 0 where it is not below the table's bound.
+pub fn get(h: Shape, m: &[u8], t: Table, i: usize) -> usize
     requires { Fits (shape_of h) (length m.now) × (i < size_of (shape_of h) t) }
-    ensures { result ≡ fit_of bound (table_at t (tables_of (shape_of h) m.now) i) }
+    ensures { result ≡ fit_of (bound_of (shape_of h) t) (table_at t (tables_of (shape_of h) m.now) i) }
 {
-    fit(bound, entry(h, m, t, i))
+    fit(bound(h, t), entry(h, m, t, i))
 }
 
 // Stores v as entry i of table t.
@@ -85,17 +112,25 @@ pub fn set(h: Shape, m: &mut [u8], t: Table, i: usize, v: usize)
     crate::set_word(m, start(h, t) + i, v);
 }
 
+// The n entries of table t from entry `base` on become v.
+pub fn fill(h: Shape, m: &mut [u8], t: Table, base: usize, n: usize, v: usize)
+    requires { Fits (shape_of h) (length m.old) × (base + n ≤ size_of (shape_of h) t) × (v < 65536) }
+    ensures { tables_of (shape_of h) m.new ≡ with_table t (put_all base (replicate n v) (table_at t (tables_of (shape_of h) m.old))) (tables_of (shape_of h) m.old) }
+{
+    for i in 0..n {
+        set(h, m, t, base + i, v);
+    }
+}
+
 // Entry `from` of table t leaves: the entries behind it, up to entry `last`, move down by one, each as it is read below the bound. A copy of
 // the bytes would do, but the compiler makes a call of that, which costs every completion more than the few jobs that end gain.
 pub fn close_up(h: Shape, m: &mut [u8], t: Table, from: usize, last: usize, bound: usize)
     requires { Fits (shape_of h) (length m.old) × (from ≤ last) × (last < size_of (shape_of h) t) }
     ensures { tables_of (shape_of h) m.new ≡ with_table t (closed_up bound from last (table_at t (tables_of (shape_of h) m.old))) (tables_of (shape_of h) m.old) }
 {
-    let mut i = from;
-    while i < last {
-        let v = get(h, m, t, i + 1, bound);
+    for i in from..last {
+        let v = fit(bound, entry(h, m, t, i + 1));
         set(h, m, t, i, v);
-        i += 1;
     }
 }
 
@@ -109,182 +144,10 @@ fn numbers(m: &[u8], k: usize, n: usize) -> &[u8]
     &m[a..e]
 }
 
-// The bytes of the n entries of table t from entry i on.
-fn bytes(h: Shape, m: &[u8], t: Table, i: usize, n: usize) -> &[u8]
+// The bytes of the n entries of table t from entry i on. A loop over these has one index to go by.
+pub fn bytes(h: Shape, m: &[u8], t: Table, i: usize, n: usize) -> &[u8]
     requires { Fits (shape_of h) (length m.now) × (i + n ≤ size_of (shape_of h) t) }
     ensures { Numbers result.now n (λ k. table_at t (tables_of (shape_of h) m.now) (i + k)) }
 {
     numbers(m, start(h, t) + i, n)
-}
-
-// The partition of job i of the queue.
-pub fn job(h: Shape, m: &[u8], i: usize) -> usize
-    requires { Fits (shape_of h) (length m.now) × (i < 64) }
-    ensures { result ≡ fit_of h.p ((tables_of (shape_of h) m.now).queue i) }
-{
-    get(h, m, Table::Queue, i, h.p)
-}
-
-pub fn set_job(h: Shape, m: &mut [u8], i: usize, v: usize)
-    requires { Fits (shape_of h) (length m.old) × (i < 64) × (v < 65536) }
-    ensures { tables_of (shape_of h) m.new ≡ with_queue (put_at i v (tables_of (shape_of h) m.old).queue) (tables_of (shape_of h) m.old) }
-{
-    set(h, m, Table::Queue, i, v);
-}
-
-// The number that has partition and kind of outstanding command i.
-pub fn command_kind(h: Shape, m: &[u8], i: usize) -> usize
-    requires { Fits (shape_of h) (length m.now) × (i < 32) }
-    ensures { result ≡ (tables_of (shape_of h) m.now).kinds i }
-{
-    entry(h, m, Table::Kinds, i)
-}
-
-pub fn set_command_kind(h: Shape, m: &mut [u8], i: usize, v: usize)
-    requires { Fits (shape_of h) (length m.old) × (i < 32) × (v < 65536) }
-    ensures { tables_of (shape_of h) m.new ≡ with_kinds (put_at i v (tables_of (shape_of h) m.old).kinds) (tables_of (shape_of h) m.old) }
-{
-    set(h, m, Table::Kinds, i, v);
-}
-
-// The number that has level and slot of outstanding command i.
-pub fn command_spot(h: Shape, m: &[u8], i: usize) -> usize
-    requires { Fits (shape_of h) (length m.now) × (i < 32) }
-    ensures { result ≡ (tables_of (shape_of h) m.now).spots i }
-{
-    entry(h, m, Table::Spots, i)
-}
-
-pub fn set_command_spot(h: Shape, m: &mut [u8], i: usize, v: usize)
-    requires { Fits (shape_of h) (length m.old) × (i < 32) × (v < 65536) }
-    ensures { tables_of (shape_of h) m.new ≡ with_spots (put_at i v (tables_of (shape_of h) m.old).spots) (tables_of (shape_of h) m.old) }
-{
-    set(h, m, Table::Spots, i, v);
-}
-
-// The counter of partition q.
-pub fn counter(h: Shape, m: &[u8], q: usize) -> usize
-    requires { Fits (shape_of h) (length m.now) × (q < 64) }
-    ensures { result ≡ fit_of (2 ^ h.l) ((tables_of (shape_of h) m.now).counter q) }
-{
-    get(h, m, Table::Counter, q, bits::pow2(h.l))
-}
-
-pub fn set_counter(h: Shape, m: &mut [u8], q: usize, v: usize)
-    requires { Fits (shape_of h) (length m.old) × (q < 64) × (v < 65536) }
-    ensures { tables_of (shape_of h) m.new ≡ with_counter (put_at q v (tables_of (shape_of h) m.old).counter) (tables_of (shape_of h) m.old) }
-{
-    set(h, m, Table::Counter, q, v);
-}
-
-// The partition of block b.
-pub fn partition(h: Shape, m: &[u8], b: usize) -> usize
-    requires { Fits (shape_of h) (length m.now) × (b < h.n) }
-    ensures { result ≡ fit_of h.p ((tables_of (shape_of h) m.now).partition b) }
-{
-    get(h, m, Table::Partition, b, h.p)
-}
-
-pub fn set_partition(h: Shape, m: &mut [u8], b: usize, v: usize)
-    requires { Fits (shape_of h) (length m.old) × (b < h.n) × (v < 65536) }
-    ensures { tables_of (shape_of h) m.new ≡ with_partition (put_at b v (tables_of (shape_of h) m.old).partition) (tables_of (shape_of h) m.old) }
-{
-    set(h, m, Table::Partition, b, v);
-}
-
-// The place of block b: 0 or 1 for nowhere, else slots(level) + slot.
-pub fn place(h: Shape, m: &[u8], b: usize) -> usize
-    requires { Fits (shape_of h) (length m.now) × (b < h.n) }
-    ensures { result ≡ fit_of (slots h.l) ((tables_of (shape_of h) m.now).place b) }
-{
-    get(h, m, Table::Place, b, bits::pow2(h.l + 1))
-}
-
-pub fn set_place(h: Shape, m: &mut [u8], b: usize, v: usize)
-    requires { Fits (shape_of h) (length m.old) × (b < h.n) × (v < 65536) }
-    ensures { tables_of (shape_of h) m.new ≡ with_place (put_at b v (tables_of (shape_of h) m.old).place) (tables_of (shape_of h) m.old) }
-{
-    set(h, m, Table::Place, b, v);
-}
-
-// Block i of those that wait.
-pub fn waiting(h: Shape, m: &[u8], i: usize) -> usize
-    requires { Fits (shape_of h) (length m.now) × (i < h.n) }
-    ensures { result ≡ fit_of h.n ((tables_of (shape_of h) m.now).waiting i) }
-{
-    get(h, m, Table::Waiting, i, h.n)
-}
-
-pub fn set_waiting(h: Shape, m: &mut [u8], i: usize, v: usize)
-    requires { Fits (shape_of h) (length m.old) × (i < h.n) × (v < 65536) }
-    ensures { tables_of (shape_of h) m.new ≡ with_waiting (put_at i v (tables_of (shape_of h) m.old).waiting) (tables_of (shape_of h) m.old) }
-{
-    set(h, m, Table::Waiting, i, v);
-}
-
-// The slot of the item at cell c, of a level of `bound` slots.
-pub fn order(h: Shape, m: &[u8], bound: usize, c: usize) -> usize
-    requires { Fits (shape_of h) (length m.now) × (c < h.p * slots h.l) }
-    ensures { result ≡ fit_of (bound) ((tables_of (shape_of h) m.now).order c) }
-{
-    get(h, m, Table::Order, c, bound)
-}
-
-pub fn set_order(h: Shape, m: &mut [u8], c: usize, v: usize)
-    requires { Fits (shape_of h) (length m.old) × (c < h.p * slots h.l) × (v < 65536) }
-    ensures { tables_of (shape_of h) m.new ≡ with_order (put_at c v (tables_of (shape_of h) m.old).order) (tables_of (shape_of h) m.old) }
-{
-    set(h, m, Table::Order, c, v);
-}
-
-// What the slot at cell c holds: 0 for a dummy, b + 1 for block b.
-pub fn holds(h: Shape, m: &[u8], c: usize) -> usize
-    requires { Fits (shape_of h) (length m.now) × (c < h.p * slots h.l) }
-    ensures { result ≡ fit_of (h.n + 1) ((tables_of (shape_of h) m.now).holds c) }
-{
-    get(h, m, Table::Holds, c, h.n + 1)
-}
-
-pub fn set_holds(h: Shape, m: &mut [u8], c: usize, v: usize)
-    requires { Fits (shape_of h) (length m.old) × (c < h.p * slots h.l) × (v < 65536) }
-    ensures { tables_of (shape_of h) m.new ≡ with_holds (put_at c v (tables_of (shape_of h) m.old).holds) (tables_of (shape_of h) m.old) }
-{
-    set(h, m, Table::Holds, c, v);
-}
-
-// 1 if the slot at cell c is unread.
-pub fn mark(h: Shape, m: &[u8], c: usize) -> usize
-    requires { Fits (shape_of h) (length m.now) × (c < h.p * slots h.l) }
-    ensures { result ≡ fit_of (2) ((tables_of (shape_of h) m.now).mark c) }
-{
-    get(h, m, Table::Mark, c, 2)
-}
-
-pub fn set_mark(h: Shape, m: &mut [u8], c: usize, v: usize)
-    requires { Fits (shape_of h) (length m.old) × (c < h.p * slots h.l) × (v < 65536) }
-    ensures { tables_of (shape_of h) m.new ≡ with_mark (put_at c v (tables_of (shape_of h) m.old).mark) (tables_of (shape_of h) m.old) }
-{
-    set(h, m, Table::Mark, c, v);
-}
-
-// Of the n cells from cell c on: the bytes of the items' slots, of what the slots hold, of their marks. A loop over these has one index to go by.
-pub fn order_bytes(h: Shape, m: &[u8], c: usize, n: usize) -> &[u8]
-    requires { Fits (shape_of h) (length m.now) × (c + n ≤ h.p * slots h.l) }
-    ensures { Numbers result.now n (λ i. (tables_of (shape_of h) m.now).order (c + i)) }
-{
-    bytes(h, m, Table::Order, c, n)
-}
-
-pub fn holds_bytes(h: Shape, m: &[u8], c: usize, n: usize) -> &[u8]
-    requires { Fits (shape_of h) (length m.now) × (c + n ≤ h.p * slots h.l) }
-    ensures { Numbers result.now n (λ i. (tables_of (shape_of h) m.now).holds (c + i)) }
-{
-    bytes(h, m, Table::Holds, c, n)
-}
-
-pub fn mark_bytes(h: Shape, m: &[u8], c: usize, n: usize) -> &[u8]
-    requires { Fits (shape_of h) (length m.now) × (c + n ≤ h.p * slots h.l) }
-    ensures { Numbers result.now n (λ i. (tables_of (shape_of h) m.now).mark (c + i)) }
-{
-    bytes(h, m, Table::Mark, c, n)
 }

@@ -8,28 +8,30 @@ ghost use Rattle.rules.specs.Memory.{needed};
 ghost use Rattle.rules.specs.Questions.{opening};
 ghost use Rattle.memory.specs.Fits.{shape_of};
 ghost use Rattle.tape.specs.Tape.{words_of};
-ghost use Rattle.contract.specs.Answers.{cleared_client};
+ghost use Rattle.contract.specs.Answers.{code_of, answered, cleared_client};
 ghost use Rattle.contract.specs.Meets.{Meets};
-ghost use Rattle.opening.specs.Opening.{open_number, fresh_client, Filled};
+ghost use Rattle.opening.specs.Opening.{open_number, Filled};
 
-use client::{Client, Request};
-use contract::Answer;
+use client::Client;
+use contract::{Accepted, Refusal};
 use memory::Shape;
+use memory::tables::{self, Table};
 
-// The number of an open, by the lengths lent.
-fn number(h: Shape, len: usize, words: usize) -> usize
-    ensures { result ≡ open_number (shape_of h) len words }
+// The questions of an open, by the lengths lent.
+#[tactic(auto, unfolding(crate::specs::Opening::open_number, rules::specs::Questions::first_no))]
+fn ask(h: Shape, len: usize, words: usize) -> Result<(), Refusal>
+    ensures { code_of result ≡ open_number (shape_of h) len words }
 {
     if !contract::is_within(h) {
-        return 1;
+        return Err(Refusal::Bounds);
     }
     if len < contract::needed(h) {
-        return 2;
+        return Err(Refusal::Unready);
     }
     if words < h.n {
-        return 3;
+        return Err(Refusal::Words);
     }
-    0
+    Ok(())
 }
 
 // All of the memory that the shape needs is cleared.
@@ -46,40 +48,17 @@ fn draw_partitions(h: Shape, m: &mut [u8], tape: &[u8])
     requires { (within (shape_of h) ≡ true) × (needed (shape_of h) ≤ length m.old) × (h.n ≤ length (words_of tape.now)) × Filled h 0 m.old tape.now m.old }
     ensures { Filled h h.n m.old tape.now m.new }
 {
-    let n = h.n;
-    let p = h.p;
-    let mut b = 0;
-    while b < n {
-        let q = tape::draw(tape, b, p);
-        memory::tables::set_partition(h, m, b, q);
-        b += 1;
+    for b in 0..h.n {
+        let q = tape::draw(tape, b, h.p);
+        tables::set(h, m, Table::Partition, b, q);
     }
 }
 
-// The client of a fresh store.
-fn fresh(h: Shape) -> Client
-    ensures { result ≡ fresh_client h }
+pub fn open(h: Shape, m: &mut [u8], tape: &[u8]) -> Result<Accepted, Refusal>
+    ensures { Meets cleared_client closed_state (opening (shape_of h)) m.old tape.now [] (answered cleared_client result) m.new [] }
 {
-    Client {
-        shape: h,
-        request: Request::none(),
-        jobs: 0,
-        begun: 0,
-        cursor: 0,
-        sent: 0,
-        waiting: 0,
-        out: 0,
-    }
-}
-
-pub fn open(h: Shape, m: &mut [u8], tape: &[u8]) -> Answer
-    ensures { Meets cleared_client closed_state (opening (shape_of h)) m.old tape.now [] result m.new [] }
-{
-    let n = number(h, m.len(), tape::words(tape));
-    if n != 0 {
-        return contract::refused(n, contract::closed());
-    }
+    ask(h, m.len(), tape::words(tape))?;
     clear(h, m);
     draw_partitions(h, m, tape);
-    contract::accepted(fresh(h), h.n)
+    Ok(Accepted::new(Client::resting(h, 0, 0), h.n))
 }

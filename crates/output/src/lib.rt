@@ -43,6 +43,7 @@ fn write_whole<W: Write>(text: &[u8], writer: &mut W) -> io::Result<()>
     ensures part { OnErr result (Part text.now (W.contents writer.old) (W.contents writer.new)) }
 {
     let mut done = 0;
+    // `done` goes on by what a write took, which no range counts
     while done < text.len() {
         let n = writer.write(&text[done..])?;
         if n == 0 {
@@ -94,7 +95,7 @@ pub fn flush<W: Write>(out: &mut [u8; OUT], o: Output, writer: &mut W) -> io::Re
     let at = o.at;
     let text = &all[..at];
     leave(text, o, writer)?;
-    let gone = o.gone + text.len() as u64;
+    let gone = o.gone + text.len() as u64; // as, since std has no From of usize for u64; so below
     Ok(Output {
         at: 0,
         gone,

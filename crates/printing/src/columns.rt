@@ -25,13 +25,9 @@ fn blanks(out: &mut [u8], at: usize, n: usize) -> usize
     requires { at + n ≤ length out.old }
     ensures { Written out.old at (replicate n blank) out.new result }
 {
-    let mut k = at;
-    let mut i = 0;
-    while i < n {
-        k = crate::put(out, k, b' ');
-        i += 1;
-    }
-    k
+    let end = at + n;
+    out[at..end].fill(b' ');
+    end
 }
 
 // A number in `columns` columns, right-aligned.

@@ -1,4 +1,5 @@
-// The text of an answer, put into a buffer from a place on. Each function returns the place behind it.
+// The text of an answer, put into a buffer from a place on. Each function returns the place behind it. Buffer and place are two arguments: of a
+// struct of both a clause would have to name the two parts for `Written`.
 #![tactic(auto)]
 
 pub mod columns;
@@ -16,13 +17,13 @@ fn put(out: &mut [u8], at: usize, b: u8) -> usize
     at + 1
 }
 
-fn digit(d: usize) -> u8
+fn digit(d: u8) -> u8
     requires { d < 16 }
     ensures { result ≡ digit_of d }
 {
     match d {
-        0..=9 => b'0' + d as u8,
-        _ => b'a' + (d - 10) as u8,
+        0..=9 => b'0' + d,
+        _ => b'a' + (d - 10),
     }
 }
 
@@ -35,10 +36,10 @@ fn digits(out: &mut [u8], at: usize, n: usize) -> usize
     ensures { Written out.old at (decimal n) out.new result }
 {
     if n < 10 {
-        return put(out, at, digit(n));
+        return put(out, at, digit(n as u8)); // as, since it fits: TryFrom would answer an Err that never comes; so below
     }
     let k = digits(out, at, n / 10);
-    put(out, k, digit(n % 10))
+    put(out, k, digit((n % 10) as u8))
 }
 
 // The line of a refusal, or of an accepted O, R or W. It has at most 6 bytes; the room is that of a command's line.
@@ -59,13 +60,14 @@ fn field(out: &mut [u8], at: usize, n: usize) -> usize
     digits(out, k, n)
 }
 
+// The kind is a number: the answer's (see `command`).
 fn letter(kind: usize) -> u8
     ensures { result ≡ letter_of kind }
 {
     if kind == client::READ { b'r' } else { b'w' }
 }
 
-// The line of an accepted t: at most 22 bytes.
+// The line of an accepted t: at most 22 bytes. The kind is a number: that of `Accepted`, which the C interface has.
 pub fn command(
     out: &mut [u8],
     at: usize,
@@ -91,8 +93,8 @@ fn pair(out: &mut [u8], at: usize, b: u8) -> usize
     requires { at + 2 ≤ length out.old }
     ensures { Written out.old at (digit_of (b / 16) ∷ digit_of (b % 16) ∷ []) out.new result }
 {
-    let k = put(out, at, digit((b / 16) as usize));
-    put(out, k, digit((b % 16) as usize))
+    let k = put(out, at, digit(b / 16));
+    put(out, k, digit(b % 16))
 }
 
 fn pairs(out: &mut [u8], at: usize, bytes: &[u8]) -> usize
@@ -100,10 +102,8 @@ fn pairs(out: &mut [u8], at: usize, bytes: &[u8]) -> usize
     ensures { Written out.old at (hexadecimal bytes.now) out.new result }
 {
     let mut k = at;
-    let mut i: usize = 0;
-    while i < bytes.len() {
-        k = pair(out, k, bytes[i]);
-        i += 1;
+    for b in bytes {
+        k = pair(out, k, *b);
     }
     k
 }

@@ -1,5 +1,5 @@
 -- The slot that a look-up reads of a level, by the level and the number of its block's place.
-use Rattle.std.specs.Prelude.{◌≡◌, Bool, not, ◌&&◌, List, ℕ, suc, ◌+◌, ◌-◌, ◌≤◌, ◌<◌, ltb, if◌then◌else◌}
+use Rattle.std.specs.Prelude.{◌≡◌, Bool, not, ◌&&◌, List, ℕ, suc, ◌+◌, ◌-◌, ◌≤◌, ◌<◌, eqb, ltb, if◌then◌else◌}
 use Rattle.std.proofs.Math.Path.{refl, sym}
 use Rattle.std.proofs.Common.{ap, ◌∙◌, true≢false, arith, pow_pos, pow_mono, eqb-true, lt-ltb, le-ltb}
 use Rattle.std.proofs.Math.Bool.{true, false}
@@ -14,7 +14,8 @@ use Rattle.rules.specs.Laws.Range.{PlaceIn}
 use Rattle.memory.specs.Fits.{shape_of, fit, fit-lt}
 use Rattle.memory.specs.Tables.{tables_of}
 use Rattle.client.specs.declared.Client.{Client}
-use Rattle.client.specs.declared.Found.{Found}
+use Rattle.std.specs.Prelude as code
+use Rattle.std.specs.Option.{option_eq}
 use Rattle.client.specs.View.{level_of, place_of, view, state_of, found_of}
 use Rattle.client.specs.Changes.{level-is, level-le}
 use Rattle.ready.specs.Usable.{Usable}
@@ -39,8 +40,14 @@ placed-lt c m x e = rw e (fit-lt (slots c.shape.l) ((tables_of (shape_of c.shape
 -- ---- The level where it resides
 
 -- found by the number x of a place, whatever the number n of levels
-abbrev pub LevelFound : ℕ → Found → Type 0
+abbrev pub LevelFound : ℕ → code.Option ℕ → Type 0
 LevelFound x found = (n : ℕ) → x < slots n → found_of found ≡ Reader.level_of (place_of n x)
+
+-- whether a level is the one found
+pub found-is : (found : code.Option ℕ) (ℓ : ℕ) → option_eq eqb found (code.Some ℓ) ≡ is_level (found_of found) ℓ
+unfolding is_level
+found-is (code.Some k) ℓ = refl
+found-is code.None ℓ = refl
 
 -- the level of a slot's number
 pub level-of : (n x ℓ : ℕ) → x < slots n → slots ℓ ≤ x → x < slots (suc ℓ) → level_of n x ≡ ℓ

@@ -4,12 +4,11 @@
 
 ghost use Rattle.std.specs.Prelude.{true, false, ◌≡◌, ◌<◌, ◌≤◌};
 ghost use Rattle.lists.specs.Search.{any, below};
-ghost use Rattle.rules.specs.Shape.{slots};
 ghost use Rattle.rules.specs.Blocks.{is_unread};
 ghost use Rattle.rules.specs.Request.{is_source, worn};
-ghost use Rattle.rules.specs.Reader.{condition, costing, costs as costs_of, read_fake, is_cached_in, read_real, is_level, slot_read};
+ghost use Rattle.rules.specs.Reader.{condition, costing, costs as costs_of, read_fake, is_cached_in, read_real, slot_read};
 ghost use Rattle.client.specs.View.{state_of, found_of};
-ghost use Rattle.client.specs.Moves.{Room};
+ghost use Rattle.client.specs.Moves.{HasLevel, HasSlot, Room};
 ghost use Rattle.ready.specs.Usable.{Usable};
 ghost use Rattle.jobs.specs.Runs.{CounterOf};
 ghost use Rattle.levels.specs.Next.{NextLevel};
@@ -17,7 +16,8 @@ ghost use Rattle.reading.specs.Sources.{Sources};
 ghost use Rattle.reading.specs.Conditions.{condition_of, ReadAs};
 ghost use Rattle.reading.specs.Slots.{Reads, Placed, LevelFound};
 
-use client::{Client, Found};
+use client::Client;
+use memory::tables::{self, Table};
 
 // ReadPartition, 2): a level is empty; is not marked for shuffling; is marked, but all its blocks have been cached in; or none of these.
 #[derive(Clone, Copy)]
@@ -30,17 +30,18 @@ pub enum Condition {
 
 // ReadPartition, 1): the level where a block resides, by the number x of its place, which is 2^(level + 1) + slot; or nothing, the text's ⊥: below 2 it
 // waits in the cache or is nowhere.
-pub fn level_of(x: usize) -> Found
+pub fn level_of(x: usize) -> Option<usize>
     requires { x ≤ 65536 }
     ensures { LevelFound x result }
 {
     if x < 2 {
-        return Found::Nothing;
+        return None;
     }
-    Found::At(bits::level_of(x - 2))
+    Some(bits::level_of(x - 2))
 }
 
-// The filled levels of partition q below this number are sources of the front job; 0 if that is for another partition.
+// The filled levels of partition q below this number are sources of the front job; 0 if that is for another partition. No Option: it
+// is a bound, below which no level is then.
 pub fn sources(c: Client, m: &[u8], q: usize) -> usize
     requires { Room c m.now × (c.jobs ≤ 64) × (q < c.shape.p) × (c.begun ≤ 64) }
     ensures { Sources c m.now q result }
@@ -64,7 +65,7 @@ fn condition_of(
     sources: usize,
     l: usize,
 ) -> Condition
-    requires { Room c m.now × (q < c.shape.p) × (l < c.shape.l) × CounterOf c m.now q counter × Sources c m.now q sources }
+    requires { HasLevel c m.now q l × CounterOf c m.now q counter × Sources c m.now q sources }
     ensures { condition_of result ≡ condition (state_of c m.now) q l }
 {
     if !bits::filled(counter, l) {
@@ -83,38 +84,32 @@ fn condition_of(
 fn costs(x: Condition) -> bool
     ensures { result ≡ costing (condition_of x) }
 {
-    match x {
-        Condition::Empty => false,
-        Condition::Unmarked => true,
-        Condition::AllRead => false,
-        Condition::SomeUnread => true,
-    }
+    matches!(x, Condition::Unmarked | Condition::SomeUnread)
 }
 
-// ReadPartition, 2): goes over the conditions of the levels from the request's on, up to the first that costs a read; or L where there is none. Mostly no
-// marked level is left, and then it is the next filled one.
-pub fn next_level(c: Client, m: &[u8], q: usize, sources: usize) -> usize
+// ReadPartition, 2): goes over the conditions of the levels from the request's on, up to the first that costs a read, if one does. Mostly no marked level is
+// left, and then it is the next filled one.
+pub fn next_level(c: Client, m: &[u8], q: usize, sources: usize) -> Option<usize>
     requires { Room c m.now × (q < c.shape.p) × (c.request.level ≤ c.shape.l) × Sources c m.now q sources }
     ensures { NextLevel (costs_of (state_of c m.now) q) c.shape.l c.request.level result }
 {
     let levels = c.shape.l;
-    let counter = memory::tables::counter(c.shape, m, q);
-    let mut l = c.request.level;
-    if sources <= l {
-        return levels::next_filled(levels, counter, l);
+    let counter = tables::get(c.shape, m, Table::Counter, q);
+    let from = c.request.level;
+    if sources <= from {
+        return levels::next_filled(levels, counter, from);
     }
-    while l < levels {
+    for l in from..levels {
         if costs(condition_of(c, m, q, counter, sources, l)) {
-            return l;
+            return Some(l);
         }
-        l += 1;
     }
-    l
+    None
 }
 
 // ReadFake(l): the next dummy; or, where the level is being shuffled, an early cache-in of its lowest unread item, block or dummy.
-fn read_fake(c: Client, m: &[u8], q: usize, l: usize, marked: bool) -> Found
-    requires { Room c m.now × (q < c.shape.p) × (l < c.shape.l) × ReadAs (state_of c m.now) q l marked }
+fn read_fake(c: Client, m: &[u8], q: usize, l: usize, marked: bool) -> Option<usize>
+    requires { HasLevel c m.now q l × ReadAs (state_of c m.now) q l marked }
     ensures { found_of result ≡ read_fake (state_of c m.now) q l (condition (state_of c m.now) q l) }
 {
     levels::item(c, m, q, l, marked)
@@ -123,47 +118,37 @@ fn read_fake(c: Client, m: &[u8], q: usize, l: usize, marked: bool) -> Found
 // ReadReal's question, whether the block in slot i has been cached in: its slot was read, and the level is marked. In another level the slot is read
 // whatever its mark is, which is asked all the same: a branch would cost a look-up more.
 fn is_cached_in(c: Client, m: &[u8], q: usize, l: usize, i: usize, marked: bool) -> bool
-    requires { Room c m.now × (q < c.shape.p) × (l < c.shape.l) × (i < slots l) × ReadAs (state_of c m.now) q l marked }
+    requires { HasSlot c m.now q l i × ReadAs (state_of c m.now) q l marked }
     ensures { result ≡ is_cached_in (condition (state_of c m.now) q l) (is_unread (state_of c m.now) q l i) }
 {
     !levels::is_unread(c, m, q, l, i) & marked
 }
 
 // ReadReal(l, blockid), of the block in slot i.
-fn read_real(c: Client, m: &[u8], q: usize, l: usize, i: usize, marked: bool) -> Found
-    requires { Room c m.now × (q < c.shape.p) × (l < c.shape.l) × (i < slots l) × ReadAs (state_of c m.now) q l marked }
+fn read_real(c: Client, m: &[u8], q: usize, l: usize, i: usize, marked: bool) -> Option<usize>
+    requires { HasSlot c m.now q l i × ReadAs (state_of c m.now) q l marked }
     ensures { found_of result ≡ read_real (state_of c m.now) q l i (condition (state_of c m.now) q l) }
 {
     if is_cached_in(c, m, q, l, i, marked) {
         return read_fake(c, m, q, l, marked);
     }
-    Found::At(i)
+    Some(i)
 }
 
-// Whether l is the level that was found, the text's l = l*.
-fn is_level(found: Found, l: usize) -> bool
-    ensures { result ≡ is_level (found_of found) l }
-{
-    match found {
-        Found::At(k) => k == l,
-        Found::Nothing => false,
-    }
-}
-
-// ReadPartition, 3), of level l, which costs a read: the slot that is read for the block whose place has the number x, in the level that was found.
+// ReadPartition, 3), of level l, which costs a read: the slot that is read for the block whose place has the number x, in the level l* that was found.
 pub fn read_level(
     c: Client,
     m: &[u8],
     q: usize,
     l: usize,
     x: usize,
-    found: Found,
+    found: Option<usize>,
     sources: usize,
-) -> Found
+) -> Option<usize>
     requires { Usable c m.now × Reads c m.now q × (l < c.shape.l) × (costs_of (state_of c m.now) q l ≡ true) × Placed c m.now x × LevelFound x found × Sources c m.now q sources }
     ensures { found_of result ≡ slot_read (state_of c m.now) q ((state_of c m.now).place c.request.block) l }
 {
-    if is_level(found, l) {
+    if found == Some(l) {
         let n = bits::pow2(l + 1);
         return read_real(c, m, q, l, x - n, l < sources);
     }
@@ -172,7 +157,7 @@ pub fn read_level(
 
 // Whether level l, which is no source, is filled and has been read 2^l times.
 fn wears(c: Client, m: &[u8], q: usize, counter: usize, l: usize) -> bool
-    requires { Room c m.now × (q < c.shape.p) × (l < c.shape.l) × CounterOf c m.now q counter × (is_source (state_of c m.now) q l ≡ false) }
+    requires { HasLevel c m.now q l × CounterOf c m.now q counter × (is_source (state_of c m.now) q l ≡ false) }
     ensures { result ≡ worn (state_of c m.now) q l }
 {
     if !bits::filled(counter, l) {
@@ -186,14 +171,12 @@ pub fn is_worn(c: Client, m: &[u8], q: usize) -> bool
     requires { Room c m.now × (c.jobs ≤ 64) × (q < c.shape.p) × (c.begun ≤ 64) }
     ensures { result ≡ any (worn (state_of c m.now) q) (below c.shape.l) }
 {
-    let levels = c.shape.l;
-    let counter = memory::tables::counter(c.shape, m, q);
-    let mut l = sources(c, m, q);
-    while l < levels {
+    let counter = tables::get(c.shape, m, Table::Counter, q);
+    let from = sources(c, m, q);
+    for l in from..c.shape.l {
         if wears(c, m, q, counter, l) {
             return true;
         }
-        l += 1;
     }
     false
 }

@@ -1,16 +1,28 @@
--- Parts of a table that are filled from their start.
-use Rattle.std.specs.Prelude.{◌≡◌, [], ◌∷◌, ◌++◌, ℕ, zero, suc, ◌+◌, length, replicate}
+-- Parts of a table that are filled.
+use Rattle.std.specs.Prelude.{◌≡◌, [], ◌∷◌, ◌++◌, ℕ, zero, suc, ◌+◌, ◌-◌, ◌<◌, length, replicate}
 use Rattle.std.proofs.Common.{ap, sym, ◌∙◌, arith}
-use Rattle.std.proofs.lemmas.List.{length-replicate, replicate-append-replicate}
+use Rattle.std.proofs.Math.Path.{fun_ext}
+use Rattle.std.proofs.Math.Decide.{dec_lt}
+use Rattle.std.proofs.lemmas.List.{length-replicate, get_or-replicate}
 use Rattle.lists.specs.Entries.{put-more}
 use Rattle.lists.specs.Search.{below, count}
 use Rattle.lists.specs.Lengths.{length-below}
-use Rattle.lists.specs.Tables.{put, put_all}
+use Rattle.lists.specs.Tables.{put, put_all, put_all-in, put_all-before, put_all-behind}
+use Rattle.memory.specs.Fits.{fit, fit-in}
 
-pub fill-same : (a n v : ℕ) (f : ℕ → ℕ) → put (a + n) v (put_all a (replicate n v) f) ≡ put_all a (replicate (n + 1) v) f
-fill-same a n v f =
-    let e : length (replicate n v) ≡ n = length-replicate n v in
-    rw (← replicate-append-replicate n 1 v) (ap (λ k. put (a + k) v (put_all a (replicate n v) f)) (sym e) ∙ put-more a (replicate n v) f v)
+-- entries that all become v, which is in range, and are read as they are
+pub fit-same : (bound : ℕ → ℕ) (a n v : ℕ) (f : ℕ → ℕ) → ((x : ℕ) → v < bound x) → ◌≡◌ {A = ℕ → ℕ} (λ x. fit (bound x) (put_all a (replicate n v) f x)) (put_all a (replicate n v) (λ x. fit (bound x) (f x)))
+fit-same bound a n v f l = fun_ext (λ x. go x (dec_lt x a) (dec_lt x (a + length (replicate n v))))
+  where
+    g : ℕ → ℕ
+    g x = fit (bound x) (f x)
+
+    go : (x : ℕ) → Dec (x < a) → Dec (x < a + length (replicate n v)) → fit (bound x) (put_all a (replicate n v) f x) ≡ put_all a (replicate n v) g x
+    go x (yes k) d = ap (fit (bound x)) (put_all-before a (replicate n v) f x k) ∙ sym (put_all-before a (replicate n v) g x k)
+    go x (no k) (no d) = ap (fit (bound x)) (put_all-behind a (replicate n v) f x (omega arith)) ∙ sym (put_all-behind a (replicate n v) g x (omega arith))
+    go x (no k) (yes d) =
+        let is = get_or-replicate n (x - a) v 0 (omega (arith, length-replicate {A = ℕ} n v)) in
+        ap (fit (bound x)) (put_all-in a (replicate n v) f x (omega arith) d ∙ is) ∙ fit-in (bound x) v (l x) ∙ sym (put_all-in a (replicate n v) g x (omega arith) d ∙ is)
 
 count-more : (a n : ℕ) → count a n ++ ((a + n) ∷ []) ≡ count a (suc n)
 unfolding count

@@ -1,5 +1,5 @@
 -- The order's draws and exchanges, as the code counts them.
-use Rattle.std.specs.Prelude.{◌≡◌, List, ◌∷◌, ℕ, zero, suc, ◌+◌, ◌-◌, ◌%◌, ◌≤◌, ◌<◌, length, get_or, set, drop}
+use Rattle.std.specs.Prelude.{◌≡◌, List, ◌∷◌, Option, Some, None, IsSome, ℕ, zero, suc, ◌+◌, ◌-◌, ◌%◌, ◌≤◌, ◌<◌, length, get_or, set, drop}
 use Rattle.std.proofs.Math.Path.{refl, sym}
 use Rattle.std.proofs.Common.{ap, ◌∙◌, length-set}
 use native.Mathlib.Omega.{arith}
@@ -19,6 +19,7 @@ use Rattle.rules.specs.Laws.Draws.{Enough}
 use Rattle.rules.proofs.Laws.Kept.{drew-of}
 use Rattle.rules.specs.Laws.Drawn.{SettledBy}
 use Rattle.rules.proofs.Laws.Drawn.{settle-next, settle-taken}
+use Rattle.tape.specs.Settled.{Settles, settled-end}
 use Rattle.lists.specs.Entries.{put_all-at, put_in, put_all-over}
 use Rattle.rebuild.specs.Steps.{stays, moved, ordered}
 
@@ -90,28 +91,31 @@ module _ (c : Client) (m m₀ : List ℕ) (base n from : ℕ) (ws : List ℕ) (s
       none : taken_of (draws (order_bounds (i + 1)) (drop k ws)) ≡ 0
       none = ap (λ bs. taken_of (draws bs (drop k ws))) (bounds-none (i + 1) (omega arith)) ∙ unfold draws taken_of in refl
 
-module _ (c : Client) (m₀ m : List ℕ) (base n from i k : ℕ) (ws : List ℕ) (p : 0 < i) (d : Drawing c m₀ m base n from i k ws) (r : ℕ) (x : SettledBy (i + 1) ws k r) where
+module _ (c : Client) (m₀ m : List ℕ) (base n from i k : ℕ) (ws : List ℕ) (p : 0 < i) (d : Drawing c m₀ m base n from i k ws) where
   -- the draw below i + 1, and those that are left after it
   bounds-is : order_bounds (i + 1) ≡ (i + 1) ∷ order_bounds i
   bounds-is = let e : i + 1 - 1 ≡ i = omega arith in bounds-next (i + 1) (omega arith) ∙ ap (λ a. (i + 1) ∷ order_bounds a) e
 
-  settled-next : (r < length ws) × Enough (order_bounds i) (drop (r + 1) ws) × (left i k ws ≡ (get_or ws r 0 % (i + 1)) ∷ numbers_of (draws (order_bounds i) (drop (r + 1) ws)))
-  settled-next = rw bounds-is (settle-next (i + 1) (order_bounds i) ws k r x (rw (← bounds-is) d.enough))
+  settled-next : (r : ℕ) → SettledBy (i + 1) ws k r → (r < length ws) × Enough (order_bounds i) (drop (r + 1) ws) × (left i k ws ≡ (get_or ws r 0 % (i + 1)) ∷ numbers_of (draws (order_bounds i) (drop (r + 1) ws)))
+  settled-next r x = rw bounds-is (settle-next (i + 1) (order_bounds i) ws k r x (rw (← bounds-is) d.enough))
 
-  pub drawn-word : r < length ws
-  drawn-word = settled-next.0
+  -- some word settles it
+  pub drawn-some : (o : Option ℕ) → Settles (i + 1) ws k o → IsSome o
+  drawn-some (Some r) x = refl
+  drawn-some None x = absurd (omega (arith, (settled-next _ (settled-end (i + 1) ws k x)).0))
 
-  pub drawing-step : (m' : List ℕ) (j : ℕ) → i < n → j < n → j ≡ get_or ws r 0 % (i + 1)
+  pub drawing-step : (r : ℕ) → SettledBy (i + 1) ws k r → (m' : List ℕ) (j : ℕ) → i < n → j < n → j ≡ get_or ws r 0 % (i + 1)
       → Stands c m m' (set_order (put (base + j) ((state_of c m).order (base + i)) (put (base + i) ((state_of c m).order (base + j)) (state_of c m).order)) (state_of c m))
       → Drawing c m₀ m' base n from (i - 1) (r + 1) ws
-  drawing-step m' j l h w y =
+  drawing-step r x m' j l h w y =
+      let next = settled-next r x in
       let F : State → State = λ s. set_order (put (base + j) (s.order (base + i)) (put (base + i) (s.order (base + j)) s.order)) s in
       let e : i - 1 + 1 ≡ i = omega arith in
       record {
         order = exchange d.order i j;
         long = length-exchange d.order i j ∙ d.long;
         here = rw (← exchange-cells base d.order (state_of c m₀).order i j (rw d.long l) (rw d.long h)) (moved c m₀ m m' _ F d.here y);
-        enough = rw e settled-next.1;
-        rest = rw (e, w) (sym (shuffle-step i (get_or ws r 0 % (i + 1)) _ d.order p) ∙ ap (λ js. shuffle i js d.order) (sym settled-next.2) ∙ d.rest);
+        enough = rw e next.1;
+        rest = rw (e, w) (sym (shuffle-step i (get_or ws r 0 % (i + 1)) _ d.order p) ∙ ap (λ js. shuffle i js d.order) (sym next.2) ∙ d.rest);
         taken = rw e (settle-taken (i + 1) (order_bounds i) ws k r x (rw (← bounds-is) d.enough) ∙ ap (λ bs. k + taken_of (draws bs (drop k ws))) (sym bounds-is) ∙ d.taken);
       }

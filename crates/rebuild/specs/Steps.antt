@@ -12,11 +12,11 @@ use Rattle.memory.specs.Fits.{shape_of, fit, fit-lt}
 use Rattle.memory.specs.Tables.{tables_of, with_place, with_order, with_mark, with_holds}
 use Rattle.client.specs.declared.Client.{Client}
 use Rattle.client.specs.View.{place_of, level_at, view, state_of}
-use Rattle.client.specs.Changes.{view-place, view-slot, view-mark, view-holds}
+use Rattle.client.specs.Changes.{view-place, view-slot, view-holds}
 use Rattle.client.specs.Moves.{Stands, stands, restated}
 use Rattle.rebuild.specs.Target.{Within}
 use Rattle.lists.specs.Entries.{put_all-none}
-use Rattle.rebuild.specs.Fill.{fill-same, fill-below}
+use Rattle.rebuild.specs.Fill.{fit-same, fill-below}
 
 -- nothing is moved
 pub stays : (c : Client) (m : List ℕ) → Stands c m m (state_of c m)
@@ -39,11 +39,6 @@ module _ (c : Client) (m m' : List ℕ) where
       → Stands c m m' (set_order (put x v (state_of c m).order) (state_of c m))
   unfolding state_of tables_of
   puts-order x v l e = stands c m m' _ _ e refl (view-slot c (tables_of H m) x v l)
-
-  pub puts-mark : (x v : ℕ) → v < 2 → tables_of H m' ≡ with_mark (put x v (tables_of H m).mark) (tables_of H m)
-      → Stands c m m' (set_mark (put x v (state_of c m).mark) (state_of c m))
-  unfolding state_of tables_of
-  puts-mark x v l e = stands c m m' _ _ e refl (view-mark c (tables_of H m) x v l)
 
   pub puts-holds : (x v : ℕ) → v ≤ H.N → tables_of H m' ≡ with_holds (put x v (tables_of H m).holds) (tables_of H m)
       → Stands c m m' (set_holds (put x v (state_of c m).holds) (state_of c m))
@@ -70,48 +65,38 @@ exchanged c m m' m'' n x y a b wx wy ea eb e d =
     rw (← reads-order c m n x wx.level, ← ea, ← reads-order c m n y wy.level, ← eb)
     (moved c m m' m'' _ (λ s. set_order (put y a s.order) s) (puts-order c m m' x b lb e) (puts-order c m' m'' y a la d))
 
--- ---- Parts that are filled from their start
+-- ---- Parts that are filled
 abbrev pub marked : ℕ → ℕ → State → State
-marked base j s = set_mark (put_all base (replicate j 1) s.mark) s
+marked base n s = set_mark (put_all base (replicate n 1) s.mark) s
 
 abbrev pub emptied : ℕ → ℕ → State → State
-emptied base j s = set_holds (cleared base j s.holds) s
+emptied base n s = set_holds (cleared base n s.holds) s
 
 abbrev pub ordered : ℕ → List ℕ → State → State
 ordered base o s = set_order (put_all base o s.order) s
 
+module _ (c : Client) (m m' : List ℕ) (base n : ℕ) where
+  abbrev h : Shape
+  h = shape_of c.shape
+
+  pub fills-mark : tables_of h m' ≡ with_mark (put_all base (replicate n 1) (tables_of h m).mark) (tables_of h m) → Stands c m m' (marked base n (state_of c m))
+  unfolding state_of tables_of view
+  fills-mark e = stands c m m' _ _ e refl (ap (λ f. set_mark f (state_of c m)) (fit-same (λ x. 2) base n 1 (tables_of h m).mark (λ x. omega arith)))
+
+  pub fills-holds : tables_of h m' ≡ with_holds (put_all base (replicate n 0) (tables_of h m).holds) (tables_of h m) → Stands c m m' (emptied base n (state_of c m))
+  unfolding state_of tables_of view cleared
+  fills-holds e = stands c m m' _ _ e refl (ap (λ f. set_holds f (state_of c m)) (fit-same (λ x. h.N + 1) base n 0 (tables_of h m).holds (λ x. omega arith)))
+
 module _ (c : Client) (m : List ℕ) (base : ℕ) where
-  pub marks-start : Stands c m m (marked base 0 (state_of c m))
-  marks-start = restated (stays c m) (ap (λ f. set_mark f (state_of c m)) (put_all-none base (state_of c m).mark))
-
-  pub empties-start : Stands c m m (emptied base 0 (state_of c m))
-  unfolding cleared
-  empties-start = restated (stays c m) (ap (λ f. set_holds f (state_of c m)) (put_all-none base (state_of c m).holds))
-
   pub orders-start : Stands c m m (ordered base (below 0) (state_of c m))
   unfolding below count
   orders-start = restated (stays c m) (ap (λ f. set_order f (state_of c m)) (put_all-none base (state_of c m).order))
 
 module _ (c : Client) (m₀ m m' : List ℕ) (base j : ℕ) where
-  abbrev h : Shape
-  h = shape_of c.shape
-
-  pub marks-more : Stands c m₀ m (marked base j (state_of c m₀)) → tables_of h m' ≡ with_mark (put (base + j) 1 (tables_of h m).mark) (tables_of h m)
-      → Stands c m₀ m' (marked base (j + 1) (state_of c m₀))
-  marks-more a e =
-      rw (← fill-same base j 1 (state_of c m₀).mark)
-      (moved c m₀ m m' _ (λ s. set_mark (put (base + j) 1 s.mark) s) a (puts-mark c m m' (base + j) 1 (omega arith) e))
-
-  pub empties-more : Stands c m₀ m (emptied base j (state_of c m₀)) → tables_of h m' ≡ with_holds (put (base + j) 0 (tables_of h m).holds) (tables_of h m)
-      → Stands c m₀ m' (emptied base (j + 1) (state_of c m₀))
-  unfolding cleared
-  empties-more a e =
-      rw (← fill-same base j 0 (state_of c m₀).holds)
-      (moved c m₀ m m' _ (λ s. set_holds (put (base + j) 0 s.holds) s) a (puts-holds c m m' (base + j) 0 (omega arith) e))
-
-  pub orders-more : (n : ℕ) → Within h n (base + j) → j < n → Stands c m₀ m (ordered base (below j) (state_of c m₀)) → tables_of h m' ≡ with_order (put (base + j) j (tables_of h m).order) (tables_of h m)
+  pub orders-more : (n : ℕ) → Within (shape_of c.shape) n (base + j) → j < n → Stands c m₀ m (ordered base (below j) (state_of c m₀))
+      → tables_of (shape_of c.shape) m' ≡ with_order (put (base + j) j (tables_of (shape_of c.shape) m).order) (tables_of (shape_of c.shape) m)
       → Stands c m₀ m' (ordered base (below (j + 1)) (state_of c m₀))
   orders-more n w l a e =
-      let k : j < slots (level_at h (base + j)) = rw (← w.level) l in
+      let k : j < slots (level_at (shape_of c.shape) (base + j)) = rw (← w.level) l in
       rw (← fill-below base j (state_of c m₀).order)
       (moved c m₀ m m' _ (λ s. set_order (put (base + j) j s.order) s) a (puts-order c m m' (base + j) j k e))

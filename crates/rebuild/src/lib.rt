@@ -14,7 +14,7 @@ ghost use Rattle.rules.specs.Jobs.{orders_bounds};
 ghost use Rattle.rules.specs.Rebuild.{cleared};
 ghost use Rattle.rules.specs.Run.{numbers_of, taken_of};
 ghost use Rattle.rules.specs.Laws.Draws.{Enough};
-ghost use Rattle.memory.specs.Fits.{shape_of};
+ghost use Rattle.memory.specs.Fits.{shape_of, CellsFit};
 ghost use Rattle.client.specs.View.{state_of};
 ghost use Rattle.client.specs.Moves.{Room, Stands};
 ghost use Rattle.tape.specs.Tape.{words_of};
@@ -22,6 +22,7 @@ ghost use Rattle.rebuild.specs.Target.{order_in, Within, Empty, placed, level_wr
 ghost use Rattle.rebuild.specs.Laying.{rebuilt, Unlaid, Lays};
 
 use client::Client;
+use memory::tables::{self, Table};
 
 // What the levels written so far have taken: words of the tape, and blocks of the list.
 #[derive(Clone, Copy)]
@@ -32,22 +33,10 @@ pub struct Spent {
 
 // The cell of slot 0 of level t of partition q.
 fn level_start(c: Client, q: usize, t: usize) -> usize
-    requires { (c.shape.l ≤ 8) × (c.shape.p ≤ 64) × (c.shape.p * slots c.shape.l ≤ 32768) × (q < c.shape.p) × (t < c.shape.l) }
+    requires { CellsFit c.shape × (q < c.shape.p) × (t < c.shape.l) }
     ensures { result ≡ cell_of (shape_of c.shape) q t 0 }
 {
     levels::cell(c.shape, q, t, 0)
-}
-
-// The n cells from cell `base` on hold nothing more.
-fn clear_cells(c: Client, m: &mut [u8], base: usize, n: usize)
-    requires { Room c m.old × (base + n ≤ c.shape.p * slots c.shape.l) }
-    ensures { Stands c m.old m.new (set_holds (cleared base n (state_of c m.old).holds) (state_of c m.old)) }
-{
-    let mut j = 0;
-    while j < n {
-        memory::tables::set_holds(c.shape, m, base + j, 0);
-        j += 1;
-    }
 }
 
 // The levels below n of partition q hold nothing more.
@@ -57,7 +46,7 @@ fn clear_levels(c: Client, m: &mut [u8], q: usize, n: usize)
 {
     let base = level_start(c, q, 0);
     let top = bits::pow2(n + 1) - 2;
-    clear_cells(c, m, base, top);
+    tables::fill(c.shape, m, Table::Holds, base, top, 0);
 }
 
 // Every slot of level t is written and unread.
@@ -67,24 +56,18 @@ fn mark_written(c: Client, m: &mut [u8], q: usize, t: usize)
 {
     let n = bits::pow2(t + 1);
     let base = level_start(c, q, t);
-    let mut j = 0;
-    while j < n {
-        memory::tables::set_mark(c.shape, m, base + j, 1);
-        j += 1;
-    }
+    tables::fill(c.shape, m, Table::Mark, base, n, 1);
 }
 
-// The order of level t starts with item i at slot i.
+// The order of level t starts with item i at slot i. (A loop of its own: `fill` stores one number, and a closure would have a clause for the list of them.)
 fn start_order(c: Client, m: &mut [u8], q: usize, t: usize)
     requires { Room c m.old × (q < c.shape.p) × (t < c.shape.l) }
     ensures { Stands c m.old m.new (set_order (put_all (cell_of (shape_of c.shape) q t 0) (below (slots t)) (state_of c m.old).order) (state_of c m.old)) }
 {
     let n = bits::pow2(t + 1);
     let base = level_start(c, q, t);
-    let mut j = 0;
-    while j < n {
-        memory::tables::set_order(c.shape, m, base + j, j);
-        j += 1;
+    for j in 0..n {
+        tables::set(c.shape, m, Table::Order, base + j, j);
     }
 }
 
@@ -93,10 +76,10 @@ fn exchange(c: Client, m: &mut [u8], n: usize, x: usize, y: usize)
     requires { Room c m.old × Within (shape_of c.shape) n x × Within (shape_of c.shape) n y }
     ensures { Stands c m.old m.new (set_order (put y ((state_of c m.old).order x) (put x ((state_of c m.old).order y) (state_of c m.old).order)) (state_of c m.old)) }
 {
-    let a = memory::tables::order(c.shape, m, n, x);
-    let b = memory::tables::order(c.shape, m, n, y);
-    memory::tables::set_order(c.shape, m, x, b);
-    memory::tables::set_order(c.shape, m, y, a);
+    let a = tables::fit(n, tables::entry(c.shape, m, Table::Order, x));
+    let b = tables::fit(n, tables::entry(c.shape, m, Table::Order, y));
+    tables::set(c.shape, m, Table::Order, x, b);
+    tables::set(c.shape, m, Table::Order, y, a);
 }
 
 // For i from n − 1 down to 1, item i exchanges slots with the item drawn for it, by the words from word `from` on. The result is the word behind the last
@@ -109,13 +92,11 @@ fn draw_order(c: Client, m: &mut [u8], q: usize, t: usize, tape: &[u8], from: us
     let n = bits::pow2(t + 1);
     let base = level_start(c, q, t);
     let mut k = from;
-    let mut i = n - 1;
-    while 0 < i {
-        let w = tape::settle(tape, k, i + 1);
+    for i in (1..n).rev() {
+        let w = tape::settle(tape, k, i + 1).unwrap();
         let j = tape::draw(tape, w, i + 1);
         exchange(c, m, n, base + i, base + j);
         k = w + 1;
-        i -= 1;
     }
     k
 }
@@ -127,13 +108,11 @@ fn put_items(c: Client, m: &mut [u8], q: usize, t: usize, list: &[usize], k: usi
 {
     let n = bits::pow2(t + 1);
     let base = level_start(c, q, t);
-    let mut i = 0;
-    while i < k {
+    for i in 0..k {
         let b = list[i];
-        let x = memory::tables::order(c.shape, m, n, base + i);
-        memory::tables::set_holds(c.shape, m, base + x, b + 1);
-        memory::tables::set_place(c.shape, m, b, n + x);
-        i += 1;
+        let x = tables::fit(n, tables::entry(c.shape, m, Table::Order, base + i));
+        tables::set(c.shape, m, Table::Holds, base + x, b + 1);
+        tables::set(c.shape, m, Table::Place, b, n + x);
     }
 }
 
@@ -163,8 +142,7 @@ fn share(t: usize, n: usize) -> usize
     requires { t ≤ 16 }
     ensures { result ≡ min (2 ^ t) n }
 {
-    let most = bits::pow2(t);
-    if n < most { n } else { most }
+    n.min(bits::pow2(t))
 }
 
 // Level t is written, with the blocks of the list that are next, if it is filled in `next`.
@@ -212,9 +190,7 @@ pub fn rebuild_tables(
         words: 0,
         blocks: 0,
     };
-    let mut t = top + 1;
-    while 0 < t {
-        t -= 1;
+    for t in (0..top + 1).rev() {
         p = write_filled(c, m, q, t, next, list, tape, p);
     }
 }

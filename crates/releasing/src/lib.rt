@@ -12,14 +12,15 @@ ghost use Rattle.releasing.specs.Performs.{Settled};
 ghost use Rattle.releasing.specs.Released.{Releasable, Released};
 
 use client::Client;
-use contract::Answer;
+use contract::Accepted;
+use memory::tables::{self, Table};
 
-// Where the request's block is found, as the number that the request carries: 1 for nowhere, 2 for the cache, and from 3 on the levels.
+// Where the request's block is found, as the number that the request carries (`found` of Request): 1 for nowhere, 2 for the cache, and from 3 on the levels.
 fn look_up(c: Client, m: &[u8]) -> usize
     requires { Room c m.now × (c.waiting ≤ c.shape.n) × (c.request.block < c.shape.n) }
     ensures { (result ≡ suc (found_number (look_up (state_of c m.now) c.request.block))) × (result < 20) }
 {
-    let x = memory::tables::place(c.shape, m, c.request.block);
+    let x = tables::get(c.shape, m, Table::Place, c.request.block);
     if 2 <= x {
         return bits::level_of(x - 2) + 3;
     }
@@ -72,7 +73,7 @@ pub fn release(c: Client, m: &[u8]) -> Client
     if r.found != 0 {
         return c;
     }
-    let q = memory::tables::partition(c.shape, m, r.block);
+    let q = tables::get(c.shape, m, Table::Partition, r.block);
     if is_held_for(c, m, q) {
         return c;
     }
@@ -81,14 +82,10 @@ pub fn release(c: Client, m: &[u8]) -> Client
 }
 
 // The answer to an accepted call, whose client is released now.
-pub fn settle(mut r: Answer, m: &[u8]) -> Answer
-    requires { r.number ≡ 0 → Releasable r.client m.now }
+pub fn settle(mut r: Accepted, m: &[u8]) -> Accepted
+    requires { Releasable r.client m.now }
     ensures { Settled r m.now result }
 {
-    if r.number != 0 {
-        return r;
-    }
-    let c = r.client;
-    r.client = release(c, m);
+    r.client = release(r.client, m);
     r
 }

@@ -14,7 +14,7 @@ use Rattle.rules.specs.Form.Payload.{place_bytes, block_bytes, waiter_bytes}
 use Rattle.rules.proofs.Laws.Form.Numbers.{length-little}
 use Rattle.rules.proofs.Laws.Layout.{cell-from}
 use Rattle.memory.specs.Tables.{tables_of}
-use Rattle.memory.specs.Fits.{shape_of, fit, fit-lt}
+use Rattle.memory.specs.Fits.{shape_of, fit}
 use Rattle.client.specs.declared.Client.{Client}
 use Rattle.client.specs.View.{state_of, view, place_of}
 use Rattle.client.specs.Changes.{place_is, nowhere-is}
@@ -62,9 +62,6 @@ module _ (w : ℕ) (s : State) (b p : ℕ) (part : s.partition b ≡ p) where
 -- ---- A slot
 
 module _ (c : Client) (m : List ℕ) (q ℓ base i x : ℕ) (start : base ≡ cell (shape_of c.shape) q ℓ 0) (e : x ≡ fit 2 ((tables_of (shape_of c.shape) m).mark (base + i))) where
-  pub mark-low : x ≤ 1
-  mark-low = omega (arith, fit-lt 2 ((tables_of (shape_of c.shape) m).mark (base + i)) (omega arith))
-
   pub mark-byte : little 1 (1 - x) ≡ mark_in (state_of c m) q ℓ i
   unfolding state_of view
   mark-byte =

@@ -1,5 +1,7 @@
 -- What a form holds, as the loops of the code write it: each part is that of the numbers 0 upward.
 use Rattle.std.specs.Prelude.{◌≡◌, Bool, ℕ, zero, suc, ◌+◌, ◌-◌, ◌≤◌, ◌<◌, if◌then◌else◌}
+use denote.Ref.{MutBor}
+use denote.Param.Members.{Shared}
 use Rattle.std.proofs.Math.Path.{refl, ap, sym, fun_ext}
 use Rattle.std.proofs.Common.{subst, ◌∙◌, arith, add-one, length-append}
 use Rattle.std.proofs.Math.Bool.{true, false}
@@ -87,8 +89,16 @@ module _ (f : ℕ → List ℕ) where
     pub grown : {e : List ℕ} {r : ℕ} → Written d k (f i) e r → Written b a (each f (below (i + 1))) e r
     grown v = same_text (sym (each_last i)) (followed w v)
 
-    pub all_of : i ≡ n → Written b a (each f (below n)) d k
-    all_of e = same_text (ap (λ j. each f (below j)) e) w
+-- the same parts for each number below n
+pub each-same : (f g : ℕ → List ℕ) (n : ℕ) → ((i : ℕ) → i < n → f i ≡ g i) → each f (below n) ≡ each g (below n)
+each-same f g zero h = unfold each below count in refl
+each-same f g (suc n) h = subst (λ k. each f (below k) ≡ each g (below k)) (add-one n)
+    (each_last f n ∙ (λ i. each-same f g n (λ k l. h k (omega arith)) i ++ h n (omega arith) i) ∙ sym (each_last g n))
+
+-- where f puts the part of each number below n, at a place of a buffer that has room for it
+pub record Puts {F : Type 0} (g : Shared F (ℕ × (MutBor (List ℕ) × (ℕ × Unit {0}))) (ℕ × (MutBor (List ℕ) × Unit {0}))) (f : F) (n : ℕ) (part : ℕ → List ℕ) : Type 0 where
+  pub may : (i : ℕ) (b : MutBor (List ℕ)) (k : ℕ) → i < n → k + length (part i) ≤ length b.now → g.pre f (i, (b, (k, tt)))
+  pub does : (i : ℕ) (b : MutBor (List ℕ)) (k : ℕ) → i < n → k + length (part i) ≤ length b.now → (r : ℕ) (d : MutBor (List ℕ)) → g.post f (i, (b, (k, tt))) (r, (d, tt)) → Written b.now k (part i) d.now r
 
 -- ---- The payload by its parts
 

@@ -4,7 +4,7 @@
 mod payload;
 mod sizes;
 
-ghost use Rattle.std.specs.Prelude.{◌≡◌, List, [], ℕ, ◌≤◌, length};
+ghost use Rattle.std.specs.Prelude.{◌≡◌, List, [], ℕ, ◌≤◌, length, IfOk};
 ghost use Rattle.rules.specs.Form.Longest.{longest as longest_of};
 ghost use Rattle.rules.specs.Form.Payload.{payload as payload_of, saved_form};
 ghost use Rattle.rules.specs.Questions.{at_rest, save as save_of};
@@ -12,12 +12,13 @@ ghost use Rattle.memory.specs.Fits.{shape_of};
 ghost use Rattle.client.specs.View.{state_of};
 ghost use Rattle.client.specs.Moves.{Room};
 ghost use Rattle.cache.specs.Marks.{Marked};
+ghost use Rattle.contract.specs.Answers.{code_of, answered_length};
 ghost use Rattle.contract.specs.Meets.{Meets, handed_to};
 ghost use Rattle.saving.specs.Saving.{RoomFor, first_questions};
 
 use cache::BLOCKS;
 use client::Client;
-use contract::Answer;
+use contract::Refusal;
 use memory::Shape;
 
 // The longest form of the shape, were E equal to N: 64 jobs, all levels filled, all blocks waiting.
@@ -36,20 +37,21 @@ fn is_at_rest(c: Client) -> bool
     (c.request.kind == 0) & (c.out == 0) & (c.begun == 0)
 }
 
-// The number of a save, but for the last question.
-fn number(c: Client, m: &[u8], len: usize) -> usize
-    ensures { result ≡ first_questions (state_of c m.now) (length m.now) len }
+// The questions of a save, but for the last.
+#[tactic(auto, unfolding(crate::specs::Saving::first_questions, client::specs::View::state_of, client::specs::View::view, rules::specs::Questions::first_no))]
+fn ask(c: Client, m: &[u8], len: usize) -> Result<(), Refusal>
+    ensures { code_of result ≡ first_questions (state_of c m.now) (length m.now) len }
 {
     if !ready::is_ready(c, m) {
-        return 2;
+        return Err(Refusal::Unready);
     }
     if len < longest(c.shape) {
-        return 2;
+        return Err(Refusal::Unready);
     }
     if !is_at_rest(c) {
-        return 16;
+        return Err(Refusal::NotAtRest);
     }
-    0
+    Ok(())
 }
 
 // The form goes to the start of the buffer, whose other bytes stay.
@@ -61,21 +63,17 @@ fn write(c: Client, m: &[u8], marks: &[u8; BLOCKS], buffer: &mut [u8])
     sums::spread(buffer, n);
 }
 
-// The answer reports the form's length, which has 32 bits, and hands back the client that it got. Only a state that no calls left, where a block waits
-// twice, has a form that is longer than the longest.
-pub fn save(c: Client, m: &[u8], buffer: &mut [u8]) -> Answer
-    ensures { Meets c (state_of c m.now) save_of m.now [] buffer.old result m.now buffer.new × (result.client ≡ c) × (result.taken ≤ 4294967295) }
+// The length of the form, which has 32 bits. Only a state that no calls left, where a block waits twice, has a form that is longer than the longest.
+pub fn save(c: Client, m: &[u8], buffer: &mut [u8]) -> Result<usize, Refusal>
+    ensures { Meets c (state_of c m.now) save_of m.now [] buffer.old (answered_length c result) m.now buffer.new × IfOk result (λ n. n ≤ 4294967295) }
 {
-    let n = number(c, m, buffer.len());
-    if n != 0 {
-        return contract::refused(n, c);
-    }
+    ask(c, m, buffer.len())?;
     let mut marks = [0u8; BLOCKS];
     cache::mark_waiting(c, m, &mut marks);
     let length = sums::bytes_of(sizes::payload(c, m, &marks));
     if buffer.len() < length {
-        return contract::refused(2, c);
+        return Err(Refusal::Unready);
     }
     write(c, m, &marks, buffer);
-    contract::accepted(c, length)
+    Ok(length)
 }

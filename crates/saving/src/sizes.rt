@@ -10,6 +10,7 @@ ghost use Rattle.saving.specs.Parts.{width_of, partition_in};
 
 use cache::BLOCKS;
 use client::Client;
+use memory::tables::{self, Table};
 
 // The place of block b: a byte, and a second one for a slot.
 fn place(c: Client, m: &[u8], marks: &[u8; BLOCKS], b: usize) -> usize
@@ -19,7 +20,7 @@ fn place(c: Client, m: &[u8], marks: &[u8; BLOCKS], b: usize) -> usize
     if marks[b] == 1 {
         return 1;
     }
-    if memory::tables::place(c.shape, m, b) < 2 {
+    if tables::get(c.shape, m, Table::Place, b) < 2 {
         return 1;
     }
     2
@@ -30,12 +31,9 @@ fn blocks(c: Client, m: &[u8], marks: &[u8; BLOCKS]) -> usize
     requires { Room c m.now × Marked (state_of c m.now).waiting marks.now }
     ensures { (result ≡ length (each (block_bytes (width_of c.shape) (state_of c m.now)) (below c.shape.n))) × (result ≤ 4 * c.shape.n) }
 {
-    let n = c.shape.n;
     let mut k = 0;
-    let mut i = 0;
-    while i < n {
+    for i in 0..c.shape.n {
         k += 2 + place(c, m, marks, i);
-        i += 1;
     }
     k
 }
@@ -45,12 +43,9 @@ fn levels(c: Client, m: &[u8]) -> usize
     requires { Room c m.now }
     ensures { (result ≡ length (each (partition_in (width_of c.shape) (state_of c m.now)) (below c.shape.p))) × (result ≤ 1024 * c.shape.p) }
 {
-    let n = c.shape.p;
     let mut k = 0;
-    let mut i = 0;
-    while i < n {
-        k += 4 * memory::tables::counter(c.shape, m, i);
-        i += 1;
+    for i in 0..c.shape.p {
+        k += 4 * tables::get(c.shape, m, Table::Counter, i);
     }
     k
 }

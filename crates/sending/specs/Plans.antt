@@ -1,7 +1,7 @@
 -- What a rebuild goes by: the jobs that run together, and the blocks that they take from the cache.
-use Rattle.std.specs.Prelude.{◌≡◌, refl, true, false, ◌&&◌, length, eqb, leb}
+use Rattle.std.specs.Prelude.{◌≡◌, refl, true, false, Option, Some, None, is_some, ◌&&◌, length, eqb, leb}
 use Rattle.std.proofs.Math.Path.{ap, sym}
-use Rattle.std.proofs.Common.{◌∙◌, true≢false, pow_mono, take_all, le-leb, eqb-true}
+use Rattle.std.proofs.Common.{◌∙◌, true≢false, pow_mono, le-leb, eqb-true}
 use mathlib.Core.List.{List, [], ◌∷◌}
 use Prim.Native.Nat.{ℕ, zero, suc, min, ◌-◌, ◌/◌, ◌^◌, ◌≤◌, ◌<◌}
 use native.Mathlib.Omega.{arith}
@@ -63,18 +63,20 @@ pub record PlanOf (c : Client) (m : List ℕ) (q : ℕ) (p : Plan) : Type 0 wher
   pub most : p.taken ≤ p.joined
 
 -- the tables that a rebuild changes do not say who waits
-pub longest-stays : (c : Client) (m m' : List ℕ) (q r : ℕ) (s : State) → state_of c m' ≡ s → s.waiting ≡ (state_of c m).waiting → s.partition ≡ (state_of c m).partition → Longest (state_of c m) q r → Longest (state_of c m') q r
-longest-stays c m m' q r s e w p f = record {
-  le = rw (ap (λ (z : State). z.waiting) e ∙ w) f.le;
-  before = (λ i. keep (λ b. eqb (of i b) q) (take r (who i))) ∙ f.before;
-  here = λ l. (λ i. eqb (of i (get_or (who i) r 0)) q) ∙ f.here (rw (← who) l);
-}
-  where
-    who : (state_of c m').waiting ≡ (state_of c m).waiting
-    who = ap (λ (z : State). z.waiting) e ∙ w
+module _ (c : Client) (m m' : List ℕ) (q : ℕ) (s : State) (e : state_of c m' ≡ s) (w : s.waiting ≡ (state_of c m).waiting) (p : s.partition ≡ (state_of c m).partition) where
+  who : (state_of c m').waiting ≡ (state_of c m).waiting
+  who = ap (λ (z : State). z.waiting) e ∙ w
 
-    of : (state_of c m').partition ≡ (state_of c m).partition
-    of = ap (λ (z : State). z.partition) e ∙ p
+  of : (state_of c m').partition ≡ (state_of c m).partition
+  of = ap (λ (z : State). z.partition) e ∙ p
+
+  pub longest-stays : (r : Option ℕ) → Longest (state_of c m) q r → Longest (state_of c m') q r
+  longest-stays None f = (λ i. keep (λ b. eqb (of i b) q) (who i)) ∙ f
+  longest-stays (Some r) f = record {
+    inside = rw who f.inside;
+    before = (λ i. keep (λ b. eqb (of i b) q) (take r (who i))) ∙ f.before;
+    here = (λ i. eqb (of i (get_or (who i) r 0)) q) ∙ f.here;
+  }
 
 -- ---- The blocks that are taken
 
@@ -86,13 +88,11 @@ module _ (s : State) (q : ℕ) where
   room = 2 ^ (s.shape.L - 1) - blocks_in s q s.shape.L
 
   -- no block waits for q
-  pub nobody-waits : (first : ℕ) → Longest s q first → length s.waiting ≤ first → take 0 waits ≡ chosen s q
+  pub nobody-waits : (r : Option ℕ) → is_some r ≡ false → Longest s q r → take 0 waits ≡ chosen s q
   unfolding chosen
-  nobody-waits first f l = sym (ap (take (min (joined s q) room)) nobody ∙ none (min (joined s q) room))
+  nobody-waits (Some r) e f = absurd (true≢false e)
+  nobody-waits None e f = sym (ap (take (min (joined s q) room)) f ∙ none (min (joined s q) room))
     where
-      nobody : waits ≡ []
-      nobody = ap (keep (waits_for s q)) (sym (take_all first s.waiting l)) ∙ f.before
-
       none : (n : ℕ) → ◌≡◌ {A = List ℕ} (take n []) []
       none zero = refl
       none (suc n) = refl

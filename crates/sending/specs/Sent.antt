@@ -35,8 +35,7 @@ use Rattle.client.specs.Readings.{hand-none, out-count}
 use Rattle.client.specs.Moves.{at_level, with_request, with_begun, with_cursor, with_sent, with_out, Stands, restated, then as next}
 use Rattle.tape.specs.Tape.{words_of}
 use Rattle.ready.specs.Usable.{Usable}
-use Rattle.contract.specs.declared.Answer.{Answer}
-use Rattle.contract.specs.Answers.{refused_with, accepted_with}
+use Rattle.contract.specs.Answers.{Answer, refused_with, accepted_with}
 use Rattle.contract.specs.Buffers.{filled}
 use Rattle.contract.specs.Meets.{call_of, handed_to, command_of, meets-no}
 use Rattle.cache.specs.Longest.{waits_for}

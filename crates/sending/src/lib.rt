@@ -17,6 +17,7 @@ ghost use Rattle.rules.specs.Laws.Draws.{Enough};
 ghost use Rattle.client.specs.View.{state_of};
 ghost use Rattle.client.specs.Moves.{Room, Stands};
 ghost use Rattle.tape.specs.Tape.{words_of};
+ghost use Rattle.contract.specs.Answers.{accepted_as, answered};
 ghost use Rattle.cache.specs.Longest.{waits_for, Longest};
 ghost use Rattle.gather.specs.Gathered.{Gathers};
 ghost use Rattle.ready.specs.Usable.{Usable};
@@ -25,18 +26,19 @@ ghost use Rattle.releasing.specs.Performs.{Performs};
 ghost use Rattle.sending.specs.Plans.{PlanOf};
 ghost use Rattle.sending.specs.Sent.{Due, Reads, Writes, passed};
 
-use client::{Client, READ, WRITE};
-use contract::Answer;
+use client::{Client, Kind, READ, WRITE};
+use contract::{Accepted, Refusal};
 use jobs::Run;
+use memory::tables::{self, Table};
 
 // What a rebuild goes by: how many jobs run together, the highest level that they write, the counter after them; the place in the cache of the block that
-// has waited longest for their partition, and how many such blocks are taken at most.
+// has waited longest for their partition, if one waits for it, and how many such blocks are taken at most.
 #[derive(Clone, Copy)]
 pub struct Plan {
     pub joined: usize,
     pub top: usize,
     pub next: usize,
-    pub first: usize,
+    pub first: Option<usize>,
     pub taken: usize,
 }
 
@@ -61,29 +63,29 @@ fn pass_level(c: Client, l: usize) -> Client
 }
 
 // Sends the request's read. That of a source's slot counts for the job too.
-pub fn read_for_request(c: Client, m: &mut [u8], q: usize, l: usize, i: usize) -> Answer
+pub fn read_for_request(c: Client, m: &mut [u8], q: usize, l: usize, i: usize) -> Accepted
     requires { Due c m.old (read_for_request_of q l i) }
-    ensures { Reads c m.old result m.new }
+    ensures { Reads c m.old (accepted_as result) m.new }
 {
     let n = begun(c, m, q, l);
     levels::mark_read(c, m, q, l, i);
     let d = pass_level(c.with_begun(n), l);
-    let e = commands::send(d, m, READ, q, l, i);
-    contract::sent(e, 0, READ, q, l, i)
+    let e = commands::send(d, m, Kind::Read, q, l, i);
+    Accepted::sent(e, 0, READ, q, l, i)
 }
 
 // Sends the job's next read.
-pub fn read_for_job(c: Client, m: &mut [u8], q: usize, l: usize, i: usize) -> Answer
+pub fn read_for_job(c: Client, m: &mut [u8], q: usize, l: usize, i: usize) -> Accepted
     requires { Due c m.old (read_for_job_of q l i) }
-    ensures { Reads c m.old result m.new }
+    ensures { Reads c m.old (accepted_as result) m.new }
 {
     let run = jobs::running(c, m, q);
     levels::mark_read(c, m, q, l, i);
     let d = c
         .with_begun(run.joined)
         .with_cursor(bits::pow2(l + 1) - 2 + i + 1);
-    let e = commands::send(d, m, READ, q, l, i);
-    contract::sent(e, 0, READ, q, l, i)
+    let e = commands::send(d, m, Kind::Read, q, l, i);
+    Accepted::sent(e, 0, READ, q, l, i)
 }
 
 // The bytes of the block in a slot, or zeros for a dummy, go into the buffer.
@@ -92,7 +94,7 @@ fn put_bytes(c: Client, m: &[u8], q: usize, l: usize, i: usize, buffer: &mut [u8
     ensures { buffer.new ≡ slot_bytes (state_of c m.now) (holder (state_of c m.now) q l i) }
 {
     let x = levels::cell(c.shape, q, l, i);
-    let b = memory::tables::holds(c.shape, m, x);
+    let b = tables::get(c.shape, m, Table::Holds, x);
     if b == 0 {
         memory::blocks::zeros(buffer);
         return;
@@ -108,26 +110,26 @@ pub fn write_next(
     q: usize,
     t: usize,
     i: usize,
-) -> Answer
+) -> Result<Accepted, Refusal>
     requires { Due c m.old (write_next_of q t i) }
-    ensures { Writes c m.old buffer.old result m.new buffer.new }
+    ensures { Writes c m.old buffer.old (answered c result) m.new buffer.new }
 {
     if buffer.len() != c.shape.b {
-        return contract::refused(15, c);
+        return Err(Refusal::Buffer);
     }
     let d = c.with_sent(c.sent + 1);
-    let e = commands::send(d, m, WRITE, q, t, i);
+    let e = commands::send(d, m, Kind::Write, q, t, i);
     put_bytes(e, m, q, t, i, buffer);
-    contract::sent(e, 0, WRITE, q, t, i)
+    Ok(Accepted::sent(e, 0, WRITE, q, t, i))
 }
 
 // How many blocks that wait for q are taken at most: as many as jobs run together, and while q stores fewer than 2^(L-1). Those are counted only where
 // a block waits; the first is at place `first`.
-fn most_taken(c: Client, m: &[u8], q: usize, first: usize, joined: usize) -> usize
+fn most_taken(c: Client, m: &[u8], q: usize, first: Option<usize>, joined: usize) -> usize
     requires { Usable c m.now × (q < c.shape.p) × Longest (state_of c m.now) q first × (joined ≡ joined_of (state_of c m.now) q) }
     ensures { (take result (keep (waits_for (state_of c m.now) q) (state_of c m.now).waiting) ≡ chosen_of (state_of c m.now) q) × (result ≤ joined) }
 {
-    if c.waiting <= first {
+    if first.is_none() {
         return 0;
     }
     let half = bits::pow2(c.shape.l - 1);
@@ -191,36 +193,41 @@ fn send_rebuild(
     p: Plan,
     list: &[usize],
     words: usize,
-) -> Answer
+) -> Accepted
     requires { Due c m.old (rebuild_of q (levels_of (state_of c m.old) q)) × PlanOf c m.old q p × (list.now ≡ gathered_of (state_of c m.old) q) × (length list.now ≤ capacity (levels_of (state_of c m.old) q)) × Enough (orders_bounds (levels_of (state_of c m.old) q)) (words_of tape.now) × (words ≡ taken_of (draws (orders_bounds (levels_of (state_of c m.old) q)) (words_of tape.now))) × (length buffer.old ≡ c.shape.b) }
-    ensures { Performs c (state_of c m.old) turn_of m.old tape.now buffer.old result m.new buffer.new }
+    ensures { Performs c (state_of c m.old) turn_of m.old tape.now buffer.old (accepted_as result) m.new buffer.new }
 {
     let d = write_levels(c, m, tape, q, p, list);
-    let e = commands::send(d, m, WRITE, q, p.top, 0);
+    let e = commands::send(d, m, Kind::Write, q, p.top, 0);
     put_bytes(e, m, q, p.top, 0, buffer);
-    contract::sent(e, words, WRITE, q, p.top, 0)
+    Accepted::sent(e, words, WRITE, q, p.top, 0)
 }
 
 // The rebuild, if the words lent settle the draws of its orders and the written levels have room for what it gathers. They hold fewer than 2^(L-1) + 64.
-pub fn rebuild(c: Client, m: &mut [u8], tape: &[u8], buffer: &mut [u8], q: usize) -> Answer
+pub fn rebuild(
+    c: Client,
+    m: &mut [u8],
+    tape: &[u8],
+    buffer: &mut [u8],
+    q: usize,
+) -> Result<Accepted, Refusal>
     requires { Due c m.old (rebuild_of q (levels_of (state_of c m.old) q)) }
-    ensures { Performs c (state_of c m.old) turn_of m.old tape.now buffer.old result m.new buffer.new }
+    ensures { Performs c (state_of c m.old) turn_of m.old tape.now buffer.old (answered c result) m.new buffer.new }
 {
     if buffer.len() != c.shape.b {
-        return contract::refused(15, c);
+        return Err(Refusal::Buffer);
     }
     let run = jobs::running(c, m, q);
     let next = bits::grown(run.counter, run.joined, c.shape.l);
-    let words = tape::orders_words(tape, next, run.top);
-    if tape::words(tape) < words {
-        return contract::refused(3, c);
-    }
+    let Some(words) = tape::orders_words(tape, next, run.top) else {
+        return Err(Refusal::Words);
+    };
     let p = planned(c, m, q, run, next);
     let limit = bits::filled_slots(next, run.top) / 2;
     let mut list = [0usize; 192];
     let n = gathered(c, m, q, run.counter, p, limit, &mut list);
     if limit < n {
-        return contract::refused(2, c);
+        return Err(Refusal::Unready);
     }
-    send_rebuild(c, m, tape, buffer, q, p, &list[..n], words)
+    Ok(send_rebuild(c, m, tape, buffer, q, p, &list[..n], words))
 }

@@ -11,8 +11,7 @@ use Rattle.client.specs.declared.Client.{Client}
 use Rattle.client.specs.View.{state_of}
 use Rattle.tape.specs.Tape.{words_of}
 use Rattle.lines.specs.Lines.{Line}
-use Rattle.contract.specs.declared.Answer.{Answer}
-use Rattle.contract.specs.Answers.{cleared_client}
+use Rattle.contract.specs.Answers.{Answer, cleared_client}
 use Rattle.contract.specs.Meets.{command_of, closed_is}
 use Rattle.lists.specs.Written.{Written}
 use Rattle.printing.specs.Laws.{text_room}

@@ -11,14 +11,14 @@ use Rattle.rules.proofs.Laws.Drawn.{taken-lent}
 use Rattle.rules.specs.Questions.{Ask, request, Call, bounds, number}
 use Rattle.rules.specs.Run.{Outcome, step, accepted, refused, numbers_of}
 use Rattle.rules.specs.Laws.Answers.{opens}
-use Rattle.rules.proofs.Laws.Answers.{number-le, step-number, step-accepted, refused-keeps, refused-outcome}
+use Rattle.rules.proofs.Laws.Answers.{step-accepted, refused-keeps, refused-outcome}
 use Rattle.rules.proofs.Laws.Shapes.{act-shape}
 use Rattle.memory.specs.Words.{word_at}
 use Rattle.memory.specs.Fits.{shape_of}
 use Rattle.client.specs.declared.Client.{Client}
 use Rattle.client.specs.View.{state_of, view}
 use Rattle.tape.specs.Tape.{words_of, length-words, word-is}
-use Rattle.contract.specs.declared.Answer.{Answer}
+use Rattle.contract.specs.Answers.{Answer}
 use Rattle.contract.specs.Meets.{Meets, call_of, reported}
 use Rattle.printing.specs.Text.{number_text}
 use Rattle.printing.specs.Laws.{text_room, number-le as number-text-le}
@@ -79,10 +79,6 @@ left_le s tape f = omega (arith, f.taken, length-words tape)
 -- lent from there on
 pub left-whole : (k : ℕ) (tape : List ℕ) → take (length tape - k) (drop k tape) ≡ drop k tape
 left-whole k tape = take_all (length tape - k) (drop k tape) (omega (arith, length-drop k tape))
-
--- a call's number is small
-pub meets-small : (c : Client) (st : State) (a : Ask) (m t b : List ℕ) (r : Answer) (m' b' : List ℕ) → Meets c st a m t b r m' b' → r.number < 65536
-meets-small c st a m t b r m' b' k = omega (arith, k.number, step-number st (call_of a m t b), number-le st (call_of a m t b))
 
 -- ---- One call, on what is left of the tape: the bytes t
 

@@ -15,8 +15,7 @@ use Rattle.rules.proofs.Laws.Answers.{step-number, step-accepted}
 use Rattle.memory.specs.Fits.{shape_of, parts-le}
 use Rattle.tape.specs.Tape.{words_of}
 use Rattle.client.specs.View.{state_of, view}
-use Rattle.contract.specs.declared.Answer.{Answer}
-use Rattle.contract.specs.Answers.{cleared_client}
+use Rattle.contract.specs.Answers.{Answer, cleared_client}
 use Rattle.contract.specs.Meets.{Meets}
 use Rattle.printing.specs.Text.{number_text}
 use Rattle.printing.specs.Laws.{number-le as number-text-le}

@@ -1,9 +1,8 @@
 -- Whether a session opened a store: exactly then the state that it leaves is ready, and has a page.
-use Rattle.std.specs.Prelude.{◌≡◌, refl, Bool, true, not, ◌&&◌, ◌||◌, List, [], ◌∷◌, ℕ, ◌≤◌, eqb, if◌then◌else◌}
+use Rattle.std.specs.Prelude.{◌≡◌, refl, Bool, true, not, ◌&&◌, ◌||◌, List, [], ◌∷◌, ℕ, ◌≤◌, eqb, if◌then◌else◌, Option, None, Some}
 use Rattle.std.proofs.Math.Path.{ap, sym}
 use Rattle.std.proofs.Common.{◌∙◌, arith, eqb-true, le-leb, leb-true}
 use Rattle.std.proofs.Math.Bool.{false}
-use Rattle.std.proofs.Math.Option.{Option, none, some}
 use Rattle.std.proofs.Math.Decide.{ℕ_discrete}
 use Rattle.std.proofs.Math.Dec.{leb}
 use Rattle.lists.specs.Tests.{and_l, and-true}
@@ -44,7 +43,7 @@ opens_one s (l ∷ ls) = not (ends (line_of l)) && (accepts s (line_of l) || ope
 -- ..from the start of a session, where the first line may be the tape
 unfoldable pub opened : List ℕ → List (List ℕ) → Bool
 opened host [] = false
-opened host (l ∷ ls) = elim (tape_of l) [ none ↦ opens_one (begun host []) (l ∷ ls) | some ws ↦ opens_one (begun host ws) ls ]
+opened host (l ∷ ls) = elim (tape_of l) [ None ↦ opens_one (begun host []) (l ∷ ls) | Some ws ↦ opens_one (begun host ws) ls ]
 
 -- ---- Calls
 
@@ -142,5 +141,5 @@ opened-ready host [] = unfold begun in (closed-unready memory_room)
 opened-ready host (l ∷ ls) = go (tape_of l) refl
   where
     go : (t : Option (List ℕ)) → tape_of l ≡ t → ready (left host (l ∷ ls)).state memory_room ≡ opened host (l ∷ ls)
-    go none e = rw (e, left, opened) (begun-ready host [] (l ∷ ls))
-    go (some ws) e = rw (e, left, opened) (begun-ready host ws ls)
+    go None e = rw (e, left, opened) (begun-ready host [] (l ∷ ls))
+    go (Some ws) e = rw (e, left, opened) (begun-ready host ws ls)

@@ -1,6 +1,5 @@
 -- Document 01, "A session, whole": what each line does and prints, by the rules' five calls.
-use Rattle.std.specs.Prelude.{Bool, true, false, ◌&&◌, List, [], ◌∷◌, ◌++◌, ℕ, ◌+◌, ◌-◌, ◌*◌, take, drop, eqb, leb, if◌then◌else◌}
-use Rattle.std.proofs.Math.Option.{none, some}
+use Rattle.std.specs.Prelude.{Bool, true, false, ◌&&◌, List, [], ◌∷◌, ◌++◌, ℕ, ◌+◌, ◌-◌, ◌*◌, take, drop, eqb, leb, if◌then◌else◌, None, Some}
 use Rattle.rules.specs.Shape.{Shape, slots, offset}
 use Rattle.rules.specs.State.{State, Command, read, write, closed}
 use Rattle.rules.specs.Questions.{Ask, opening, request, turn, completion, collect, Call}
@@ -117,7 +116,7 @@ begun host words = record { state = closed; words = words; host = host }
 -- "T may only be the first line"
 unfoldable pub session : List ℕ → List (List ℕ) → List ℕ
 session host [] = []
-session host (l ∷ ls) = elim (tape_of l) [ none ↦ prints (begun host []) (l ∷ ls) | some ws ↦ prints (begun host ws) ls ]
+session host (l ∷ ls) = elim (tape_of l) [ None ↦ prints (begun host []) (l ∷ ls) | Some ws ↦ prints (begun host ws) ls ]
 
 -- ---- What a session leaves
 
@@ -129,4 +128,4 @@ leaves s (l ∷ ls) = if ends (line_of l) then s else leaves (gives s (line_of l
 -- ..from its start, where the first line may be the tape
 unfoldable pub left : List ℕ → List (List ℕ) → Session
 left host [] = begun host []
-left host (l ∷ ls) = elim (tape_of l) [ none ↦ leaves (begun host []) (l ∷ ls) | some ws ↦ leaves (begun host ws) ls ]
+left host (l ∷ ls) = elim (tape_of l) [ None ↦ leaves (begun host []) (l ∷ ls) | Some ws ↦ leaves (begun host ws) ls ]

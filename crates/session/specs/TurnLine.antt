@@ -27,7 +27,7 @@ use Rattle.memory.specs.Parts.{replaced}
 use Rattle.client.specs.declared.Client.{Client}
 use Rattle.client.specs.View.{state_of, view}
 use Rattle.tape.specs.Tape.{words_of}
-use Rattle.contract.specs.declared.Answer.{Answer}
+use Rattle.contract.specs.Answers.{Answer}
 use Rattle.contract.specs.Meets.{Meets, call_of, command_of, handed_to}
 use Rattle.contract.specs.Buffers.{state-whole, ready-long, filled, written-length, answer-length}
 use Rattle.printing.specs.Text.{number_text, command_text, contents_text}

@@ -5,17 +5,18 @@ ghost use Rattle.std.specs.Prelude.{◌≡◌, ◌+◌, ◌*◌, ◌-◌, ◌≤
 ghost use Rattle.rules.specs.Shape.{slots};
 ghost use Rattle.rules.specs.State.{cmd};
 ghost use Rattle.memory.specs.Fits.{shape_of};
-ghost use Rattle.lines.specs.Lines.{opens, turns, collects, contents_room, tape_room};
+ghost use Rattle.contract.specs.Answers.{number_of, accepted_as, answered};
+ghost use Rattle.lines.specs.Lines.{opens, turns, collects, tape_room};
 ghost use Rattle.lines.specs.Said.{said, Small};
 ghost use Rattle.printing.specs.Text.{number_text};
 ghost use Rattle.printing.specs.Laws.{text_room};
 ghost use Rattle.lists.specs.Written.{Written};
-ghost use Rattle.session.specs.Session.{serves as serves_of, start as start_of, memory_room, host_room};
+ghost use Rattle.session.specs.Session.{serves as serves_of, start as start_of, host_room};
 ghost use Rattle.session.specs.Answers.{Served, Answers, AnswersApart, Asks, Slot, Completes, fresh};
 
 use client::{Client, READ, WRITE};
-use contract::Answer;
-use lines::Line;
+use contract::{Accepted, Refusal};
+use lines::{CONTENTS, Line};
 use memory::Shape;
 
 // A session serves stores of at most so many blocks, and so many bytes at the host in memory; the calls are lent so much memory, which is enough for
@@ -60,16 +61,16 @@ fn serves(h: Shape) -> bool
 }
 
 // A refused line prints its number alone.
-fn refuse(s: Session, number: usize, out: &mut [u8], at: usize) -> Printed
-    requires { (number < 65536) × (at + text_room ≤ length out.old) }
-    ensures { (result.session ≡ s) × Written out.old at (number_text number) out.new result.at }
+fn refuse(s: Session, e: Refusal, out: &mut [u8], at: usize) -> Printed
+    requires { at + text_room ≤ length out.old }
+    ensures { (result.session ≡ s) × Written out.old at (number_text (number_of e)) out.new result.at }
 {
-    let k = printing::number(out, at, number);
+    let k = printing::number(out, at, usize::from(e));
     Printed { session: s, at: k }
 }
 
 // What is kept after an accepted call.
-fn later(s: Session, r: Answer) -> Session
+fn later(s: Session, r: Accepted) -> Session
     requires { s.taken + r.taken < 65536 }
     ensures { result ≡ record { client = r.client; taken = s.taken + r.taken } }
 {
@@ -84,55 +85,57 @@ fn later(s: Session, r: Answer) -> Session
 fn open_line(
     s: Session,
     h: Shape,
-    memory: &mut [u8],
+    memory: &mut [u8; MEMORY],
     tape: &[u8],
     out: &mut [u8],
     at: usize,
 ) -> Printed
-    requires { Served s tape.now × (length memory.old ≡ memory_room) × (length tape.now ≤ tape_room) × (at + text_room ≤ length out.old) }
+    requires { Served s tape.now × (length tape.now ≤ tape_room) × (at + text_room ≤ length out.old) }
     ensures { AnswersApart s (opens (shape_of h)) memory.old tape.now out.old at result memory.new out.new }
 {
     if !contract::is_within(h) {
-        return refuse(s, 1, out, at);
+        return refuse(s, Refusal::Bounds, out, at);
     }
     if !serves(h) {
-        return refuse(s, 2, out, at);
+        return refuse(s, Refusal::Unready, out, at);
     }
     let from = s.taken * 2;
-    let r = opening::open(h, memory, &tape[from..]);
-    if r.number != 0 {
-        return refuse(s, r.number, out, at);
-    }
-    let k = printing::number(out, at, 0);
-    Printed {
-        session: later(s, r),
-        at: k,
+    match opening::open(h, memory, &tape[from..]) {
+        Ok(r) => {
+            let k = printing::number(out, at, 0);
+            Printed {
+                session: later(s, r),
+                at: k,
+            }
+        }
+        Err(e) => refuse(s, e, out, at),
     }
 }
 
-// R and W: kind 1 with no contents, kind 2 with those of the line.
+// R and W: kind 1 with no contents, kind 2 with those of the line. The kind is a number: `request` takes it from its caller (C interface).
 fn ask_line(
     s: Session,
     kind: usize,
     block: usize,
     contents: &[u8],
-    memory: &mut [u8],
+    memory: &mut [u8; MEMORY],
     tape: &[u8],
     out: &mut [u8],
     at: usize,
 ) -> Printed
-    requires { Served s tape.now × (length memory.old ≡ memory_room) × (length tape.now ≤ tape_room) × (at + text_room ≤ length out.old) }
+    requires { Served s tape.now × (length tape.now ≤ tape_room) × (at + text_room ≤ length out.old) }
     ensures { Asks s kind block contents.now memory.old tape.now out.old at result memory.new out.new }
 {
     let from = s.taken * 2;
-    let r = requesting::request(s.client, memory, kind, block, contents, &tape[from..]);
-    if r.number != 0 {
-        return refuse(s, r.number, out, at);
-    }
-    let k = printing::number(out, at, 0);
-    Printed {
-        session: later(s, r),
-        at: k,
+    match requesting::request(s.client, memory, kind, block, contents, &tape[from..]) {
+        Ok(r) => {
+            let k = printing::number(out, at, 0);
+            Printed {
+                session: later(s, r),
+                at: k,
+            }
+        }
+        Err(e) => refuse(s, e, out, at),
     }
 }
 
@@ -144,25 +147,35 @@ fn first(h: Shape, q: usize, l: usize, i: usize) -> usize
     (q * (bits::pow2(h.l + 1) - 2) + (bits::pow2(l + 1) - 2) + i) * h.b
 }
 
+// The client after a call of c: the call's own if it is accepted.
+fn left(c: Client, r: Result<Accepted, Refusal>) -> Client
+    ensures { result ≡ (answered c r).client }
+{
+    match r {
+        Ok(r) => r.client,
+        Err(_) => c,
+    }
+}
+
 // The host completes the command of a turn: a write's bytes are stored, a read brings those of its slot.
-fn complete(r: Answer, memory: &mut [u8], host: &mut [u8], bytes: &[u8]) -> Client
-    requires { Slot (shape_of r.client.shape) (cmd 0 r.partition r.level r.slot) × (1 ≤ r.kind) × (r.kind ≤ 2) × (length host.old ≡ host_room) × (length bytes.now ≡ r.client.shape.b) }
-    ensures { Completes r memory.old host.old bytes.now result memory.new host.new }
+fn complete(r: Accepted, memory: &mut [u8; MEMORY], host: &mut [u8; HOST], bytes: &[u8]) -> Client
+    requires { Slot (shape_of r.client.shape) (cmd 0 r.partition r.level r.slot) × (1 ≤ r.kind) × (r.kind ≤ 2) × (length bytes.now ≡ r.client.shape.b) }
+    ensures { Completes (accepted_as r) memory.old host.old bytes.now result memory.new host.new }
 {
     let a = first(r.client.shape, r.partition, r.level, r.slot);
     let e = a + r.client.shape.b;
     if r.kind == WRITE {
-        memory::blocks::copy(&mut host[a..e], bytes);
+        host[a..e].copy_from_slice(bytes);
         let w = completing::completion(
             r.client,
             memory,
-            2,
+            WRITE,
             r.partition,
             r.level,
             r.slot,
             &host[0..0],
         );
-        return w.client;
+        return left(r.client, w);
     }
     let d = completing::completion(
         r.client,
@@ -173,48 +186,49 @@ fn complete(r: Answer, memory: &mut [u8], host: &mut [u8], bytes: &[u8]) -> Clie
         r.slot,
         &host[a..e],
     );
-    d.client
+    left(r.client, d)
 }
 
 // A turn with a buffer of B bytes, and the completion of its command.
 fn turn_with(
     s: Session,
-    memory: &mut [u8],
-    host: &mut [u8],
+    memory: &mut [u8; MEMORY],
+    host: &mut [u8; HOST],
     tape: &[u8],
     buffer: &mut [u8],
     out: &mut [u8],
     at: usize,
 ) -> Printed
-    requires { Served s tape.now × (length memory.old ≡ memory_room) × (length host.old ≡ host_room) × (length tape.now ≤ tape_room) × (at + text_room ≤ length out.old) × (length buffer.old ≡ s.client.shape.b) }
+    requires { Served s tape.now × (length tape.now ≤ tape_room) × (at + text_room ≤ length out.old) × (length buffer.old ≡ s.client.shape.b) }
     ensures { Answers s turns memory.old tape.now host.old out.old at result memory.new host.new out.new }
 {
     let from = s.taken * 2;
-    let r = turning::turn(s.client, memory, &tape[from..], buffer);
-    if r.number != 0 {
-        return refuse(s, r.number, out, at);
-    }
-    let client = complete(r, memory, host, buffer);
-    let k = printing::command(out, at, r.kind, r.partition, r.level, r.slot);
-    Printed {
-        session: Session {
-            client,
-            taken: s.taken + r.taken,
-        },
-        at: k,
+    match turning::turn(s.client, memory, &tape[from..], buffer) {
+        Ok(r) => {
+            let client = complete(r, memory, host, buffer);
+            let k = printing::command(out, at, r.kind, r.partition, r.level, r.slot);
+            Printed {
+                session: Session {
+                    client,
+                    taken: s.taken + r.taken,
+                },
+                at: k,
+            }
+        }
+        Err(e) => refuse(s, e, out, at),
     }
 }
 
-// t
+// t. (As for C: each lends its own call a buffer of B bytes.)
 fn turn_line(
     s: Session,
-    memory: &mut [u8],
-    host: &mut [u8],
+    memory: &mut [u8; MEMORY],
+    host: &mut [u8; HOST],
     tape: &[u8],
     out: &mut [u8],
     at: usize,
 ) -> Printed
-    requires { Served s tape.now × (length memory.old ≡ memory_room) × (length host.old ≡ host_room) × (length tape.now ≤ tape_room) × (at + text_room ≤ length out.old) }
+    requires { Served s tape.now × (length tape.now ≤ tape_room) × (at + text_room ≤ length out.old) }
     ensures { Answers s turns memory.old tape.now host.old out.old at result memory.new host.new out.new }
 {
     let mut buffer = [0u8; 512];
@@ -225,29 +239,36 @@ fn turn_line(
 // A collect with a buffer of B bytes.
 fn collect_with(
     s: Session,
-    memory: &mut [u8],
+    memory: &mut [u8; MEMORY],
     tape: &[u8],
     buffer: &mut [u8],
     out: &mut [u8],
     at: usize,
 ) -> Printed
-    requires { Served s tape.now × (length memory.old ≡ memory_room) × (length tape.now ≤ tape_room) × (at + text_room ≤ length out.old) × (length buffer.old ≡ s.client.shape.b) }
+    requires { Served s tape.now × (length tape.now ≤ tape_room) × (at + text_room ≤ length out.old) × (length buffer.old ≡ s.client.shape.b) }
     ensures { AnswersApart s collects memory.old tape.now out.old at result memory.new out.new }
 {
-    let r = collecting::collect(s.client, memory, buffer);
-    if r.number != 0 {
-        return refuse(s, r.number, out, at);
-    }
-    let k = printing::contents(out, at, buffer);
-    Printed {
-        session: later(s, r),
-        at: k,
+    match collecting::collect(s.client, memory, buffer) {
+        Ok(r) => {
+            let k = printing::contents(out, at, buffer);
+            Printed {
+                session: later(s, r),
+                at: k,
+            }
+        }
+        Err(e) => refuse(s, e, out, at),
     }
 }
 
 // C
-fn collect_line(s: Session, memory: &mut [u8], tape: &[u8], out: &mut [u8], at: usize) -> Printed
-    requires { Served s tape.now × (length memory.old ≡ memory_room) × (length tape.now ≤ tape_room) × (at + text_room ≤ length out.old) }
+fn collect_line(
+    s: Session,
+    memory: &mut [u8; MEMORY],
+    tape: &[u8],
+    out: &mut [u8],
+    at: usize,
+) -> Printed
+    requires { Served s tape.now × (length tape.now ≤ tape_room) × (at + text_room ≤ length out.old) }
     ensures { AnswersApart s collects memory.old tape.now out.old at result memory.new out.new }
 {
     let mut buffer = [0u8; 512];
@@ -259,14 +280,14 @@ fn collect_line(s: Session, memory: &mut [u8], tape: &[u8], out: &mut [u8], at: 
 pub fn answer(
     s: Session,
     line: Line,
-    contents: &[u8],
+    contents: &[u8; CONTENTS],
     tape: &[u8],
-    memory: &mut [u8],
-    host: &mut [u8],
+    memory: &mut [u8; MEMORY],
+    host: &mut [u8; HOST],
     out: &mut [u8],
     at: usize,
 ) -> Printed
-    requires { Served s tape.now × Small line × (length contents.now ≡ contents_room) × (length tape.now ≤ tape_room) × (length memory.old ≡ memory_room) × (length host.old ≡ host_room) × (at + text_room ≤ length out.old) }
+    requires { Served s tape.now × Small line × (length tape.now ≤ tape_room) × (at + text_room ≤ length out.old) }
     ensures { Answers s (said line contents.now) memory.old tape.now host.old out.old at result memory.new host.new out.new }
 {
     match line {

@@ -2,7 +2,6 @@
 use Rattle.std.specs.Prelude.{◌≡◌, refl, Bool, true, false, Option, Some, None, IfSome, Result, Ok, Err, IfOk, OnErr, List, [], ◌∷◌, ◌++◌, ℕ, zero, suc, ◌+◌, ◌-◌, ◌*◌, ◌^◌, ◌≤◌, ◌<◌, length, take, drop, if◌then◌else◌}
 use Rattle.std.proofs.Common.{sym, ap, ◌∙◌, subst, arith, append_assoc, append-nil, take-append-drop, length-append, length-take-le, length-drop, true≢false, eq-eqb, eqb-true}
 use Rattle.std.proofs.lemmas.List.{take-append-le}
-use Rattle.std.proofs.Math.Seq.{take-nil}
 use Rattle.std.specs.Io.KnownBytes.{Appends, Consumes, Keeps, IsAtEnd}
 use Rattle.client.specs.View.{state_of}
 use Rattle.report.specs.Page.{shown}
@@ -74,9 +73,9 @@ pub record Moved (host past : List ℕ) (quiet : Bool) (s : State) (chunk : List
   pub sent : Appends w w' (if quiet then [] else take s.output.gone (printed host past))
 
 -- a turn takes or reads a byte, or ends the session
-pub steps-on : (found : Brought) (past w w' : List ℕ) (turns : ℕ) → 9007199254740992 ≤ turns + 2 * length past + length w → 1 ≤ turns → length w + 1 ≤ 2 * length (taken found w) + length w'
-    → 9007199254740992 ≤ (turns - 1) + 2 * length (past ++ taken found w) + length w'
-steps-on found past w w' turns h t k = omega (arith, length-append past (taken found w))
+pub steps-on : (found : Brought) (past w w' : List ℕ) (turns : ℕ) → turns ≤ 2 * length past + length w → length w + 1 ≤ 2 * length (taken found w) + length w'
+    → turns + 1 ≤ 2 * length (past ++ taken found w) + length w'
+steps-on found past w w' turns h k = omega (arith, length-append past (taken found w))
 
 module _ (host past : List ℕ) (quiet : Bool) (s : State) (chunk line : List ℕ) (b : Buffers) (h : History host past s chunk line b) (silent : s.output.silent ≡ quiet) (u u' w w' : Option (List ℕ)) (m : Moved host past quiet s chunk u u' w w') where
   -- a turn carries it on
@@ -157,10 +156,6 @@ module _ (host : List ℕ) (r : State) (memory out : List ℕ) (u u' w w' : Opti
       read = h.read;
       sent = (part.0, subst (λ t. Appends w w'' (take part.0 t)) page-is (appends-then w w' w'' [] _ h.sent part.1));
     }
-
--- nothing of the answers was written
-pub page-unwritten : (host : List ℕ) (u u' w w' : Option (List ℕ)) → Broken host true u u' w w' → PageBroken host u u' w w'
-page-unwritten host u u' w w' b = record { input = b.input; rest = b.rest; read = b.read; sent = (0, subst (Appends w w') (take-nil b.sent.0) b.sent.1) }
 
 -- ---- The start, and a turn
 
@@ -292,8 +287,8 @@ pub closes-closed : (host input rest : List ℕ) (failed : Bool) (u' : Option (L
 closes-closed host input rest failed u' f z l more y = ap (given host) (append_assoc input rest more) ∙ f z more y
 
 -- where all turns were used, so much was read
-pub turns-closed : (host input rest : List ℕ) (failed : Bool) (u' : Option (List ℕ)) (turns : ℕ) → turns ≡ 0 → 9007199254740992 ≤ turns + 2 * length input + length rest → Closed host input rest failed u'
-turns-closed host input rest failed u' turns none h z l more y = absurd (omega (arith, length-append input rest))
+pub turns-closed : (host input rest : List ℕ) (failed : Bool) (u' : Option (List ℕ)) (turns : ℕ) → 9007199254740992 ≤ turns → turns ≤ 2 * length input + length rest → Closed host input rest failed u'
+turns-closed host input rest failed u' turns all h z l more y = absurd (omega (arith, length-append input rest))
 
 pub on_err : {T E P : Type 0} (r : Result T E) → P → OnErr r P
 on_err (Ok x) p = tt

@@ -1,9 +1,8 @@
 -- A line that does not fit into its buffer says nothing: it is malformed, and no tape.
-use Rattle.std.specs.Prelude.{◌≡◌, Bool, List, [], ◌∷◌, ℕ, suc, ◌+◌, ◌-◌, ◌*◌, ◌≤◌, ◌<◌, length}
+use Rattle.std.specs.Prelude.{◌≡◌, Bool, List, [], ◌∷◌, ℕ, suc, ◌+◌, ◌-◌, ◌*◌, ◌≤◌, ◌<◌, length, Option, None, Some}
 use Rattle.std.proofs.Math.Path.{refl}
 use Rattle.std.proofs.Common.{sym, ◌∙◌, arith}
 use Rattle.std.proofs.Math.Bool.{true, false}
-use Rattle.std.proofs.Math.Option.{Option, none, some}
 use Rattle.std.proofs.Math.Decide.{ℕ_discrete, dec_lt, dec_le}
 use Rattle.std.proofs.Math.Dec.{eqb}
 use borrow.Author.Tests.{eq-eqb, ne_eqb, eqb-true}
@@ -44,16 +43,16 @@ letter-width ((x ∷ y ∷ ys) ∷ fs) n = absurd (n refl)
 -- ---- A number has at most five digits
 
 -- one digit more
-more : (v x : ℕ) (xs : List ℕ) → ((d : ℕ) → digit x ≡ some d → at_most 65535 (digits (v * 10 + d) xs) ≡ none) → at_most 65535 (digits v (x ∷ xs)) ≡ none
+more : (v x : ℕ) (xs : List ℕ) → ((d : ℕ) → digit x ≡ Some d → at_most 65535 (digits (v * 10 + d) xs) ≡ None) → at_most 65535 (digits v (x ∷ xs)) ≡ None
 unfolding digits
 more v x xs f = go (digit x) refl
   where
-    go : (o : Option ℕ) → digit x ≡ o → at_most 65535 (digits v (x ∷ xs)) ≡ none
-    go none e = rw (e, digits) (most-none 65535)
-    go (some d) e = rw (e, digits) (f d e)
+    go : (o : Option ℕ) → digit x ≡ o → at_most 65535 (digits v (x ∷ xs)) ≡ None
+    go None e = rw (e, digits) (most-none 65535)
+    go (Some d) e = rw (e, digits) (f d e)
 
 -- a digit that is no zero says at least 1
-digit-some : (x d : ℕ) → digit x ≡ some d → (x ≡ 48 → ⊥) → 1 ≤ d
+digit-some : (x d : ℕ) → digit x ≡ Some d → (x ≡ 48 → ⊥) → 1 ≤ d
 digit-some x d e n = go (dec_lt x 48) (dec_lt 57 x)
   where
     go : Dec (x < 48) → Dec (57 < x) → 1 ≤ d
@@ -65,7 +64,7 @@ digit-some x d e n = go (dec_lt x 48) (dec_lt 57 x)
         omega arith
 
 -- six digits, of which the first is no zero, say more than 65,535
-number-long : (f : List ℕ) → 5 < length f → number f ≡ none
+number-long : (f : List ℕ) → 5 < length f → number f ≡ None
 unfolding begins
 number-long [] h = absurd (omega arith)
 number-long (x ∷ []) h = absurd (omega arith)
@@ -75,22 +74,22 @@ number-long (x ∷ a ∷ b ∷ c ∷ []) h = absurd (omega arith)
 number-long (x ∷ a ∷ b ∷ c ∷ d ∷ []) h = absurd (omega arith)
 number-long (x ∷ a ∷ b ∷ c ∷ d ∷ e ∷ xs) h = go (ℕ_discrete x 48)
   where
-    go : Dec (x ≡ 48) → number (x ∷ a ∷ b ∷ c ∷ d ∷ e ∷ xs) ≡ none
+    go : Dec (x ≡ 48) → number (x ∷ a ∷ b ∷ c ∷ d ∷ e ∷ xs) ≡ None
     go (yes z) = number-not _ (rw (eq-eqb x 48 z))
     go (no z) =
         number_in _ (rw (ne_eqb x 48 z))
         ∙ more 0 x _ (λ u p. let q = digit-some x u p z in
         more _ a _ (λ a' _. more _ b _ (λ b' _. more _ c _ (λ c' _. more _ d _ (λ d' _. more _ e _ (λ e' _. digits-large 65535 _ xs (omega arith)))))))
 
-number_short : (f : List ℕ) (v : ℕ) → number f ≡ some v → length f ≤ 5
+number_short : (f : List ℕ) (v : ℕ) → number f ≡ Some v → length f ≤ 5
 number_short f v p = elim (dec_le (length f) 5) [ yes l ↦ l | no l ↦ absurd (let q = number-long f (omega arith) in let z : ◌≡◌ {A = ℕ} 0 1 = cc in omega arith) ]
 
 -- ---- A list of numbers
 
 -- if there is a list, n bytes are at most m for each of its numbers
 abbrev Within : ℕ → ℕ → Option (List ℕ) → Type 0
-Within m n none = Unit {0}
-Within m n (some vs) = n ≤ m * length vs
+Within m n None = Unit {0}
+Within m n (Some vs) = n ≤ m * length vs
 
 -- a number has five digits, and one byte parts it from the next
 numbers-within : (fs : List (List ℕ)) → Within 6 (width fs) (numbers fs)
@@ -99,9 +98,9 @@ numbers-within [] = omega arith
 numbers-within (f ∷ fs) = go (number f) refl (numbers fs) (numbers-within fs)
   where
     go : (a : Option ℕ) → number f ≡ a → (o : Option (List ℕ)) → Within 6 (width fs) o → Within 6 (width (f ∷ fs)) (also a o)
-    go none p o h = tt
-    go (some v) p none h = tt
-    go (some v) p (some vs) h = omega (arith, number_short f v p)
+    go None p o h = tt
+    go (Some v) p None h = tt
+    go (Some v) p (Some vs) h = omega (arith, number_short f v p)
 
 -- a byte of contents has two digits
 pairs-within : (g : List ℕ) → Within 2 (length g) (pairs g)
@@ -111,16 +110,16 @@ pairs-within (x ∷ []) = tt
 pairs-within (x ∷ y ∷ ys) = go (pair (hex_digit x) (hex_digit y)) (pairs ys) (pairs-within ys)
   where
     go : (a : Option ℕ) (o : Option (List ℕ)) → Within 2 (length ys) o → Within 2 (length (x ∷ y ∷ ys)) (also a o)
-    go none o h = tt
-    go (some v) none h = tt
-    go (some v) (some vs) h = omega arith
+    go None o h = tt
+    go (Some v) None h = tt
+    go (Some v) (Some vs) h = omega arith
 
 -- too many bytes for n numbers
-up-long : (m n k : ℕ) (o : Option (List ℕ)) → Within m k o → ((i : ℕ) → i ≤ n → k ≤ m * i → ⊥) → up_to n o ≡ none
-up-long m n k none w f = up_none n
-up-long m n k (some vs) w f = elim (dec_le (length vs) n) [ yes l ↦ absurd (f (length vs) l w) | no l ↦ up-out n vs (omega arith) ]
+up-long : (m n k : ℕ) (o : Option (List ℕ)) → Within m k o → ((i : ℕ) → i ≤ n → k ≤ m * i → ⊥) → up_to n o ≡ None
+up-long m n k None w f = up_none n
+up-long m n k (Some vs) w f = elim (dec_le (length vs) n) [ yes l ↦ absurd (f (length vs) l w) | no l ↦ up-out n vs (omega arith) ]
 
-contents-long : (g : List ℕ) → 2048 < length g → contents g ≡ none
+contents-long : (g : List ℕ) → 2048 < length g → contents g ≡ None
 unfolding contents
 contents-long [] h = refl
 contents-long (x ∷ xs) h = up-long 2 contents_room _ (pairs (x ∷ xs)) (pairs-within (x ∷ xs)) (λ i l w. omega arith)
@@ -129,13 +128,13 @@ contents-long (x ∷ xs) h = up-long 2 contents_room _ (pairs (x ∷ xs)) (pairs
 
 opened-long : (n : ℕ) (o : Option (List ℕ)) → Within 6 n o → tape_width < n → opened o ≡ malformed
 unfolding opened
-opened-long n none w h = refl
-opened-long n (some vs) w h = rw (ne_eqb (length vs) 6 (λ z. omega arith))
+opened-long n None w h = refl
+opened-long n (Some vs) w h = rw (ne_eqb (length vs) 6 (λ z. omega arith))
 
 read-long : (n : ℕ) (o : Option (List ℕ)) → Within 6 n o → tape_width < n → read o ≡ malformed
 unfolding read
-read-long n none w h = refl
-read-long n (some vs) w h = rw (ne_eqb (length vs) 1 (λ z. omega arith))
+read-long n None w h = refl
+read-long n (Some vs) w h = rw (ne_eqb (length vs) 1 (λ z. omega arith))
 
 bare-long : (l : Line) (fs : List (List ℕ)) → tape_width < width fs → bare l fs ≡ malformed
 unfolding bare width
@@ -148,9 +147,9 @@ written-long [] h = refl
 written-long (f ∷ []) h = refl
 written-long (f ∷ g ∷ []) h = go (dec_le (length f) 5)
   where
-    either : (a : Option ℕ) → stored a none ≡ malformed
-    either none = refl
-    either (some b) = refl
+    either : (a : Option ℕ) → stored a None ≡ malformed
+    either None = refl
+    either (Some b) = refl
 
     go : Dec (length f ≤ 5) → stored (number f) (contents g) ≡ malformed
     go (yes l) = rw (contents-long g (omega arith)) (either (number f))
@@ -181,11 +180,11 @@ module _ (l : List ℕ) (h : line_room < length l) where
   unfolding line_of
   long-line = letter-long (letter (fields l)) (others (fields l)) others-long
 
-  pub long-tape : tape_of l ≡ none
+  pub long-tape : tape_of l ≡ None
   unfolding tape_of
   long-tape = go (eqb (letter (fields l)) 84) refl
     where
-      go : (t : Bool) → eqb (letter (fields l)) 84 ≡ t → tape_of l ≡ none
+      go : (t : Bool) → eqb (letter (fields l)) 84 ≡ t → tape_of l ≡ None
       go true e =
           let w = others-long (λ z. omega (arith, eqb-true (letter (fields l)) 84 e)) in
           rw e (up-long 6 most_words _ (numbers (others (fields l))) (numbers-within (others (fields l))) (λ i k u. omega arith))

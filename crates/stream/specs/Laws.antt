@@ -1,11 +1,15 @@
 -- One byte more of a line, what waits behind a line, and the words of a tape.
-use Rattle.std.specs.Prelude.{◌≡◌, List, [], ◌∷◌, ◌++◌, ℕ, zero, suc, ◌+◌, ◌-◌, ◌*◌, ◌/◌, ◌≤◌, ◌<◌, length, take, drop, get_or, set}
+use Rattle.std.specs.Prelude.{◌≡◌, refl, false, List, [], ◌∷◌, ◌++◌, ℕ, zero, suc, ◌+◌, ◌-◌, ◌*◌, ◌/◌, ◌≤◌, ◌<◌, length, take, drop, get_or, set}
 use Rattle.std.proofs.Common.{ap, sym, ◌∙◌, append_assoc, add-one, arith, take-suc, take-suc-set, drop-drop, get_or-take, ext_get_or, length-take-le}
 use Rattle.std.proofs.Math.Decide.{ℕ_discrete}
 use Rattle.std.proofs.Math.Seq.{take-nil}
 use Rattle.memory.specs.Words.{word_at}
 use Rattle.tape.specs.Tape.{words_of, length-words, word-is}
 use Rattle.lines.specs.Stored.{length-first, first-is}
+use Rattle.lines.specs.Said.{said}
+use Rattle.lines.specs.declared.Line.{Line}
+use Rattle.lines.specs.declared.Line.TheVariants.{Open, Read, Write, Turn, Collect, Malformed}
+use Rattle.session.specs.Session.{ends}
 use Rattle.stream.specs.Stream.{Plain}
 
 -- a byte that is no newline leaves the bytes plain
@@ -48,6 +52,18 @@ waits-behind l from to i =
     let place : from + i + 1 ≡ from + (i + 1) = omega arith in
     let size : to - (from + i + 1) ≡ (to - from) - (i + 1) = omega arith in
     (λ j. take (size j) (drop (place j) l)) ∙ ap (take ((to - from) - (i + 1))) (sym (drop-drop (i + 1) from l)) ∙ sym (drop-take (i + 1) (to - from) (drop from l))
+
+-- ---- Lines
+
+-- a line that is not malformed does not end the session
+pub ends-not : (l : Line) → (l ≡ Malformed → ⊥) → (b : List ℕ) → ends (said l b) ≡ false
+unfolding ends
+ends-not (Open h) n b = refl
+ends-not (Read k) n b = refl
+ends-not (Write k i) n b = refl
+ends-not Turn n b = refl
+ends-not Collect n b = refl
+ends-not Malformed n b = absurd (n refl)
 
 -- ---- The tape
 

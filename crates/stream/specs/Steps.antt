@@ -1,9 +1,8 @@
 -- What the bytes that a turn takes do to a history.
-use Rattle.std.specs.Prelude.{◌≡◌, refl, Bool, true, false, ℕ, suc, length, take}
+use Rattle.std.specs.Prelude.{◌≡◌, refl, Bool, true, false, ℕ, suc, length, take, Option, None, Some}
 use Rattle.std.proofs.Math.Path.{sym, ap}
 use Rattle.std.proofs.Common.{◌∙◌, arith, ne_eqb}
 use mathlib.Core.List.{List, [], ◌∷◌, ◌++◌, append_assoc, append-nil}
-use Rattle.std.proofs.Math.Option.{Option, none, some}
 use Rattle.lines.specs.Lines.{line_of, tape_of}
 use Rattle.session.specs.Session as S
 use Rattle.session.specs.Session.{ends, gives, prints, session, leaves, left, begun}
@@ -132,7 +131,7 @@ unfolding session left
 begun-does s l b r e first going k = does-same (ap (λ t. coming t (kept_in s b)) (sym first)) refl (go (tape_of l) refl k.begins)
   where
     go : (t : Option (List ℕ)) → tape_of l ≡ t → Begins t s l b r e → Does (coming true (kept_in s b)) l s.output b.out (until r.done (kept_in r e)) r.output e.out
-    go (some ws) q (w, new, out, done, same) = record {
+    go (Some ws) q (w, new, out, done, same) = record {
       text = [];
       gives = λ ls. rw (q, session, left, done, going) (ap (λ x. coming false x ls) (sym is));
       holds = λ t h. rw (append-nil t, out, same) h;
@@ -140,7 +139,7 @@ begun-does s l b r e first going k = does-same (ap (λ t. coming t (kept_in s b)
       where
         is : kept_in r e ≡ begun b.host ws
         is = ap (λ x. kept x e.memory (take r.tape e.tape) e.host) new ∙ fresh_kept e.memory (take r.tape e.tape) e.host ∙ (λ i. begun (same i).host (w i))
-    go none q (z, done, g) =
+    go None q (z, done, g) =
         let d = gives_does (ends (line_of l)) fresh 0 s.output l (buffers e.tape b.memory b.host b.out) r e refl g in
         does-same refl (λ i. until (done i) (kept r.session e.memory (take (sym z i) e.tape) e.host)) (record {
           text = d.text;

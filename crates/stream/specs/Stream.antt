@@ -1,6 +1,5 @@
 -- What the functions over buffers say.
-use Rattle.std.specs.Prelude.{◌≡◌, Bool, true, false, List, ◌++◌, ℕ, ◌+◌, ◌-◌, ◌≤◌, ◌<◌, length, take, get_or, eqb}
-use Rattle.std.proofs.Math.Option.{Option, none, some}
+use Rattle.std.specs.Prelude.{◌≡◌, Bool, true, false, List, ◌++◌, ℕ, ◌+◌, ◌-◌, ◌≤◌, ◌<◌, length, take, get_or, eqb, Option, None, Some}
 use Rattle.tape.specs.Tape.{words_of}
 use Rattle.lines.specs.Lines.{line_of, tape_of, tape_room}
 use Rattle.session.specs.Session.{ends}
@@ -87,8 +86,8 @@ pub record Responds (s : State) (line : List ℕ) (b : Buffers) (r : State) (e :
 
 -- The first line: a tape is lent from then on, exactly its words, and prints nothing; without one the tape is empty, and the line is any other
 abbrev pub Begins : Option (List ℕ) → State → List ℕ → Buffers → State → Buffers → Type 0
-Begins (some ws) s line b r e = (words_of (take r.tape e.tape) ≡ ws) × (r.session ≡ fresh) × (r.output ≡ s.output) × (r.done ≡ s.done) × (e ≡ buffers e.tape b.memory b.host b.out)
-Begins none s line b r e = (r.tape ≡ 0) × (ends (line_of line) ≡ r.done) × Gives (ends (line_of line)) fresh 0 s.output line (buffers e.tape b.memory b.host b.out) r e
+Begins (Some ws) s line b r e = (words_of (take r.tape e.tape) ≡ ws) × (r.session ≡ fresh) × (r.output ≡ s.output) × (r.done ≡ s.done) × (e ≡ buffers e.tape b.memory b.host b.out)
+Begins None s line b r e = (r.tape ≡ 0) × (ends (line_of line) ≡ r.done) × Gives (ends (line_of line)) fresh 0 s.output line (buffers e.tape b.memory b.host b.out) r e
 
 pub record Begun (s : State) (line : List ℕ) (b : Buffers) (r : State) (e : Buffers) : Type 0 where
   pub ready : Ready r e.tape

@@ -15,7 +15,7 @@ ghost use Rattle.output.specs.Sent.{leaving, Sent, Part};
 ghost use Rattle.stream.specs.History.{Turned, Followed, Prints, Pages, zeros};
 ghost use Rattle.stream.specs.Carried.{Carries, Handed, Broken, Answered, PageShown, PageBroken};
 
-use lines::{CONTENTS, Line, TAPE, WORDS};
+use lines::{CONTENTS, Line, TAPE};
 use output::{OUT, Output};
 use session::{HOST, MEMORY, Session};
 use std::io;
@@ -33,20 +33,21 @@ pub struct State {
     // the store, and how many bytes of the tape's buffer are the tape
     pub session: Session,
     pub tape: usize,
-    // whether no line was read yet, and whether the session has ended
+    // whether no line was read yet, and whether the session has ended. Flags and no Option, since the session is there before its first line and after its end
     pub first: bool,
     pub done: bool,
-    // whether a read failed, which ends the session as the input's end does
+    // whether a read failed, which ends the session as the input's end does; a flag, since the session is there either way
     pub failed: bool,
-    // the bytes of the last read that are not taken yet: from place `from` up to place `to`
+    // the bytes of the last read that are not taken yet: from place `from` up to place `to` of a fixed buffer, which stands beside, since it is too large to move
     pub from: usize,
     pub to: usize,
-    // how many bytes of the line's buffer are filled
+    // how many bytes of the line's buffer, which is fixed too, are filled
     pub len: usize,
     pub output: Output,
 }
 
-// How many bytes were handed to the writer, and whether a read failed, so that the reader may have more.
+// How many bytes were handed to the writer, and whether a read failed, so that the reader may have more: a flag beside, since the bytes are handed over
+// either way.
 #[derive(Clone, Copy)]
 pub struct Ran {
     pub handed: u64,
@@ -65,39 +66,28 @@ pub enum Brought {
 }
 
 // Takes bytes into the line, up to a newline.
-fn scan(bytes: &[u8], line: &mut [u8], len: usize) -> Brought
-    requires { (len ≤ line_room) × (length line.old ≡ line_room) }
+fn scan(bytes: &[u8], line: &mut [u8; LINE], len: usize) -> Brought
+    requires { len ≤ line_room }
     ensures { Brings bytes.now (take len line.old) result line.new }
 {
-    let mut k = len;
-    let mut i = 0;
-    while i < bytes.len() {
-        let b = bytes[i];
-        if b == b'\n' {
+    for (i, b) in bytes.iter().enumerate() {
+        let k = len + i;
+        if *b == b'\n' {
             return Brought::Whole(k, i);
         }
         if k == LINE {
             return Brought::TooLong;
         }
-        line[k] = b;
-        k += 1;
-        i += 1;
+        line[k] = *b;
     }
-    Brought::Part(k)
+    Brought::Part(len + bytes.len())
 }
 
 // Whether a line ends the session.
 fn ends(line: Line) -> bool
     ensures { (b : List ℕ) → ends_of (said line b) ≡ result }
 {
-    match line {
-        Line::Open(_) => false,
-        Line::Read(_) => false,
-        Line::Write(_, _) => false,
-        Line::Turn => false,
-        Line::Collect => false,
-        Line::Malformed => true,
-    }
+    matches!(line, Line::Malformed)
 }
 
 // Answers a line that is no tape. A malformed one ends the session.
@@ -154,8 +144,7 @@ fn begin<W: Write>(
     let mut t = s;
     t.session = session::start();
     t.first = false;
-    let k = lines::read_tape(line, tape);
-    if k <= WORDS {
+    if let Some(k) = lines::read_tape(line, tape) {
         t.tape = k * 2;
         return Ok(t);
     }
@@ -237,7 +226,7 @@ fn turn<R: Read, W: Write>(
     }
 }
 
-// A proved loop has to end, and nothing says that the input does: the turns are counted down from a number that no run uses up. 2^53 turns last 28 years at ten
+// A proved loop has to end, and nothing says that the input does: the turns are as many as no run uses up. 2^53 turns last 28 years at ten
 // million a second. A turn prints at most 1,027 bytes, so that the count of them all stays below 2^64.
 const TURNS: u64 = 9007199254740992;
 
@@ -269,9 +258,7 @@ fn follow<R: Read, W: Write>(
         len: 0,
         output: output::empty(silent),
     };
-    let mut turns = TURNS;
-    while turns > 0 {
-        turns -= 1;
+    for _turn in 0..TURNS {
         s = turn(
             s, reader, writer, &mut chunk, &mut line, &mut tape, memory, &mut host, out,
         )?;
@@ -315,8 +302,7 @@ fn present<W: Write>(
     ensures all { OnOk result (Appends (W.contents writer.old) (W.contents writer.new) (shown (state_of s.session.client memory.now) memory_room)) }
     ensures part { OnErr result (Part (shown (state_of s.session.client memory.now) memory_room) (W.contents writer.old) (W.contents writer.new)) }
 {
-    let page = report::write(s.session.client, memory, out);
-    let n = page.length;
+    let n = report::write(s.session.client, memory, out).unwrap_or(0);
     output::show(out, n, s.output, writer)
 }
 

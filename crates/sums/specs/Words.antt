@@ -1,7 +1,8 @@
 -- The words of a body, as a loop over them goes.
-use Rattle.std.specs.Prelude.{◌≡◌, ℕ, suc, ◌+◌, ◌-◌, ◌*◌, ◌%◌, ◌^◌, ◌<◌, ◌≤◌, List, ◌∷◌, length, take, drop, slice_index}
-use Rattle.std.proofs.Common.{ap, ◌∙◌, arith, drop-cons, drop-drop}
-use Rattle.rules.specs.Form.Numbers.{value}
+use Rattle.std.specs.Prelude.{◌≡◌, ℕ, suc, ◌+◌, ◌-◌, ◌*◌, ◌/◌, ◌%◌, ◌^◌, ◌<◌, ◌≤◌, List, [], ◌∷◌, length, take, drop, slice_index}
+use Rattle.std.specs.Int.{w32, to_le_bytes}
+use Rattle.std.proofs.Common.{ap, sym, ◌∙◌, arith, drop-cons, drop-drop}
+use Rattle.rules.specs.Form.Numbers.{little, value}
 use Rattle.rules.specs.Form.Sums.{words_of, sum_from}
 
 -- four bytes as one number
@@ -30,6 +31,17 @@ word-is m a h = ap (λ xs. value (take 4 xs)) four ∙ omega arith
         ∙ ap (λ r. slice_index m a ∷ r) (next (a + 1) (a + 2) (omega arith) e2
         ∙ ap (λ r. slice_index m (a + 1) ∷ r) (next (a + 2) (a + 3) (omega arith) e3
         ∙ ap (λ r. slice_index m (a + 2) ∷ r) (next (a + 3) (a + 4) (omega arith) e4)))
+
+-- a number as four bytes
+pub little-four : (x : ℕ) → to_le_bytes w32 x ≡ little 4 x
+unfolding little
+little-four x = λ i. x % 256 ∷ x / 256 % 256 ∷ sym third i ∷ sym fourth i ∷ []
+  where
+    third : x / 256 / 256 % 256 ≡ x / 65536 % 256
+    third = omega arith
+
+    fourth : x / 256 / 256 / 256 % 256 ≡ x / 16777216 % 256
+    fourth = omega arith
 
 -- the first of the words from word i on, and those behind it
 words-from : (n i : ℕ) (body : List ℕ) → i < n → words_of (n - i) (drop (i * 4) body) ≡ value (take 4 (drop (i * 4) body)) ∷ words_of (n - (i + 1)) (drop ((i + 1) * 4) body)

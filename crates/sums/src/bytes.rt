@@ -1,4 +1,4 @@
-// Bytes and numbers, put into a buffer from a place on. Each function returns the place behind what it put.
+// Bytes and numbers, put into a buffer from a place on. Each function returns the place behind what it put. (Two arguments, as in printing.)
 ghost use Rattle.std.specs.Prelude.{◌+◌, ◌<◌, ◌≤◌, length, replicate};
 ghost use Rattle.rules.specs.Form.Numbers.{little};
 ghost use Rattle.lists.specs.Written.{Written};
@@ -8,25 +8,16 @@ pub fn byte(buffer: &mut [u8], at: usize, x: usize) -> usize
     requires { at < length buffer.old }
     ensures { Written buffer.old at (little 1 x) buffer.new result }
 {
-    buffer[at] = (x % 256) as u8;
+    buffer[at] = (x % 256) as u8; // as, since it fits: TryFrom would answer an Err that never comes; so below
     at + 1
 }
 
-// A number of two bytes, lowest first; and one of four.
+// A number of two bytes, lowest first.
 pub fn number(buffer: &mut [u8], at: usize, x: usize) -> usize
     requires { at + 2 ≤ length buffer.old }
     ensures { Written buffer.old at (little 2 x) buffer.new result }
 {
-    let k = byte(buffer, at, x);
-    byte(buffer, k, x / 256)
-}
-
-pub fn word(buffer: &mut [u8], at: usize, x: usize) -> usize
-    requires { at + 4 ≤ length buffer.old }
-    ensures { Written buffer.old at (little 4 x) buffer.new result }
-{
-    let k = number(buffer, at, x);
-    number(buffer, k, x / 256 / 256)
+    copy(buffer, at, &((x % 65536) as u16).to_le_bytes())
 }
 
 // All of src.
@@ -35,7 +26,7 @@ pub fn copy(buffer: &mut [u8], at: usize, src: &[u8]) -> usize
     ensures { Written buffer.old at src.now buffer.new result }
 {
     let e = at + src.len();
-    memory::blocks::copy(&mut buffer[at..e], src);
+    buffer[at..e].copy_from_slice(src);
     e
 }
 
@@ -45,6 +36,6 @@ pub fn zeros(buffer: &mut [u8], at: usize, n: usize) -> usize
     ensures { Written buffer.old at (replicate n 0) buffer.new result }
 {
     let e = at + n;
-    memory::blocks::zeros(&mut buffer[at..e]);
+    buffer[at..e].fill(0);
     e
 }

@@ -15,22 +15,12 @@ const BLOCK: usize = 512;
 
 const BODY: usize = 508;
 
-// The byte x as a number of 32 bits.
-fn wide(x: u8) -> u32
-    ensures { (result ≡ x) × (result < 256) }
-{
-    x as u32
-}
-
-// The four bytes from `at` on, lowest first, written so that the compiler makes one load of it.
+// The four bytes from `at` on, lowest first.
 fn word(body: &[u8], at: usize) -> u32
     requires { at + 4 ≤ length body.now }
     ensures { result ≡ value (take 4 (drop at body.now)) }
 {
-    wide(body[at])
-        + wide(body[at + 1]) * 256
-        + wide(body[at + 2]) * 65536
-        + wide(body[at + 3]) * 16777216
+    u32::from_le_bytes([body[at], body[at + 1], body[at + 2], body[at + 3]])
 }
 
 // The sum modulo 2^32 of the 127 words of a body and of its block's number.
@@ -39,10 +29,8 @@ fn sum(body: &[u8], k: u32) -> u32
     ensures { result ≡ block_sum k body.now }
 {
     let mut a = k;
-    let mut i = 0;
-    while i < 127 {
-        a = std::num::wrapping_add_u32(a, word(body, i * 4));
-        i += 1;
+    for i in 0..127 {
+        a = a.wrapping_add(word(body, i * 4));
     }
     a
 }
@@ -55,10 +43,10 @@ fn place(buffer: &mut [u8], k: usize)
     let a = k * BODY;
     let e = a + BODY;
     let mut body = [0u8; BODY];
-    memory::blocks::copy(&mut body, &buffer[a..e]);
-    let s = sum(&body, k as u32);
+    body.copy_from_slice(&buffer[a..e]);
+    let s = sum(&body, k as u32); // as, since it fits; so below
     let end = bytes::copy(buffer, k * BLOCK, &body);
-    bytes::word(buffer, end, s as usize);
+    bytes::copy(buffer, end, &s.to_le_bytes());
 }
 
 // The bytes of the blocks that n bytes of payload need.
@@ -76,9 +64,7 @@ pub fn spread(buffer: &mut [u8], n: usize)
 {
     let count = (n + 507) / BODY;
     bytes::zeros(buffer, n, count * BODY - n);
-    let mut k = count;
-    while 0 < k {
-        k -= 1;
+    for k in (0..count).rev() {
         place(buffer, k);
     }
 }
@@ -105,13 +91,10 @@ pub fn is_summed(form: &[u8]) -> bool
     if len % 512 != 0 {
         return false;
     }
-    let n = len / 512;
-    let mut k = 0;
-    while k < n {
+    for k in 0..len / 512 {
         if !is_block(form, k) {
             return false;
         }
-        k += 1;
     }
     true
 }

@@ -6,9 +6,8 @@ ghost use Rattle.lists.specs.Search.{keep};
 ghost use Rattle.rules.specs.Draws.{limit};
 ghost use Rattle.rules.specs.Levels.{filled, down};
 ghost use Rattle.rules.specs.Jobs.{orders_bounds};
-ghost use Rattle.rules.specs.Laws.Drawn.{SettledBy};
 ghost use Rattle.tape.specs.Tape.{words_of};
-ghost use Rattle.tape.specs.Settled.{Counts, OrderTo, LevelTo};
+ghost use Rattle.tape.specs.Settled.{Counts, Settles, OrderTo, LevelTo};
 
 // How many words there are.
 pub fn words(t: &[u8]) -> usize
@@ -28,20 +27,17 @@ fn passed(w: usize, bound: usize) -> bool
     65536 / bound * bound <= w
 }
 
-// The word that settles a draw below `bound`: the first from word k on that is not passed over. There is none if the result is no word.
-pub fn settle(t: &[u8], k: usize, bound: usize) -> usize
+// The word that settles a draw below `bound`: the first from word k on that is not passed over.
+pub fn settle(t: &[u8], k: usize, bound: usize) -> Option<usize>
     requires { (0 < bound) × (bound ≤ 65536) }
-    ensures { SettledBy bound (words_of t.now) k result }
+    ensures { Settles bound (words_of t.now) k result }
 {
-    let n = words(t);
-    let mut i = k;
-    while i < n {
+    for i in k..words(t) {
         if !passed(memory::word(t, i), bound) {
-            return i;
+            return Some(i);
         }
-        i += 1;
     }
-    i
+    None
 }
 
 // The number that word k gives in a draw below `bound`.
@@ -52,48 +48,38 @@ pub fn draw(t: &[u8], k: usize, bound: usize) -> usize
     memory::word(t, k) % bound
 }
 
-// The word behind the last that the draws of an order of n slots take, from word `from` on, passed ones counted; or more than there are, if they
-// end before the last draw is settled.
-fn order_end(t: &[u8], from: usize, n: usize) -> usize
+// The word behind the last that the draws of an order of n slots take, from word `from` on, passed ones counted; none if the words end before the last
+// draw is settled.
+fn order_end(t: &[u8], from: usize, n: usize) -> Option<usize>
     requires { (from ≤ length (words_of t.now)) × (n ≤ 65536) }
     ensures { OrderTo n (words_of t.now) from result }
 {
     let mut k = from;
-    let mut bound = n;
-    while 1 < bound {
-        k = settle(t, k, bound) + 1;
-        if words(t) < k {
-            return k;
-        }
-        bound -= 1;
+    for bound in (2..n + 1).rev() {
+        k = settle(t, k, bound)? + 1;
     }
-    k
+    Some(k)
 }
 
 // The same of level l, whose order is drawn if it is filled in `next`.
-fn level_end(t: &[u8], from: usize, next: usize, l: usize) -> usize
+fn level_end(t: &[u8], from: usize, next: usize, l: usize) -> Option<usize>
     requires { (from ≤ length (words_of t.now)) × (l < 16) }
     ensures { LevelTo next l (words_of t.now) from result }
 {
     if !bits::filled(next, l) {
-        return from;
+        return Some(from);
     }
     order_end(t, from, bits::pow2(l + 1))
 }
 
-// How many words the orders of the levels up to `top` take that are filled in `next`, highest first; or more than there are.
-pub fn orders_words(t: &[u8], next: usize, top: usize) -> usize
+// How many words the orders of the levels up to `top` take that are filled in `next`, highest first; none if the words end before the last draw is settled.
+pub fn orders_words(t: &[u8], next: usize, top: usize) -> Option<usize>
     requires { top < 16 }
     ensures { Counts (orders_bounds (keep (filled next) (down (suc top)))) (words_of t.now) result }
 {
     let mut k = 0;
-    let mut l = top + 1;
-    while 0 < l {
-        l -= 1;
-        k = level_end(t, k, next, l);
-        if words(t) < k {
-            return k;
-        }
+    for l in (0..top + 1).rev() {
+        k = level_end(t, k, next, l)?;
     }
-    k
+    Some(k)
 }

@@ -12,12 +12,7 @@ min-is c e = c.if-room-eq0.false (omega arith)
 pub returns-then-room-eq0 : goal.returns-then-room-eq0
 returns-then-room-eq0 c = λ h e. joins-full c.args.levels c.args.c c.requires.1 h e c.args.n (omega arith)
 
-pub returns-then-n-room : goal.returns-then-n-room
-returns-then-n-room c = λ h e.
-    let k : c.args.n ≡ min c.args.n (2 ^ c.args.levels - 1 - c.args.c) = omega arith in
-    k ∙ joins-some c.args.levels c.args.c c.requires.1 h e c.args.n (min-is c.before)
-
-pub returns-else-n-room : goal.returns-else-n-room
-returns-else-n-room c = λ h e.
-    let k : c.pow2.result - 1 - c.args.c ≡ min c.args.n (2 ^ c.args.levels - 1 - c.args.c) = omega arith in
-    k ∙ joins-some c.args.levels c.args.c c.requires.1 h e c.args.n (min-is c.before)
+pub returns : goal.returns
+returns c = λ h e.
+    let k : c.min.result ≡ min c.args.n (2 ^ c.args.levels - 1 - c.args.c) = omega arith in
+    k ∙ joins-some c.args.levels c.args.c c.requires.1 h e c.args.n (min-is (goal.at.returns c).Else-room-eq0)

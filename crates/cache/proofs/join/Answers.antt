@@ -3,9 +3,9 @@ use native.Mathlib.Omega.{arith}
 use Rattle.memory.specs.Fits.{fit-lt}
 use Rattle.cache.proofs.join.Goals as goal
 
-pub set_waiting-requires : goal.set_waiting-requires
-set_waiting-requires c =
+pub set-requires : goal.set-requires
+set-requires c =
     let h = c.args.c.shape in
-    let w = c.waiting-x in
+    let w = c.get-x in
     let l : w.result < h.n = rw w.ensures (fit-lt h.n _ (omega arith)) in
     omega arith

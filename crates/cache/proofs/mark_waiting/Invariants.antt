@@ -1,4 +1,3 @@
-use Prim.Native.Nat.{◌-◌, ◌≤◌}
 use mathlib.Core.Path.{◌≡◌}
 use lib.ListN.{length}
 use Rattle.memory.specs.Tables.{tables_of}
@@ -9,7 +8,4 @@ use Rattle.cache.specs.Marks.{marks_room, Marked}
 use Rattle.cache.proofs.mark_waiting.Given as goal
 
 abbrev pub invariant-loop-i : goal.invariant-loop-i
-invariant-loop-i l = (l.i ≤ l.n) × (length l.marks ≡ marks_room) × Marked (rows (fitted l.c.shape.n (tables_of (shape_of l.c.shape) l.m).waiting) l.i) l.marks
-
-abbrev pub decreases-loop-i : goal.decreases-loop-i
-decreases-loop-i l = l.n - l.i
+invariant-loop-i l = (length l.marks ≡ marks_room) × Marked (rows (fitted l.c.shape.n (tables_of (shape_of l.c.shape) l.m).waiting) l.i) l.marks

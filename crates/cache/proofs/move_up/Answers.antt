@@ -3,16 +3,16 @@ use native.Mathlib.Omega.{arith}
 use Rattle.memory.specs.Fits.{fit-lt}
 use Rattle.cache.proofs.move_up.Goals as goal
 
-pub partition-requires : goal.partition-requires
-partition-requires c =
+pub get-requires : goal.get-requires
+get-requires c =
     let h = c.args.c.shape in
-    let w = c.waiting-x in
+    let w = c.get-x in
     let l : w.result < h.n = rw w.ensures (fit-lt h.n _ (omega arith)) in
     omega arith
 
-pub set_waiting-requires : goal.set_waiting-requires
-set_waiting-requires c =
+pub set-requires : goal.set-requires
+set-requires c =
     let h = c.args.c.shape in
-    let w = c.waiting-x in
+    let w = c.get-x in
     let l : w.result < h.n = rw w.ensures (fit-lt h.n _ (omega arith)) in
     omega arith

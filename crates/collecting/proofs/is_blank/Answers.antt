@@ -6,13 +6,13 @@ use Rattle.client.specs.Readings.{place-as}
 use Rattle.client.specs.Changes.{stored-not, nowhere-is}
 use Rattle.collecting.proofs.is_blank.Goals as goal
 
-pub returns-then-place-ge2 : goal.returns-then-place-ge2
-returns-then-place-ge2 c =
+pub returns-then-get-ge2 : goal.returns-then-get-ge2
+returns-then-get-ge2 c =
     let a = c.args in
-    rw (place-as a.c a.m.now a.c.request.block c.place.result c.place.ensures, stored-not a.c.shape.l c.place.result c.if-place-ge2.true)
+    rw (place-as a.c a.m.now a.c.request.block c.get.result c.get.ensures, stored-not a.c.shape.l c.get.result c.if-get-ge2.true)
 
 pub returns : goal.returns
 unfolding is_nowhere
 returns c =
     let a = c.args in
-    rw (place-as a.c a.m.now a.c.request.block c.place.result c.place.ensures, nowhere-is a.c.shape.l c.place.result (omega arith)) (ap not c.is_waiting.ensures)
+    rw (place-as a.c a.m.now a.c.request.block c.get.result c.get.ensures, nowhere-is a.c.shape.l c.get.result (omega arith)) (ap not c.is_waiting.ensures)

@@ -3,6 +3,7 @@ use Prim.Native.Nat.{◌+◌}
 use native.Mathlib.Omega.{arith}
 use lib.Pow.{pow_mono}
 use Rattle.rules.proofs.Laws.Layout.{offset-lt}
+use Rattle.client.specs.Kinds.{kind_number}
 use Rattle.client.specs.View.{state_of}
 use Rattle.commands.specs.Outstanding.{Outstanding}
 use Rattle.commands.specs.Commands.{spot_command, spot-command, none-such}
@@ -25,5 +26,5 @@ search-requires c =
 pub returns : goal.returns
 returns c =
     let a = c.args in
-    let k = spot_command a.c.shape.l a.kind a.q in
-    subst (λ d. Outstanding d (state_of a.c a.m.now).outstanding c.search.result) (ap (λ n. k (n + a.i)) c.pow2-n.ensures.0 ∙ spot-command a.c.shape.l a.kind a.q a.l a.i (omega arith) (omega arith)) c.search.ensures
+    let k = spot_command a.c.shape.l (kind_number a.kind) a.q in
+    subst (λ d. Outstanding d (state_of a.c a.m.now).outstanding c.search.result) (ap (λ n. k (n + a.i)) c.pow2-n.ensures.0 ∙ spot-command a.c.shape.l (kind_number a.kind) a.q a.l a.i (omega arith) (omega arith)) c.search.ensures

@@ -10,12 +10,12 @@ use Rattle.commands.proofs.is_busy.Goals as goal
 pub returns-then-fit-q : goal.returns-then-fit-q
 returns-then-fit-q c =
     let l = c.loop-i in
-    rw outstanding-is (sym (hit-in (of_partition _) _ c.args.c.out c.args.n c.requires.2 l.i (omega arith) (eq-eqb _ _ (partition-is _ _ _ _ _ c.command_kind.ensures c.fit.ensures ∙ c.if-fit-q.true))))
+    rw outstanding-is (sym (hit-in (of_partition _) _ c.args.c.out c.args.n c.requires.2 l.i (omega arith) (eq-eqb _ _ (partition-is _ _ _ _ _ c.entry.ensures c.fit.ensures ∙ c.if-fit-q.true))))
 
 pub loop-i-preserved : goal.loop-i-preserved
 loop-i-preserved c =
     let l = c.loop-i in
-    (omega arith, below_more _ _ l.invariant.1 (rw (partition-is _ _ l.i _ _ c.command_kind.ensures c.fit.ensures) (ne_eqb _ _ c.if-fit-q.false)))
+    below_more _ _ l.invariant (rw (partition-is _ _ l.i _ _ c.entry.ensures c.fit.ensures) (ne_eqb _ _ c.if-fit-q.false))
 
 pub returns : goal.returns
-returns c = rw outstanding-is (sym (miss-in (of_partition _) _ c.args.c.out c.args.n c.requires.2 (λ x h. c.loop-i.invariant.1 x (omega arith))))
+returns c = rw outstanding-is (sym (miss-in (of_partition _) _ c.args.c.out c.args.n c.requires.2 (λ x h. c.loop-i.invariant x (omega arith))))

@@ -1,12 +1,9 @@
 use mathlib.Core.Path.{◌≡◌}
 use mathlib.Core.Bool.{false}
-use Prim.Native.Nat.{ℕ, ◌-◌, ◌≤◌, ◌<◌}
+use Prim.Native.Nat.{ℕ, ◌<◌}
 use Rattle.commands.specs.Outstanding.{of_partition}
 use Rattle.commands.specs.Commands.{command_in}
 use Rattle.commands.proofs.is_busy.Given as goal
 
 abbrev pub invariant-loop-i : goal.invariant-loop-i
-invariant-loop-i l = (l.i ≤ l.n) × ((x : ℕ) → x < l.i → of_partition l.q (command_in l.c.shape l.m x) ≡ false)
-
-abbrev pub decreases-loop-i : goal.decreases-loop-i
-decreases-loop-i l = l.n - l.i
+invariant-loop-i l = (x : ℕ) → x < l.i → of_partition l.q (command_in l.c.shape l.m x) ≡ false

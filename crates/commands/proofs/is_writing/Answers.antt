@@ -8,15 +8,15 @@ use Rattle.commands.specs.Outstanding.{of_kind}
 use Rattle.commands.specs.Commands.{outstanding-is, kind-is}
 use Rattle.commands.proofs.is_writing.Goals as goal
 
-pub returns-then-command_kind-ge-WRITE_FROM : goal.returns-then-command_kind-ge-WRITE_FROM
-returns-then-command_kind-ge-WRITE_FROM c =
+pub returns-then-entry-ge-WRITE_FROM : goal.returns-then-entry-ge-WRITE_FROM
+returns-then-entry-ge-WRITE_FROM c =
     let l = c.loop-i in
-    rw outstanding-is (sym (any-hit (of_kind write) _ _ l.i (omega arith) (rw (kind-is _ _ _ _ c.command_kind.ensures, le-ltb _ _ c.if-command_kind-ge-WRITE_FROM.true))))
+    rw outstanding-is (sym (any-hit (of_kind write) _ _ l.i (omega arith) (rw (kind-is _ _ _ _ c.entry.ensures, le-ltb _ _ c.if-entry-ge-WRITE_FROM.true))))
 
 pub loop-i-preserved : goal.loop-i-preserved
 loop-i-preserved c =
     let l = c.loop-i in
-    (omega arith, below_more _ _ l.invariant.1 (rw (kind-is _ _ _ _ c.command_kind.ensures, lt-ltb _ _ c.if-command_kind-ge-WRITE_FROM.false)))
+    below_more _ _ l.invariant (rw (kind-is _ _ _ _ c.entry.ensures, lt-ltb _ _ c.if-entry-ge-WRITE_FROM.false))
 
 pub returns : goal.returns
-returns c = rw outstanding-is (sym (any-miss (of_kind write) _ _ (λ x h. c.loop-i.invariant.1 x (omega arith))))
+returns c = rw outstanding-is (sym (any-miss (of_kind write) _ _ (λ x h. c.loop-i.invariant x (omega arith))))

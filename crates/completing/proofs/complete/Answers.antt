@@ -1,7 +1,9 @@
 use mathlib.Core.Path.{◌≡◌, ap, ◌∙◌, subst}
 use Prim.Native.Nat.{◌-◌}
+use native.Mathlib.Omega.{arith}
 use Rattle.rules.specs.Setters.{set_outstanding}
 use Rattle.client.specs.declared.Client.{Client}
+use Rattle.client.specs.Kinds.{kind_number}
 use Rattle.client.specs.Moves.{with_request, with_out, Stands}
 use Rattle.client.specs.Rows.{drop_at}
 use Rattle.client.specs.View.{state_of}
@@ -20,13 +22,13 @@ stands c =
     let a = c.args in
     subst (λ x. Stands c.complete-d.result a.m.now c.complete-d.new.m (set_outstanding (drop_at a.j (state_of x a.m.now).outstanding) (state_of x a.m.now))) c.await_less.ensures c.complete-d.ensures.1
 
-pub returns-then-kind-eq-READ : goal.returns-then-kind-eq-READ
-returns-then-kind-eq-READ c =
+pub returns-in-Read : goal.returns-in-Read
+returns-in-Read c =
     let a = c.args in
-    (ap (λ (x : Client). x.request) (client-is (goal.at.returns-then-kind-eq-READ c).After-complete-d), read_done a.c c.complete-d.result a.m.now _ _ a.bytes.now a.j c.requires (stands (goal.at.returns-then-kind-eq-READ c).After-complete-d) _ c.if-kind-eq-READ.true c.store_read.ensures)
+    (ap (λ (x : Client). x.request) (client-is (goal.at.returns-in-Read c).After-complete-d), read_done a.c c.complete-d.result a.m.now _ _ a.bytes.now a.j c.requires (stands (goal.at.returns-in-Read c).After-complete-d) _ (ap kind_number c.in-Read.is) c.store_read.ensures)
 
-pub returns : goal.returns
-returns c =
+pub returns-in-Write : goal.returns-in-Write
+returns-in-Write c =
     let f = c.finish_job in
     let a = c.args in
-    (f.ensures.2 ∙ ap (λ (x : Client). x.request) (client-is (goal.at.returns c).After-complete-d), write_done a.c c.complete-d.result a.m.now _ _ a.bytes.now a.j c.requires (stands (goal.at.returns c).After-complete-d) _ _ f.ensures.0 c.if-kind-eq-READ.false f.ensures.1)
+    (f.ensures.2 ∙ ap (λ (x : Client). x.request) (client-is (goal.at.returns-in-Write c).After-complete-d), write_done a.c c.complete-d.result a.m.now _ _ a.bytes.now a.j c.requires (stands (goal.at.returns-in-Write c).After-complete-d) _ _ f.ensures.0 (λ e. omega (arith, e, ap kind_number c.in-Write.is)) f.ensures.1)

@@ -14,5 +14,5 @@ returns c =
     let g = c.grown-n in
     let r = c.running-run in
     let a = c.args in
-    let k = counted a.c a.m.now _ a.q g.result r.result r.ensures (g.ensures.0 (shape_of a.c.shape) refl) g.ensures.1 c.set_counter.ensures in
+    let k = counted a.c a.m.now _ a.q g.result r.result r.ensures (g.ensures.0 (shape_of a.c.shape) refl) g.ensures.1 c.set.ensures in
     rw (c.with_sent.ensures, c.with_cursor.ensures, c.with_begun.ensures) (rw p.ensures.0, ended a.c p.result a.m.now _ _ a.q r.result.joined _ r.ensures.joined k p.ensures.0 p.ensures.1, rw p.ensures.0)

@@ -12,30 +12,29 @@ use Rattle.client.specs.Readings.{partition-is}
 use Rattle.counting.specs.Counts.{table_room, most_partitions, row_of}
 use Rattle.counting.specs.Laws.{added-length, row_other, row-none, counted_none, counted-more, counted-le}
 use Rattle.counting.proofs.count_blocks.Goals as goal
-use Rattle.counting.proofs.count_blocks.Goals.{After-partition}
+use Rattle.counting.proofs.count_blocks.Goals.{After-get}
 
 -- a block's partition
-short : (c : After-partition) → c.partition.result < most_partitions
+short : (c : After-get) → c.get.result < most_partitions
 short c =
-    omega (arith, c.partition.ensures, fit-lt c.args.c.shape.p ((tables_of (shape_of c.args.c.shape) c.args.m.now).partition c.loop-b.b) c.requires.0.some_partitions, c.requires.0.partitions)
+    omega (arith, c.get.ensures, fit-lt c.args.c.shape.p ((tables_of (shape_of c.args.c.shape) c.args.m.now).partition c.loop-b.b) c.requires.0.some_partitions, c.requires.0.partitions)
 
 pub loop-b-init : goal.loop-b-init
-loop-b-init c = (omega arith, rw c.requires.2 (length-replicate {A = ℕ} table_room 0), rw c.requires.2 (counted_none _), rw c.requires.2 (row-none (λ j. j) 3 (omega arith)))
+loop-b-init c = (rw c.requires.2 (length-replicate {A = ℕ} table_room 0), rw c.requires.2 (counted_none _), rw c.requires.2 (row-none (λ j. j) 3 (omega arith)))
 
 pub add-requires : goal.add-requires
 add-requires c =
     let l = c.loop-b in
-    let k = counted-le (state_of c.args.c c.args.m.now) l.b c.partition.result l.table (is_nowhere ((state_of c.args.c c.args.m.now).place l.b)) (member l.b (state_of c.args.c c.args.m.now).waiting) (short c) l.invariant.2 in
-    rw c.row-k.ensures (omega arith, short c, omega (arith, c.requires.0.blocks), omega (arith, c.requires.0.blocks))
+    let k = counted-le (state_of c.args.c c.args.m.now) l.b c.get.result l.table (is_nowhere ((state_of c.args.c c.args.m.now).place l.b)) (member l.b (state_of c.args.c c.args.m.now).waiting) (short c) l.invariant.1 in
+    rw c.block_row-row.ensures (short c, omega (arith, c.requires.0.blocks), omega (arith, c.requires.0.blocks))
 
 pub loop-b-preserved : goal.loop-b-preserved
 loop-b-preserved c =
     let l = c.loop-b in
     let s = state_of c.args.c c.args.m.now in
-    let k = counted-le s l.b c.partition.result l.table (is_nowhere (s.place l.b)) (member l.b s.waiting) (short (goal.at.loop-b-preserved c).After-partition) l.invariant.2 in
-    let row = c.row-k.ensures in (
-      omega arith,
-      ap length c.add.ensures ∙ added-length c.row-k.result c.partition.result l.table ∙ l.invariant.1,
-      rw (c.add.ensures, row) (counted-more s l.b c.partition.result l.table (short (goal.at.loop-b-preserved c).After-partition) l.invariant.1 (partition-is c.args.c c.args.m.now l.b c.partition.result c.partition.ensures) l.invariant.2),
-      rw (c.add.ensures, row) (row_other (λ j. j) [] (row_of (is_nowhere (s.place l.b)) (member l.b s.waiting)) c.partition.result l.table (short (goal.at.loop-b-preserved c).After-partition) (omega arith) l.invariant.1 3 (λ z. omega arith) l.invariant.3),
+    let k = counted-le s l.b c.get.result l.table (is_nowhere (s.place l.b)) (member l.b s.waiting) (short (goal.at.loop-b-preserved c).After-get) l.invariant.1 in
+    let row = c.block_row-row.ensures in (
+      ap length c.add.ensures ∙ added-length _ c.get.result l.table ∙ l.invariant.0,
+      rw (c.add.ensures, row) (counted-more s l.b c.get.result l.table (short (goal.at.loop-b-preserved c).After-get) l.invariant.0 (partition-is c.args.c c.args.m.now l.b c.get.result c.get.ensures) l.invariant.1),
+      rw (c.add.ensures, row) (row_other (λ j. j) [] (row_of (is_nowhere (s.place l.b)) (member l.b s.waiting)) c.get.result l.table (short (goal.at.loop-b-preserved c).After-get) (omega arith) l.invariant.0 3 (λ z. omega arith) l.invariant.2),
     )

@@ -1,7 +1,6 @@
 use mathlib.Core.Path.{◌≡◌, ap, sym, ◌∙◌}
 use mathlib.Core.Option.{none}
-use Rattle.client.specs.View.{state_of}
-use Rattle.levels.specs.Next.{found_spot}
+use Rattle.client.specs.View.{state_of, found_of}
 use Rattle.lists.specs.Search.{any}
 use Rattle.rules.specs.Rebuild.{unread}
 use Rattle.commands.specs.Outstanding.{of_partition}
@@ -16,12 +15,12 @@ busy c = let a = c.args in ap (any (of_partition a.q)) (sym (all-taken a.c a.m.n
 
 -- no slot of its sources is left to read
 done : (c : In_default) → let a = c.args in none ≡ unread (state_of a.c a.m.now) a.q
-done c = sym (ap found_spot c.in_default.is) ∙ c.unread-spot.ensures
+done c = sym (ap found_of c.in_default.is) ∙ c.unread.ensures
 
-pub returns-in-At : goal.returns-in-At
-returns-in-At c =
+pub returns-in-Some : goal.returns-in-Some
+returns-in-Some c =
     let a = c.args in
-    gather-read (state_of a.c a.m.now) a.q (c.in-At.l, c.in-At.i) (sym (ap found_spot c.in-At.is) ∙ c.unread-spot.ensures)
+    gather-read (state_of a.c a.m.now) a.q (c.in-Some.l, c.in-Some.i) (sym (ap found_of c.in-Some.is) ∙ c.unread.ensures)
 
 pub returns-then-is_busy : goal.returns-then-is_busy
 returns-then-is_busy c =

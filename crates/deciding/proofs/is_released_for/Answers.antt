@@ -15,5 +15,5 @@ returns-then-x-eq0-2 c =
 pub returns : goal.returns
 returns c =
     let a = c.args in
-    ap (λ p. eqb p a.q) (sym (partition-is a.c a.m.now a.c.request.block c.partition.result c.partition.ensures))
+    ap (λ p. eqb p a.q) (sym (partition-is a.c a.m.now a.c.request.block c.get.result c.get.ensures))
     ∙ sym (looks-at a.c a.m.now a.q c.if-x-eq0.false c.if-x-eq0-2.false)

@@ -19,15 +19,15 @@ pub returns-then-i-n : goal.returns-then-i-n
 returns-then-i-n c =
     let l = c.loop-l in
     let a = c.args in
-    write-next a.c a.m.now a.q a.run c.grown-next.result c.requires.1 (after (goal.at.returns-then-i-n c).After-grown-next) l.l l.i c.slots_at-n.result c.loop-l-test.true c.slots_at-n.ensures c.if-i-n.true l.invariant.1
+    write-next a.c a.m.now a.q a.run c.grown-next.result c.requires.1 (after (goal.at.returns-then-i-n c).After-grown-next) l.l l.i c.slots_at-n.result c.loop-l-test.true c.slots_at-n.ensures c.if-i-n.true l.invariant
 
 pub loop-l-preserved : goal.loop-l-preserved
 loop-l-preserved c =
     let l = c.loop-l in
-    (omega arith, passed-more _ _ _ l.l l.i c.slots_at-n.result c.loop-l-test.true c.slots_at-n.ensures (omega (arith, c.if-i-n.false)) l.invariant.1)
+    passed-more _ _ _ l.l l.i c.slots_at-n.result c.loop-l-test.true c.slots_at-n.ensures (omega (arith, c.if-i-n.false)) l.invariant
 
 pub returns : goal.returns
 returns c =
     let l = c.loop-l in
     let a = c.args in
-    write-ends a.c a.m.now a.q a.run c.grown-next.result c.requires.1 (after (goal.at.returns c).After-grown-next) l.l l.i (omega arith) l.invariant.1
+    write-ends a.c a.m.now a.q a.run c.grown-next.result c.requires.1 (after (goal.at.returns c).After-grown-next) l.l l.i (omega arith) l.invariant

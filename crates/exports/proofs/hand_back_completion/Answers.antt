@@ -1,8 +1,8 @@
-use mathlib.Core.Path.{sym, ◌∙◌}
+use mathlib.Core.Path.{refl, sym, ◌∙◌}
 use Rattle.exports.proofs.Settled.{none-held}
 use Rattle.exports.proofs.hand_back_completion.Goals as goal
 
 pub returns-then-not-is_held : goal.returns-then-not-is_held
 returns-then-not-is_held c =
     let e = c.encode_completion in
-    record { answer = c.pack-then-not-is_held.ensures; accepted = λ _. rw (← e.ensures) (none-held _ _ (sym c.is_held.ensures ∙ c.if-not-is_held.true)); refused = λ n. absurd (n c.if-r-ne0.false) }
+    λ x. rw c.in-Ok.is (record { answer = c.pack.ensures; accepted = λ _. rw (← e.ensures) (none-held _ _ (sym c.is_held.ensures ∙ c.if-not-is_held.true)); refused = λ n. absurd (n refl) })

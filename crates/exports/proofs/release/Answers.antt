@@ -3,7 +3,7 @@ use Rattle.exports.proofs.Settled.{found-stored}
 use Rattle.exports.proofs.release.Goals as goal
 
 pub release-d-requires : goal.release-d-requires
-release-d-requires c = rw c.decode-c.ensures (releasable _ _ c.requires.1)
+release-d-requires c = rw c.decode-c.ensures (releasable _ _ c.requires)
 
 pub returns : goal.returns
 returns c =

@@ -1,13 +1,14 @@
 use mathlib.Core.Path.{refl}
 use mathlib.Core.List.{[]}
-use native.Mathlib.Omega.{arith}
 use Rattle.rules.specs.Questions.{collect}
 use Rattle.rules.specs.Laws.Answers.{opens}
-use Rattle.exports.proofs.Exported.{exported, meets-small}
+use Rattle.exports.proofs.Exported.{exported, meets-small, of-accepted}
+use Rattle.codec.specs.Codec.{Small}
+use Rattle.contract.specs.Answers.{answered}
 use Rattle.exports.proofs.rinwolfedd_collect.Goals as goal
 
 pub hand_back-requires : goal.hand_back-requires
-hand_back-requires c = (omega arith, meets-small _ _ _ _ [] _ _ _ _ c.collect-r.ensures tt)
+hand_back-requires c = of-accepted Small _ _ (λ _. meets-small _ _ _ _ [] _ _ _ _ c.collect-r.ensures tt)
 
 pub returns : goal.returns
 returns c =
@@ -15,4 +16,6 @@ returns c =
     let r = c.collect-r in
     let d = c.decode-c in
     let a = c.args in
-    exported (collect) (unfold opens in refl) a.state.now a.memory.now [] a.buffer.now r.result h.result _ _ _ c.if-state-ne-STATE.false (rw (← d.ensures) r.ensures) tt h.ensures
+    let s = c.in-Some in
+    let w = s.ensures.cases in
+    rw (← w.same) (exported (collect) (unfold opens in refl) s.state.now a.memory.now [] a.buffer.now (answered d.result r.result) h.result _ _ _ (rw w.same w.long) (rw (← d.ensures) r.ensures) tt (h.ensures d.result))

@@ -4,11 +4,13 @@ use Rattle.exports.proofs.rinwolfedd_page.Goals as goal
 pub tell-requires : goal.tell-requires
 tell-requires c =
     let a = c.args in
-    let w = c.write in
-    small a.state.now a.memory.now a.buffer.now w.result.number w.result.length _ c.if-state-ne-STATE.false (rw c.decode-c.ensures at w.ensures) c.decode-c.result
+    let s = c.in-Some in
+    let w = s.ensures.cases in
+    small s.state.now a.memory.now a.buffer.now c.decode-c.result c.write.result c.write.new.out (rw w.same w.long) (rw (← c.decode-c.ensures) c.write.ensures)
 
 pub returns : goal.returns
 returns c =
     let a = c.args in
-    let w = c.write in
-    paged a.state.now a.memory.now a.buffer.now w.result.number w.result.length _ c.if-state-ne-STATE.false (rw (← c.decode-c.ensures) w.ensures) c.decode-c.result c.tell.result c.tell.ensures.0 c.tell.ensures.1
+    let s = c.in-Some in
+    let w = s.ensures.cases in
+    rw (← w.same) (paged s.state.now a.memory.now a.buffer.now c.decode-c.result c.write.result c.write.new.out (rw w.same w.long) (rw (← c.decode-c.ensures) c.write.ensures) c.tell.result c.tell.ensures)

@@ -20,17 +20,17 @@ more : (c : After-slice_known-in-loop-j-1) → let a = c.args in let r = c.add-r
 more c =
     let a = c.args in
     let l = c.loop-j in
-    let h = c.holds-x in
-    c.add-r.ensures.0 ∙ gather-slot a.c a.m.now a.q a.l _ l.j h.result c.cell-base.ensures.0 h.ensures _ l.invariant.3
+    let h = c.get-x in
+    c.add-r.ensures.0 ∙ gather-slot a.c a.m.now a.q a.l _ l.j h.result c.cell-base.ensures.0 h.ensures _ l.invariant.2
 
-pub holds-x-requires : goal.holds-x-requires
-holds-x-requires c = (c.requires.0, inside (goal.at.holds-x-requires c).In-loop-j)
+pub get-x-requires : goal.get-x-requires
+get-x-requires c = (c.requires.0, inside (goal.at.get-x-requires c).In-loop-j)
 
 pub add-r-requires : goal.add-r-requires
 add-r-requires c =
     let a = c.args in
     let l = c.loop-j in
-    (omega arith, rw l.invariant.3 (to-ascends (state_of a.c a.m.now) a.q a.l l.j))
+    (omega arith, rw l.invariant.2 (to-ascends (state_of a.c a.m.now) a.q a.l l.j))
 
 pub returns-then-limit-r : goal.returns-then-limit-r
 returns-then-limit-r c =
@@ -42,11 +42,11 @@ returns-then-limit-r c =
     gathers-more _ c.args.limit _ _ _ (more (goal.at.returns-then-limit-r c).After-slice_known-in-loop-j-1) (omega arith) c.if-limit-r.true (rw (← e) k)
 
 pub loop-j-preserved : goal.loop-j-preserved
-loop-j-preserved c = (omega arith, omega arith, omega arith, more (goal.at.loop-j-preserved c).After-slice_known-in-loop-j-1)
+loop-j-preserved c = (omega arith, omega arith, more (goal.at.loop-j-preserved c).After-slice_known-in-loop-j-1)
 
 pub returns : goal.returns
 returns c =
     let s = state_of c.args.c c.args.m.now in
     let l = c.loop-j in
     let n : l.j ≡ slots c.args.l = omega arith in
-    gathers-here _ c.args.limit l.r _ (l.invariant.3 ∙ ap (gathered_to s c.args.q c.args.l) n ∙ to-filled s c.args.q c.args.l c.requires.5) (omega arith)
+    gathers-here _ c.args.limit l.r _ (l.invariant.2 ∙ ap (gathered_to s c.args.q c.args.l) n ∙ to-filled s c.args.q c.args.l c.requires.5) (omega arith)

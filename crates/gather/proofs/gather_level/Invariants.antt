@@ -1,12 +1,9 @@
 use mathlib.Core.Path.{◌≡◌}
-use Prim.Native.Nat.{◌-◌, ◌≤◌}
+use Prim.Native.Nat.{◌≤◌}
 use lib.ListN.{length, take}
 use Rattle.client.specs.View.{state_of}
 use Rattle.gather.specs.Gathered.{gathered_to}
 use Rattle.gather.proofs.gather_level.Given as goal
 
 abbrev pub invariant-loop-j : goal.invariant-loop-j
-invariant-loop-j l = (l.j ≤ l.n) × (l.r ≤ l.limit) × (length l.list ≡ length l.initial.list) × (take l.r l.list ≡ gathered_to (state_of l.c l.m) l.q l.l l.j)
-
-abbrev pub decreases-loop-j : goal.decreases-loop-j
-decreases-loop-j l = l.n - l.j
+invariant-loop-j l = (l.r ≤ l.limit) × (length l.list ≡ length l.initial.list) × (take l.r l.list ≡ gathered_to (state_of l.c l.m) l.q l.l l.j)

@@ -7,4 +7,4 @@ use Rattle.jobs.proofs.front.Goals as goal
 pub returns : goal.returns
 returns c =
     let k = c.args.c in
-    (rw (queue-is, c.job.ensures) (rows-front (jobs_in k.shape c.args.m.now) k.jobs (omega arith)), rw c.job.ensures (fit-lt k.shape.p _ (omega arith)))
+    (rw (queue-is, c.get.ensures) (rows-front (jobs_in k.shape c.args.m.now) k.jobs (omega arith)), rw c.get.ensures (fit-lt k.shape.p _ (omega arith)))

@@ -1,11 +1,7 @@
 use mathlib.Core.Path.{◌≡◌}
-use Prim.Native.Nat.{◌-◌, ◌≤◌}
 use lib.ListN.{length}
 use Rattle.jobs.specs.Leaving.{Leaving}
 use Rattle.jobs.proofs.leave.Given as goal
 
 abbrev pub invariant-loop-i : goal.invariant-loop-i
-invariant-loop-i l = (l.i ≤ l.n) × (length l.m ≡ length l.initial.m) × Leaving l.c.shape l.c.jobs l.q l.j l.initial.m l.m l.k l.i
-
-abbrev pub decreases-loop-i : goal.decreases-loop-i
-decreases-loop-i l = l.n - l.i
+invariant-loop-i l = (length l.m ≡ length l.initial.m) × Leaving l.c.shape l.c.jobs l.q l.j l.initial.m l.m l.k l.i

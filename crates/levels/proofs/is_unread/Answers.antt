@@ -10,4 +10,4 @@ pub returns : goal.returns
 unfolding is_unread state_of view
 returns c =
     let a = c.args in
-    ap (λ y. eqb y 1) (c.mark.ensures ∙ ap (λ x. fit 2 ((tables_of (shape_of a.c.shape) a.m.now).mark x)) c.cell-x.ensures.0)
+    ap (λ y. eqb y 1) (c.get.ensures ∙ ap (λ x. fit 2 ((tables_of (shape_of a.c.shape) a.m.now).mark x)) c.cell-x.ensures.0)

@@ -15,17 +15,17 @@ level-end c =
     let a = c in
     omega (arith, cell-lt (shape_of a.args.c.shape) a.args.q a.args.l c.cell-base.result (c.pow2-n.result - 1) c.cell-base.ensures.0 a.requires.1 a.requires.2 (omega arith))
 
-pub order_bytes-order-requires : goal.order_bytes-order-requires
-order_bytes-order-requires c = (c.requires.0, level-end (goal.at.order_bytes-order-requires c).After-cell-base)
+pub bytes-order-requires : goal.bytes-order-requires
+bytes-order-requires c = (c.requires.0, level-end (goal.at.bytes-order-requires c).After-cell-base)
 
-pub holds_bytes-holds-requires : goal.holds_bytes-holds-requires
-holds_bytes-holds-requires c = (c.requires.0, level-end (goal.at.holds_bytes-holds-requires c).After-cell-base)
+pub bytes-holds-requires : goal.bytes-holds-requires
+bytes-holds-requires c = (c.requires.0, level-end (goal.at.bytes-holds-requires c).After-cell-base)
 
-pub mark_bytes-marks-requires : goal.mark_bytes-marks-requires
-mark_bytes-marks-requires c = (c.requires.0, level-end (goal.at.mark_bytes-marks-requires c).After-cell-base)
+pub bytes-marks-requires : goal.bytes-marks-requires
+bytes-marks-requires c = (c.requires.0, level-end (goal.at.bytes-marks-requires c).After-cell-base)
 
 pub returns : goal.returns
 returns c =
     c.lowest_item.ensures
-    ∙ ap (λ y. items_from c.pow2-n.result y (word_at c.order_bytes-order.result.now) (word_at c.holds_bytes-holds.result.now) (word_at c.mark_bytes-marks.result.now) 0) c.bound.ensures
-    ∙ items-found c.args.c c.args.m.now c.args.q c.args.l c.pow2-n.result c.cell-base.result _ _ _ c.pow2-n.ensures.0 c.cell-base.ensures.0 c.requires.2 c.order_bytes-order.ensures c.holds_bytes-holds.ensures c.mark_bytes-marks.ensures c.args.source
+    ∙ ap (λ y. items_from c.pow2-n.result y (word_at c.bytes-order.result.now) (word_at c.bytes-holds.result.now) (word_at c.bytes-marks.result.now) 0) c.bound.ensures
+    ∙ items-found c.args.c c.args.m.now c.args.q c.args.l c.pow2-n.result c.cell-base.result _ _ _ c.pow2-n.ensures.0 c.cell-base.ensures.0 c.requires.2 c.bytes-order.ensures c.bytes-holds.ensures c.bytes-marks.ensures c.args.source

@@ -1,11 +1,8 @@
 use mathlib.Core.Path.{◌≡◌}
-use Prim.Native.Nat.{◌-◌, ◌≤◌}
+use Prim.Native.Nat.{◌-◌}
 use Rattle.lists.specs.Search.{keep, count}
 use Rattle.rules.specs.Levels.{filled}
 use Rattle.levels.proofs.next_filled.Given as goal
 
 abbrev pub invariant-loop-l : goal.invariant-loop-l
-invariant-loop-l l = (l.from ≤ l.l) × (l.l ≤ l.levels) × (keep (filled l.counter) (count l.from (l.levels - l.from)) ≡ keep (filled l.counter) (count l.l (l.levels - l.l)))
-
-abbrev pub decreases-loop-l : goal.decreases-loop-l
-decreases-loop-l l = l.levels - l.l
+invariant-loop-l l = keep (filled l.counter) (count l.from (l.levels - l.from)) ≡ keep (filled l.counter) (count l.l (l.levels - l.l))

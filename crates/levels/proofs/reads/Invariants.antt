@@ -1,10 +1,7 @@
 use mathlib.Core.Path.{◌≡◌}
-use Prim.Native.Nat.{◌-◌, ◌≤◌}
+use Prim.Native.Nat.{◌≤◌}
 use Rattle.levels.specs.Reads.{reads_to}
 use Rattle.levels.proofs.reads.Given as goal
 
 abbrev pub invariant-loop-j : goal.invariant-loop-j
-invariant-loop-j l = (l.j ≤ l.n) × (l.k ≤ l.j) × (l.k ≡ reads_to l.c l.m l.q l.l l.j)
-
-abbrev pub decreases-loop-j : goal.decreases-loop-j
-decreases-loop-j l = l.n - l.j
+invariant-loop-j l = (l.k ≤ l.j) × (l.k ≡ reads_to l.c l.m l.q l.l l.j)

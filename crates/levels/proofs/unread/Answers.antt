@@ -1,9 +1,8 @@
 use mathlib.Core.Path.{refl, ap, sym, ◌∙◌}
-use Prim.Native.Nat.{◌-◌}
 use native.Mathlib.Omega.{arith}
 use Rattle.rules.specs.Levels.{filled}
 use Rattle.memory.specs.Fits.{shape_of}
-use Rattle.levels.specs.Next.{found_spot}
+use Rattle.client.specs.View.{found_of}
 use Rattle.levels.specs.Slots.{cell-lt}
 use Rattle.levels.specs.Unread.{levels-all, levels-passed, levels-done, level-enter, level-done, slot-hit, slot-miss, slot-source}
 use Rattle.levels.proofs.unread.Goals as goal
@@ -18,8 +17,8 @@ loop-i-init c =
     let p = c.pow2-n in
     (l.invariant.0, omega arith, sym (level-enter _ _ _ _ c.args.counter _ p.result c.first_slot-first.result c.requires.2 c.levels-test.true p.ensures.0 c.first_slot-first.ensures) ∙ l.invariant.1)
 
-pub mark-requires : goal.mark-requires
-mark-requires c =
+pub get-requires : goal.get-requires
+get-requires c =
     (c.requires.0, cell-lt (shape_of c.args.c.shape) _ _ _ _ c.cell-base.ensures.0 c.requires.1 (omega arith) (omega arith))
 
 pub loop-i-preserved : goal.loop-i-preserved
@@ -27,7 +26,7 @@ loop-i-preserved c =
     let l = c.loop-i in
     let f = c.first_slot-first in
     let s = slot-source _ _ _ _ _ l.i f.ensures l.invariant.1 c.loop-i-test.true in
-    (l.invariant.0, omega arith, sym (slot-miss _ _ _ _ _ _ _ l.i _ (ap (λ x. filled x c.levels.l) (sym c.requires.2) ∙ s.0) c.pow2-n.ensures.0 c.cell-base.ensures.0 c.loop-i-test.true s.1 c.mark.ensures c.if-mark-eq1.false) ∙ l.invariant.2)
+    (l.invariant.0, omega arith, sym (slot-miss _ _ _ _ _ _ _ l.i _ (ap (λ x. filled x c.levels.l) (sym c.requires.2) ∙ s.0) c.pow2-n.ensures.0 c.cell-base.ensures.0 c.loop-i-test.true s.1 c.get.ensures c.if-get-eq1.false) ∙ l.invariant.2)
 
 pub levels-preserved : goal.levels-preserved
 levels-preserved c =
@@ -37,11 +36,11 @@ levels-preserved c =
 pub returns-after-levels : goal.returns-after-levels
 returns-after-levels c =
     let l = c.levels in
-    ap found_spot l.invariant.0 ∙ sym (levels-done _ _ _ l.l c.levels-test.false) ∙ l.invariant.1
+    ap found_of l.invariant.0 ∙ sym (levels-done _ _ _ l.l c.levels-test.false) ∙ l.invariant.1
 
-pub returns-then-mark-eq1 : goal.returns-then-mark-eq1
-returns-then-mark-eq1 c =
+pub returns-then-get-eq1 : goal.returns-then-get-eq1
+returns-then-get-eq1 c =
     let l = c.loop-i in
     let f = c.first_slot-first in
     let s = slot-source _ _ _ _ _ l.i f.ensures l.invariant.1 c.loop-i-test.true in
-    sym (slot-hit _ _ _ _ _ _ _ l.i _ (ap (λ x. filled x c.levels.l) (sym c.requires.2) ∙ s.0) c.pow2-n.ensures.0 c.cell-base.ensures.0 c.loop-i-test.true s.1 c.mark.ensures c.if-mark-eq1.true) ∙ l.invariant.2
+    sym (slot-hit _ _ _ _ _ _ _ l.i _ (ap (λ x. filled x c.levels.l) (sym c.requires.2) ∙ s.0) c.pow2-n.ensures.0 c.cell-base.ensures.0 c.loop-i-test.true s.1 c.get.ensures c.if-get-eq1.true) ∙ l.invariant.2

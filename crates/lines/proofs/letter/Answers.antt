@@ -2,14 +2,14 @@ use native.Mathlib.Omega.{arith}
 use Rattle.lines.specs.Fields.{led-none, led-long, led-alone}
 use Rattle.lines.proofs.letter.Goals as goal
 
-pub returns-then-n-eq0 : goal.returns-then-n-eq0
-returns-then-n-eq0 c = led-none _ c.if-n-eq0.true
+pub returns-in-len1 : goal.returns-in-len1
+returns-in-len1 c = led-alone c.args.line.now (omega arith) (λ k. absurd (omega arith))
 
-pub returns-then-n-eq1 : goal.returns-then-n-eq1
-returns-then-n-eq1 c = led-alone _ (omega arith) (λ k. absurd (omega arith))
+pub returns-in-32 : goal.returns-in-32
+returns-in-32 c = led-alone c.args.line.now (omega arith) (λ k. omega arith)
 
-pub returns-then-line-eq32 : goal.returns-then-line-eq32
-returns-then-line-eq32 c = led-alone _ (omega arith) (λ k. c.if-line-eq32.true)
+pub returns-in_default : goal.returns-in_default
+returns-in_default c = led-none _ (omega arith)
 
-pub returns-else-line-eq32 : goal.returns-else-line-eq32
-returns-else-line-eq32 c = led-long _ (omega arith) c.if-line-eq32.false
+pub returns-in_default-2 : goal.returns-in_default-2
+returns-in_default-2 c = led-long c.args.line.now (omega arith) (λ e. omega arith)

@@ -1,22 +1,29 @@
-use mathlib.Core.Path.{refl}
-use native.Mathlib.Omega.{arith}
-use Rattle.lines.specs.Stored.{stored-none, stored-all, stored_more, stored-not, stored-over}
+use Rattle.std.proofs.Common.{refl, sym, ap, ◌∙◌, arith}
+use Rattle.lines.specs.Lines.{up_to}
+use Rattle.lines.specs.Numbers.{up_in, up_none}
+use Rattle.lines.specs.Stored.{length-first, words_more, passed_none, passed_more, passed-all, passed-not, passed-over}
 use Rattle.lines.proofs.numbers.Goals as goal
 
-pub loop-i-init : goal.loop-i-init
-loop-i-init c = (refl, stored-none _ _ _)
+pub loop-at-init : goal.loop-at-init
+loop-at-init c = (omega arith, refl, passed_none c.args.line.now)
 
-pub returns-then-x-gt65535 : goal.returns-then-x-gt65535
-returns-then-x-gt65535 c = let l = c.loop-i in stored-not _ _ _ _ l.i l.k l.invariant.1 c.end-e.result c.number-x.result (omega arith) c.end-e.ensures c.number-x.ensures (omega arith)
+pub returns-in_err-x-clause-numbers : goal.returns-in_err-x-clause-numbers
+returns-in_err-x-clause-numbers c =
+    let l = c.loop-at in
+    rw c.from_residual.ensures (sym (ap (up_to _) (passed-not _ l.at _ l.invariant.2 (c.in_err-x.ensures.none (omega arith))) ∙ up_none _))
 
-pub returns-then-k-most : goal.returns-then-k-most
-returns-then-k-most c = let l = c.loop-i in stored-over _ _ _ _ l.i l.k l.invariant.1 c.end-e.result c.number-x.result (omega arith) c.end-e.ensures c.number-x.ensures (omega arith)
+pub returns-then-k-most-clause-numbers : goal.returns-then-k-most-clause-numbers
+returns-then-k-most-clause-numbers c =
+    let l = c.loop-at in
+    sym (passed-over _ l.at _ l.invariant.2 _ _ _ c.in_ok-x.ensures.found (omega (arith, length-first l.k l.room)))
 
-pub loop-i-preserved : goal.loop-i-preserved
-loop-i-preserved c =
-    let l = c.loop-i in
-    let f = c.end-e in
-    (refl, rw c.set_word.ensures (stored_more _ _ _ _ l.i l.k l.invariant.1 f.result c.number-x.result (omega arith) f.ensures c.number-x.ensures (omega arith) (omega arith)))
+pub loop-at-preserved : goal.loop-at-preserved
+loop-at-preserved c =
+    let l = c.loop-at in
+    let n = c.in_ok-x.ensures.found in
+    (omega arith, l.invariant.1, rw (c.set_word.ensures, words_more l.room l.k _ (omega arith) n.small) (passed_more _ l.at _ l.invariant.2 _ _ n))
 
-pub returns : goal.returns
-returns c = let l = c.loop-i in stored-all _ _ _ _ l.i l.k l.invariant.1 (omega arith)
+pub returns-clause-numbers : goal.returns-clause-numbers
+returns-clause-numbers c =
+    let l = c.loop-at in
+    sym (ap (up_to _) (passed-all _ l.at _ l.invariant.2 (omega arith)) ∙ up_in _ _ (omega (arith, length-first l.k l.room)))

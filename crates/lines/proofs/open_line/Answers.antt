@@ -1,12 +1,13 @@
-use mathlib.Core.Path.{sym}
-use native.Mathlib.Omega.{arith}
+use Rattle.std.proofs.Common.{sym, ◌∙◌}
+use Rattle.lines.specs.Numbers.{exactly-is, numbers-small}
 use Rattle.lines.specs.Told.{opened-six, opened-not}
 use Rattle.lines.proofs.open_line.Goals as goal
 
-pub returns-then-k-ne6 : goal.returns-then-k-ne6
-returns-then-k-ne6 c = let n = c.numbers-k in (λ b. sym (opened-not n.result n.new.room (omega arith) _ n.ensures c.if-k-ne6.true), tt)
+pub returns-in_default : goal.returns-in_default
+returns-in_default c = (λ b. sym (opened-not _ (sym c.in_default.is ∙ c.exactly.ensures)), tt)
 
 pub returns : goal.returns
 returns c =
-    let n = c.numbers-k in
-    (λ b. sym (opened-six n.result n.new.room (omega arith) _ n.ensures c.if-k-ne6.false _ _ _ _ _ _ c.word.ensures.0 c.word-2.ensures.0 c.word-3.ensures.0 c.word-4.ensures.0 c.word-5.ensures.0 c.word-6.ensures.0), omega arith)
+    let e = sym c.in-Some.is ∙ c.exactly.ensures in
+    let small = numbers-small _ _ (exactly-is _ _ _ e).0 in
+    (λ b. sym (opened-six _ _ e), (small 0, small 1, small 2, small 3, small 4, small 5))

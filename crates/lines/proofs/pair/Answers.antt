@@ -1,13 +1,22 @@
-use mathlib.Core.Path.{sym, ◌∙◌}
-use native.Mathlib.Omega.{arith}
-use Rattle.lines.specs.Numbers.{most-out, pair-told, pair-high, pair-low}
+use Rattle.std.proofs.Common.{refl, sym, ◌∙◌, arith}
+use Rattle.lines.specs.Lines.{pair}
+use Rattle.lines.specs.Numbers.{hex-small}
 use Rattle.lines.proofs.pair.Goals as goal
 
-pub returns-then-h-gt15 : goal.returns-then-h-gt15
-returns-then-h-gt15 c = most-out 255 256 (omega arith) ∙ sym (pair-high _ _ _ _ c.hex-h.ensures c.hex-l.ensures (omega arith))
+pub returns-in_err-h : goal.returns-in_err-h
+unfolding pair
+returns-in_err-h c = rw (sym c.hex.ensures ∙ c.in_err-h.was) c.from_residual.ensures
 
-pub returns-then-l-gt15 : goal.returns-then-l-gt15
-returns-then-l-gt15 c = most-out 255 256 (omega arith) ∙ sym (pair-low _ _ _ _ c.hex-h.ensures c.hex-l.ensures (omega arith))
+pub returns-in_err-l : goal.returns-in_err-l
+unfolding pair
+returns-in_err-l c = rw (sym c.hex.ensures ∙ c.in_ok-h.was, sym c.hex-2.ensures ∙ c.in_err-l.was) c.from_residual-in_err-l.ensures
+
+pub overflow_mul-result : goal.overflow_mul-result
+overflow_mul-result c = omega (arith, hex-small _ _ (sym c.hex.ensures ∙ c.in_ok-h.was), hex-small _ _ (sym c.hex-2.ensures ∙ c.in_ok-l.was))
+
+pub overflow_add-result : goal.overflow_add-result
+overflow_add-result c = omega (arith, hex-small _ _ (sym c.hex.ensures ∙ c.in_ok-h.was), hex-small _ _ (sym c.hex-2.ensures ∙ c.in_ok-l.was))
 
 pub returns : goal.returns
-returns c = pair-told _ _ _ _ c.hex-h.ensures c.hex-l.ensures (omega arith) (omega arith)
+unfolding pair
+returns c = rw (sym c.hex.ensures ∙ c.in_ok-h.was, sym c.hex-2.ensures ∙ c.in_ok-l.was) refl

@@ -1,6 +1,7 @@
-use mathlib.Core.Path.{sym, ◌∙◌}
-use native.Mathlib.Omega.{arith}
-use Rattle.lines.specs.Told.{written_none, written_one, written-two, written-three, stored-number, stored-nothing, stored-both}
+use Rattle.std.proofs.Common.{refl, sym, ◌∙◌, arith}
+use Rattle.lines.specs.Lines.{stored}
+use Rattle.lines.specs.Numbers.{number-small}
+use Rattle.lines.specs.Told.{written_none, written_one, written-two, written-three}
 use Rattle.lines.proofs.write_line.Goals as goal
 
 pub returns-then-n-lt2 : goal.returns-then-n-lt2
@@ -12,15 +13,19 @@ returns-then-e-n c = (sym (written_one c.args.line.now _ (omega arith) c.end-e.e
 pub returns-then-z-n : goal.returns-then-z-n
 returns-then-z-n c = (sym (written-three c.args.line.now _ (omega arith) c.end-e.ensures _ (omega arith) c.end-z.ensures c.if-z-n.true), tt)
 
-pub returns-then-b-gt65535 : goal.returns-then-b-gt65535
-returns-then-b-gt65535 c = (sym (written-two c.args.line.now _ (omega arith) c.end-e.ensures _ (omega arith) c.end-z.ensures (omega arith) ∙ stored-number _ _ c.number-b.ensures c.if-b-gt65535.true), tt)
+pub returns-in_default : goal.returns-in_default
+unfolding stored
+returns-in_default c = (sym (written-two c.args.line.now _ (omega arith) c.end-e.ensures _ (omega arith) c.end-z.ensures (omega arith) ∙ rw (sym c.number.ensures ∙ c.in_default.is) refl), tt)
 
-pub returns-then-k-eq0 : goal.returns-then-k-eq0
-returns-then-k-eq0 c =
-    let k = c.contents-k in
-    (sym (written-two c.args.line.now _ (omega arith) c.end-e.ensures _ (omega arith) c.end-z.ensures (omega arith) ∙ stored-nothing _ k.result k.new.room c.number-b.ensures (omega arith) k.ensures.0 c.if-k-eq0.true), tt)
+pub returns-in_default-contents : goal.returns-in_default-contents
+unfolding stored
+returns-in_default-contents c =
+    let k = sym c.in_default-contents.ensures.contents in
+    (sym (written-two c.args.line.now _ (omega arith) c.end-e.ensures _ (omega arith) c.end-z.ensures (omega arith) ∙ rw (sym c.number.ensures ∙ c.in-Some.is, k) refl), tt)
 
 pub returns : goal.returns
+unfolding stored
 returns c =
-    let k = c.contents-k in
-    (sym (written-two c.args.line.now _ (omega arith) c.end-e.ensures _ (omega arith) c.end-z.ensures (omega arith) ∙ stored-both _ k.result k.new.room c.number-b.ensures (omega arith) k.ensures.0 c.if-k-eq0.false), omega arith)
+    let b = sym c.number.ensures ∙ c.in-Some.is in
+    let k = c.in-Some-contents.ensures in
+    (sym (written-two c.args.line.now _ (omega arith) c.end-e.ensures _ (omega arith) c.end-z.ensures (omega arith) ∙ rw (b, sym k.contents) refl), (number-small _ _ b, k.within.0, k.within.1))

@@ -18,38 +18,37 @@ use Rattle.loading.specs.Loading.{keys_by, form_by, by-jobs, by-placed, by-waiti
 use Rattle.loading.proofs.fill.Goals as goal
 
 pub numbers-requires-2 : goal.numbers-requires-2
-numbers-requires-2 c = (c.requires.0.whole, omega arith, omega (arith, by-jobs c.args.form.now c.args.h c.requires.0), omega (arith, c.requires.1.partitions), omega (arith, by-jobs c.args.form.now c.args.h c.requires.0))
+numbers-requires-2 c = (omega arith, omega (arith, by-jobs c.args.form.bytes.now c.args.h c.requires.0), omega (arith, c.requires.1.partitions), omega (arith, by-jobs c.args.form.bytes.now c.args.h c.requires.0))
 
 pub overflow_mul-jobs : goal.overflow_mul-jobs
-overflow_mul-jobs c = omega (arith, by-jobs c.args.form.now c.args.h c.requires.0)
+overflow_mul-jobs c = omega (arith, by-jobs c.args.form.bytes.now c.args.h c.requires.0)
 
 pub overflow_add-queue-4 : goal.overflow_add-queue-4
-overflow_add-queue-4 c = omega (arith, by-jobs c.args.form.now c.args.h c.requires.0)
+overflow_add-queue-4 c = omega (arith, by-jobs c.args.form.bytes.now c.args.h c.requires.0)
 
 pub blocks-levels-requires : goal.blocks-levels-requires
 blocks-levels-requires c =
     let a = c.args in
     let k = c.requires.0 in
-    (k.whole, omega arith, omega (arith, by-jobs c.args.form.now c.args.h c.requires.0, c.requires.1.partitions), subst (λ j. All (PlacedIn (shape_of a.h) (counter_in (out_of_blocks a.form.now) a.h.p)) (blocks_at (out_of_blocks a.form.now) a.h.n (13 + a.h.p * 2 + 2 + j * 2))) (sym c.requires.2) (by-placed a.form.now a.h k))
+    (omega arith, omega (arith, by-jobs c.args.form.bytes.now c.args.h c.requires.0, c.requires.1.partitions), subst (λ j. All (PlacedIn (shape_of a.h) (counter_in (out_of_blocks a.form.bytes.now) a.h.p)) (blocks_at (out_of_blocks a.form.bytes.now) a.h.n (13 + a.h.p * 2 + 2 + j * 2))) (sym c.requires.2) (by-placed a.form.bytes.now a.h k))
 
 pub partitions-at-requires : goal.partitions-at-requires
 partitions-at-requires c =
-    (c.requires.0.whole, omega arith, omega (arith, by-jobs c.args.form.now c.args.h c.requires.0, c.blocks-levels.ensures.1, c.requires.1.blocks, c.requires.1.partitions))
+    (omega arith, omega (arith, by-jobs c.args.form.bytes.now c.args.h c.requires.0, c.blocks-levels.ensures.1, c.requires.1.blocks, c.requires.1.partitions))
 
 pub waiters-requires : goal.waiters-requires
 waiters-requires c =
     let a = c.args in
     let k = c.requires.0 in
-    let p = out_of_blocks a.form.now in
+    let p = out_of_blocks a.form.bytes.now in
     let f = c.requires.1 in
     let w = c.requires.3 in
-    let e = records-as a.form.now a.h k c.blocks-levels.result c.partitions-at.result (levels-as a.form.now a.h k a.jobs c.blocks-levels.result c.requires.2 c.blocks-levels.ensures.0) c.partitions-at.ensures.0 in (
-      k.whole,
+    let e = records-as a.form.bytes.now a.h k c.blocks-levels.result c.partitions-at.result (levels-as a.form.bytes.now a.h k a.jobs c.blocks-levels.result c.requires.2 c.blocks-levels.ensures.0) c.partitions-at.ensures.0 in (
       omega arith,
-      omega (arith, by-jobs c.args.form.now c.args.h c.requires.0, c.blocks-levels.ensures.1, c.partitions-at.ensures.1, f.blocks, f.partitions),
-      omega (arith, w, by-waiting a.form.now a.h k, f.blocks),
-      rw (w, e) (by_end a.form.now a.h k),
-      rw (w, e) (by-records a.form.now a.h k),
+      omega (arith, by-jobs c.args.form.bytes.now c.args.h c.requires.0, c.blocks-levels.ensures.1, c.partitions-at.ensures.1, f.blocks, f.partitions),
+      omega (arith, w, by-waiting a.form.bytes.now a.h k, f.blocks),
+      rw (w, e) (by_end a.form.bytes.now a.h k),
+      rw (w, e) (by-records a.form.bytes.now a.h k),
     )
 
 pub returns : goal.returns
@@ -58,11 +57,11 @@ returns c =
     let a = c.args in
     let k = c.requires.0 in
     let h = shape_of a.h in
-    let p = out_of_blocks a.form.now in
+    let p = out_of_blocks a.form.bytes.now in
     let j = c.requires.2 in
     let w = c.requires.3 in
-    let l = levels-as a.form.now a.h k a.jobs c.blocks-levels.result j c.blocks-levels.ensures.0 in
-    let e = records-as a.form.now a.h k c.blocks-levels.result c.partitions-at.result l c.partitions-at.ensures.0 in
+    let l = levels-as a.form.bytes.now a.h k a.jobs c.blocks-levels.result j c.blocks-levels.ensures.0 in
+    let e = records-as a.form.bytes.now a.h k c.blocks-levels.result c.partitions-at.result l c.partitions-at.ensures.0 in
     c.waiters.ensures
     ∙ ap (put_records (records_at p a.h.b a.waiting c.partitions-at.result))
     (c.partitions-at.ensures.2 ∙ ap (levels_put h p (keys_by p h) c.blocks-levels.result) (c.blocks-levels.ensures.2 ∙ ap (put_blocks h 0 (blocks_at p a.h.n (13 + a.h.p * 2 + 2 + a.jobs * 2))) (c.numbers-2.ensures ∙ ap (laid Queue 0 (numbers_at p 2 a.jobs (13 + a.h.p * 2 + 2))) c.numbers.ensures)))

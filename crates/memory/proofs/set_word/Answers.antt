@@ -4,4 +4,4 @@ use Rattle.memory.proofs.set_word.Goals as goal
 
 pub returns : goal.returns
 unfolding set_word
-returns c = refl
+returns c = rw c.to_le_bytes-bytes.ensures refl

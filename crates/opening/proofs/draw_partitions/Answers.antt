@@ -1,5 +1,4 @@
 use mathlib.Core.Path.{ap, sym, ◌∙◌}
-use Prim.Native.Nat.{◌-◌}
 use native.Mathlib.Omega.{arith}
 use lib.ListN.{length, get_or, take, drop}
 use Rattle.lists.specs.Tables.{put}
@@ -17,11 +16,11 @@ room a = fits (shape_of a.args.h) (length a.args.m.now) a.requires.0 a.requires.
 pub draw-q-requires : goal.draw-q-requires
 draw-q-requires c = let f = room (goal.at.draw-q-requires c).Start in (omega (arith, c.requires.2), f.some_partitions)
 
-pub set_partition-requires : goal.set_partition-requires
-set_partition-requires c =
-    let f = room (goal.at.set_partition-requires c).Start in
+pub set-requires : goal.set-requires
+set-requires c =
+    let f = room (goal.at.set-requires c).Start in
     let l = c.loop-b in
-    (rw l.invariant.1 f, omega arith, omega (arith, c.draw-q.ensures.1, f.partitions))
+    (rw l.invariant.0 f, omega arith, omega (arith, c.draw-q.ensures.1, f.partitions))
 
 pub loop-b-preserved : goal.loop-b-preserved
 loop-b-preserved c =
@@ -31,9 +30,8 @@ loop-b-preserved c =
     let number = c.draw-q.ensures.0 ∙ sym (drawn-number c.args.h c.args.tape.now c.requires.0 c.requires.2 l.b (omega arith)) in
     let step = fill_step l.b js (omega (arith, drawn-length c.args.h c.args.tape.now c.requires.0 c.requires.2)) in (
       omega arith,
-      omega arith,
-      c.set_partition.ensures
-          ∙ ap (λ (t : Tables). with_partition (put l.b c.draw-q.result t.partition) t) l.invariant.2
+      c.set.ensures
+          ∙ ap (λ (t : Tables). with_partition (put l.b c.draw-q.result t.partition) t) l.invariant.1
           ∙ ap (λ q. with_partition (put l.b q (λ b. get_or (take l.b js) b 0)) e) number
           ∙ ap (λ f. with_partition f e) step,
     )

@@ -1,4 +1,3 @@
-use borrow.Author.Rules.{rules}
 use Prim.Native.Nat.{◌<◌}
 use native.Mathlib.Numerals.{add-one}
 use native.Mathlib.Omega.{arith}
@@ -9,15 +8,13 @@ use Rattle.printing.specs.Laws.{hexadecimal-more}
 use Rattle.lists.specs.Written.{nothing, followed}
 use Rattle.printing.proofs.pairs.Goals as goal
 
-pub loop-i-init : goal.loop-i-init
+pub loop-b-init : goal.loop-b-init
 unfolding hexadecimal
-loop-i-init c = (search rules, search rules, search rules, nothing _ _)
+loop-b-init c = (omega arith, nothing _ _)
 
-pub loop-i-preserved : goal.loop-i-preserved
-loop-i-preserved c =
-    let h : c.loop-i.i < length c.args.bytes.now = omega arith in (
-      search rules,
-      search rules,
+pub loop-b-preserved : goal.loop-b-preserved
+loop-b-preserved c =
+    let h : c.loop-b.b-index < length c.args.bytes.now = omega arith in (
       omega (arith, c.pair-k.ensures.place),
-      rw (add-one, take-suc c.args.bytes.now c.loop-i.i 0, hexadecimal-more) (followed c.loop-i.invariant.3 c.pair-k.ensures),
+      rw (add-one, take-suc c.args.bytes.now c.loop-b.b-index 0, hexadecimal-more) (followed c.loop-b.invariant.1 c.pair-k.ensures),
     )

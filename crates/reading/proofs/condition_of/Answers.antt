@@ -17,7 +17,7 @@ use Rattle.reading.proofs.condition_of.Goals.{Else-not-filled, Start}
 full : (c : Else-not-filled) → let a = c.args in filled ((state_of a.c a.m.now).counter a.q) a.l ≡ true
 full c =
     let a = c in
-    ap (λ k. filled k a.args.l) (counter-is a.args.c a.args.m.now a.args.q a.args.counter a.requires.3) ∙ sym c.filled.ensures ∙ c.if-not-filled.false
+    ap (λ k. filled k a.args.l) (counter-is a.args.c a.args.m.now a.args.q a.args.counter a.requires.1) ∙ sym c.filled.ensures ∙ c.if-not-filled.false
 
 -- a mark is 0 or 1
 marked : (a : Start) (i : ℕ) → i < slots a.args.l → let s = state_of a.args.c a.args.m.now in s.mark (cell s.shape a.args.q a.args.l i) ≤ 1
@@ -28,19 +28,19 @@ marked a i l =
 
 pub returns-then-not-filled : goal.returns-then-not-filled
 returns-then-not-filled c =
-    let empty = ap (λ k. filled k c.args.l) (counter-is c.args.c c.args.m.now c.args.q c.args.counter c.requires.3) ∙ sym c.filled.ensures ∙ c.if-not-filled.true in
+    let empty = ap (λ k. filled k c.args.l) (counter-is c.args.c c.args.m.now c.args.q c.args.counter c.requires.1) ∙ sym c.filled.ensures ∙ c.if-not-filled.true in
     is-empty (state_of c.args.c c.args.m.now) c.args.q c.args.l empty
 
 pub returns-then-sources-l : goal.returns-then-sources-l
 returns-then-sources-l c =
-    is-unmarked (state_of c.args.c c.args.m.now) c.args.q c.args.l (full (goal.at.returns-then-sources-l c).Else-not-filled) (above _ _ _ _ c.args.l c.requires.4 c.if-sources-l.true)
+    is-unmarked (state_of c.args.c c.args.m.now) c.args.q c.args.l (full (goal.at.returns-then-sources-l c).Else-not-filled) (above _ _ _ _ c.args.l c.requires.2 c.if-sources-l.true)
 
 pub returns-then-reads-pow2 : goal.returns-then-reads-pow2
 unfolding state_of view
 returns-then-reads-pow2 c =
-    has-unread (state_of c.args.c c.args.m.now) c.args.q c.args.l (marked (goal.at.returns-then-reads-pow2 c).Start) (full (goal.at.returns-then-reads-pow2 c).Else-not-filled) (beneath _ _ _ _ c.args.l c.requires.4 (full (goal.at.returns-then-reads-pow2 c).Else-not-filled) c.if-sources-l.false) (omega (arith, c.reads.ensures.0, c.pow2.ensures.0, c.if-reads-pow2.true))
+    has-unread (state_of c.args.c c.args.m.now) c.args.q c.args.l (marked (goal.at.returns-then-reads-pow2 c).Start) (full (goal.at.returns-then-reads-pow2 c).Else-not-filled) (beneath _ _ _ _ c.args.l c.requires.2 (full (goal.at.returns-then-reads-pow2 c).Else-not-filled) c.if-sources-l.false) (omega (arith, c.reads.ensures.0, c.pow2.ensures.0, c.if-reads-pow2.true))
 
 pub returns : goal.returns
 unfolding state_of view
 returns c =
-    all_read_lem (state_of c.args.c c.args.m.now) c.args.q c.args.l (marked (goal.at.returns c).Start) (full (goal.at.returns c).Else-not-filled) (beneath _ _ _ _ c.args.l c.requires.4 (full (goal.at.returns c).Else-not-filled) c.if-sources-l.false) (omega (arith, c.reads.ensures.0, c.pow2.ensures.0, c.if-reads-pow2.false))
+    all_read_lem (state_of c.args.c c.args.m.now) c.args.q c.args.l (marked (goal.at.returns c).Start) (full (goal.at.returns c).Else-not-filled) (beneath _ _ _ _ c.args.l c.requires.2 (full (goal.at.returns c).Else-not-filled) c.if-sources-l.false) (omega (arith, c.reads.ensures.0, c.pow2.ensures.0, c.if-reads-pow2.false))

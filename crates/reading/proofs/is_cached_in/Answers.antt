@@ -6,4 +6,4 @@ use Rattle.reading.proofs.is_cached_in.Goals as goal
 
 pub returns : goal.returns
 returns c =
-    ap (λ u. not u && c.args.marked) c.is_unread.ensures ∙ cached-is (state_of c.args.c c.args.m.now) c.args.q c.args.l c.args.marked _ c.requires.4
+    ap (λ u. not u && c.args.marked) c.is_unread.ensures ∙ cached-is (state_of c.args.c c.args.m.now) c.args.q c.args.l c.args.marked _ c.requires.1

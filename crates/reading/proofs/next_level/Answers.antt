@@ -1,5 +1,4 @@
 use mathlib.Core.Path.{◌≡◌, ap, sym, ◌∙◌}
-use Prim.Native.Nat.{◌-◌}
 use native.Mathlib.Omega.{arith}
 use Rattle.rules.specs.Levels.{filled}
 use Rattle.rules.specs.Reader.{costing, costs}
@@ -18,30 +17,25 @@ unfolding costs
 cost c = c.costs.ensures ∙ ap costing c.condition_of.ensures
 
 -- no source is left
-pub returns-then-sources-l : goal.returns-then-sources-l
-returns-then-sources-l c =
+pub returns-then-sources-from : goal.returns-then-sources-from
+returns-then-sources-from c =
     let s = state_of c.args.c c.args.m.now in
-    let k = c.counter-counter in
+    let k = c.get-counter in
     next-same (filled k.result) (costs s c.args.q) _
-    (λ ℓ h. ap (λ n. filled n ℓ) (sym (counter-is c.args.c c.args.m.now c.args.q k.result k.ensures)) ∙ sym (costs-above s c.args.q ℓ (above _ _ _ _ ℓ c.requires.3 (omega (arith, h, c.if-sources-l.true)))))
+    (λ ℓ h. ap (λ n. filled n ℓ) (sym (counter-is c.args.c c.args.m.now c.args.q k.result k.ensures)) ∙ sym (costs-above s c.args.q ℓ (above _ _ _ _ ℓ c.requires.3 (omega (arith, h, c.if-sources-from.true)))))
     _ _ c.next_filled.ensures
 
 pub returns-then-costs : goal.returns-then-costs
 returns-then-costs c =
     let l = c.loop-l in
-    record {
-      start = omega arith;
-      end = omega arith;
-      some = λ h. l.invariant.2 ∙ kept-hit _ _ l.l h (sym (cost (goal.at.returns-then-costs c).After-costs) ∙ c.if-costs.true);
-      none = λ h. absurd (omega arith);
-    }
+    record { start = omega arith; end = omega arith; passes = l.invariant ∙ kept-hit _ _ l.l (omega arith) (sym (cost (goal.at.returns-then-costs c).After-costs) ∙ c.if-costs.true) }
 
 pub loop-l-preserved : goal.loop-l-preserved
 loop-l-preserved c =
     let l = c.loop-l in
-    (omega arith, omega arith, l.invariant.2 ∙ kept-miss _ _ l.l (omega arith) (sym (cost (goal.at.loop-l-preserved c).After-costs) ∙ c.if-costs.false))
+    l.invariant ∙ kept-miss _ _ l.l (omega arith) (sym (cost (goal.at.loop-l-preserved c).After-costs) ∙ c.if-costs.false)
 
 pub returns : goal.returns
 returns c =
     let l = c.loop-l in
-    record { start = omega arith; end = omega arith; some = λ h. absurd (omega arith); none = λ h. l.invariant.2 ∙ kept-done _ _ l.l (omega arith) }
+    l.invariant ∙ kept-done _ _ l.l (omega arith)

@@ -5,4 +5,4 @@ use Rattle.reading.proofs.read_fake.Goals as goal
 
 pub returns : goal.returns
 returns c =
-    c.item.ensures ∙ fake-is (state_of c.args.c c.args.m.now) c.args.q c.args.l c.args.marked c.requires.3
+    c.item.ensures ∙ fake-is (state_of c.args.c c.args.m.now) c.args.q c.args.l c.args.marked c.requires.1

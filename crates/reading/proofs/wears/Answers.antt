@@ -8,12 +8,12 @@ use Rattle.reading.proofs.wears.Goals as goal
 
 pub returns-then-not-filled : goal.returns-then-not-filled
 returns-then-not-filled c =
-    let empty = ap (λ k. filled k c.args.l) (counter-is c.args.c c.args.m.now c.args.q c.args.counter c.requires.3) ∙ sym c.filled.ensures ∙ c.if-not-filled.true in
+    let empty = ap (λ k. filled k c.args.l) (counter-is c.args.c c.args.m.now c.args.q c.args.counter c.requires.1) ∙ sym c.filled.ensures ∙ c.if-not-filled.true in
     sym (worn-empty (state_of c.args.c c.args.m.now) c.args.q c.args.l empty)
 
 pub returns : goal.returns
 unfolding state_of view
 returns c =
-    let full = ap (λ k. filled k c.args.l) (counter-is c.args.c c.args.m.now c.args.q c.args.counter c.requires.3) ∙ sym c.filled.ensures ∙ c.if-not-filled.false in
+    let full = ap (λ k. filled k c.args.l) (counter-is c.args.c c.args.m.now c.args.q c.args.counter c.requires.1) ∙ sym c.filled.ensures ∙ c.if-not-filled.false in
     ap (λ x. leb x c.reads.result) c.pow2.ensures.0 ∙ ap (leb _) c.reads.ensures.0
-    ∙ sym (worn-other (state_of c.args.c c.args.m.now) c.args.q c.args.l full c.requires.4)
+    ∙ sym (worn-other (state_of c.args.c c.args.m.now) c.args.q c.args.l full c.requires.2)

@@ -1,5 +1,5 @@
 use mathlib.Core.Path.{◌≡◌}
-use Prim.Native.Nat.{◌+◌, ◌-◌, ◌*◌, ◌≤◌}
+use Prim.Native.Nat.{◌+◌, ◌*◌, ◌≤◌}
 use lib.ListN.{length}
 use Rattle.lists.specs.Search.{below}
 use Rattle.rules.specs.Shape.{slots}
@@ -9,7 +9,4 @@ use Rattle.rebuild.specs.Steps.{ordered}
 use Rattle.rebuild.proofs.start_order.Given as goal
 
 abbrev pub invariant-loop-j : goal.invariant-loop-j
-invariant-loop-j l = (l.j ≤ l.n) × (length l.m ≡ length l.initial.m) × (l.base + l.n ≤ l.c.shape.p * slots l.c.shape.l) × Stands l.c l.initial.m l.m (ordered l.base (below l.j) (state_of l.c l.initial.m))
-
-abbrev pub decreases-loop-j : goal.decreases-loop-j
-decreases-loop-j l = l.n - l.j
+invariant-loop-j l = (length l.m ≡ length l.initial.m) × (l.base + l.n ≤ l.c.shape.p * slots l.c.shape.l) × Stands l.c l.initial.m l.m (ordered l.base (below l.j) (state_of l.c l.initial.m))

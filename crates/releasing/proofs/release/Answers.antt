@@ -15,7 +15,7 @@ queued : (c : After-is_held_for) → let a = c.args in let s = state_of a.c a.m.
 queued c =
     let a = c.args in
     let s = state_of a.c a.m.now in
-    ap (held_for s) (partition-is a.c a.m.now a.c.request.block c.partition-q.result c.partition-q.ensures) ∙ sym c.is_held_for.ensures
+    ap (held_for s) (partition-is a.c a.m.now a.c.request.block c.get-q.result c.get-q.ensures) ∙ sym c.is_held_for.ensures
 
 pub returns-then-r-eq0 : goal.returns-then-r-eq0
 returns-then-r-eq0 c =
@@ -30,7 +30,7 @@ returns-then-r-ne0 c =
 pub is_held_for-requires : goal.is_held_for-requires
 is_held_for-requires c =
     let h = c.args.c.shape in
-    (c.requires.room, c.requires.jobs, omega (arith, c.partition-q.ensures, fit-lt h.p ((tables_of (shape_of h) c.args.m.now).partition c.args.c.request.block) c.requires.room.some_partitions), c.requires.begun)
+    (c.requires.room, c.requires.jobs, omega (arith, c.get-q.ensures, fit-lt h.p ((tables_of (shape_of h) c.args.m.now).partition c.args.c.request.block) c.requires.room.some_partitions), c.requires.begun)
 
 pub returns-then-is_held_for : goal.returns-then-is_held_for
 returns-then-is_held_for c =

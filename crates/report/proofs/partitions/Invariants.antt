@@ -1,4 +1,4 @@
-use Prim.Native.Nat.{◌*◌, ◌-◌, ◌≤◌}
+use Prim.Native.Nat.{◌*◌}
 use mathlib.Core.Path.{◌≡◌}
 use lib.ListN.{length}
 use Rattle.client.specs.View.{state_of}
@@ -8,7 +8,4 @@ use Rattle.report.specs.Page.{partition_lines}
 use Rattle.report.proofs.partitions.Given as goal
 
 abbrev pub invariant-loop-q : goal.invariant-loop-q
-invariant-loop-q l = (l.q ≤ l.p) × (length l.out ≡ length l.initial.out) × (l.at ≡ line_length * l.q) × Written l.initial.out 0 (partition_lines (state_of l.c l.m) l.q) l.out l.at
-
-abbrev pub decreases-loop-q : goal.decreases-loop-q
-decreases-loop-q l = l.p - l.q
+invariant-loop-q l = (length l.out ≡ length l.initial.out) × (l.at ≡ line_length * l.q) × Written l.initial.out 0 (partition_lines (state_of l.c l.m) l.q) l.out l.at

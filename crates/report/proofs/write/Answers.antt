@@ -32,14 +32,14 @@ returns-then-out-c c =
     let n = client-page-length a.c a.m.now (usable a.c a.m.now (begun (goal.at.returns-then-out-c c).Else-not-is_ready)).range in
     shows-short (state_of a.c a.m.now) _ _ (begun (goal.at.returns-then-out-c c).Else-not-is_ready) (omega arith)
 
-pub put-length-requires : goal.put-length-requires
-put-length-requires c =
+pub put-requires : goal.put-requires
+put-requires c =
     let a = c.args in
-    let u = usable a.c a.m.now (begun (goal.at.put-length-requires c).Else-not-is_ready) in
+    let u = usable a.c a.m.now (begun (goal.at.put-requires c).Else-not-is_ready) in
     (u, omega arith)
 
 pub returns : goal.returns
 returns c =
     let a = c.args in
     let n = client-page-length a.c a.m.now (usable a.c a.m.now (begun (goal.at.returns c).Else-not-is_ready)).range in
-    shows-page (state_of a.c a.m.now) _ a.out.now (begun (goal.at.returns c).Else-not-is_ready) (omega (arith, c.if-out-c)) _ _ c.put-length.ensures
+    shows-page (state_of a.c a.m.now) _ a.out.now (begun (goal.at.returns c).Else-not-is_ready) (omega (arith, c.if-out-c)) _ _ c.put.ensures

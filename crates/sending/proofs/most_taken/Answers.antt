@@ -1,17 +1,15 @@
-use mathlib.Core.Path.{◌≡◌}
+use mathlib.Core.Path.{◌≡◌, ap, ◌∙◌}
+use mathlib.Core.Bool.{not}
 use Prim.Native.Nat.{min, ◌-◌, ◌^◌, ◌≤◌}
 use native.Mathlib.Omega.{arith}
 use Rattle.rules.specs.Jobs.{joined}
 use Rattle.rules.specs.Blocks.{blocks_in}
 use Rattle.client.specs.View.{view, state_of}
-use Rattle.client.specs.Readings.{waiting-count}
 use Rattle.sending.specs.Plans.{nobody-waits, full-taken, some-taken}
 use Rattle.sending.proofs.most_taken.Goals as goal
 
-pub returns-then-c-first : goal.returns-then-c-first
-returns-then-c-first c =
-    let r = c.args in
-    (nobody-waits (state_of r.c r.m.now) r.q r.first c.requires.2 (omega (arith, waiting-count r.c r.m.now, c.if-c-first.true)), omega arith)
+pub returns-then-is_none : goal.returns-then-is_none
+returns-then-is_none c = let r = c.args in (nobody-waits (state_of r.c r.m.now) r.q r.first (c.is_none.ensures ∙ ap not c.if-is_none.true) c.requires.2, omega arith)
 
 pub returns-then-half-stored : goal.returns-then-half-stored
 unfolding state_of view

@@ -3,6 +3,7 @@ use Prim.Native.Nat.{suc, ◌/◌, ◌≤◌, ◌<◌}
 use native.Mathlib.Omega.{arith}
 use lib.ListN.{get_or}
 use lib.Seq.{length-take-le}
+use Rattle.std.proofs.Math.Option.{none}
 use Rattle.lists.specs.Search.{keep}
 use Rattle.rules.specs.Draws.{draws}
 use Rattle.rules.specs.Levels.{filled, down}
@@ -14,12 +15,11 @@ use Rattle.rules.specs.Questions.{sends}
 use Rattle.memory.specs.Fits.{shape_of}
 use Rattle.client.specs.View.{state_of}
 use Rattle.tape.specs.Tape.{words_of}
-use Rattle.tape.specs.Settled.{Counts}
 use Rattle.jobs.specs.Runs.{levels-are, run-together}
 use Rattle.sending.specs.Plans.{levels-hold, limit_is, room-no}
 use Rattle.sending.specs.Sent.{refuses, other-buffer, few_words, no_room}
 use Rattle.sending.proofs.rebuild.Goals as goal
-use Rattle.sending.proofs.rebuild.Goals.{After-filled_slots-limit, After-grown-next, After-orders_words-words, Else-words}
+use Rattle.sending.proofs.rebuild.Goals.{After-filled_slots-limit, After-grown-next, In-Some}
 
 -- the levels that are written
 levels : (c : After-grown-next) → let r = c.args in levels_of (state_of r.c r.m.now) r.q ≡ keep (filled c.grown-next.result) (down (suc c.running-run.result.top))
@@ -27,16 +27,12 @@ levels c =
     let r = c.args in
     levels-are r.c r.m.now r.q c.running-run.result c.grown-next.result c.running-run.ensures (c.grown-next.ensures.0 (shape_of r.c.shape) refl)
 
--- the words that their orders take
-counted : (c : After-orders_words-words) → let r = c.args in Counts (orders_bounds (levels_of (state_of r.c r.m.now) r.q)) (words_of r.tape.now) c.orders_words-words.result
-counted c =
-    let levels' : let r = c.args in levels_of (state_of r.c r.m.now) r.q ≡ keep (filled c.grown-next.result) (down (suc c.running-run.result.top)) = let r = c.args in levels-are r.c r.m.now r.q c.running-run.result c.grown-next.result c.running-run.ensures (c.grown-next.ensures.0 (shape_of r.c.shape) refl) in rw (levels') c.orders_words-words.ensures
-
--- .. were lent
-settled : (c : Else-words) → let r = c.args in let ms = orders_bounds (levels_of (state_of r.c r.m.now) r.q) in Enough ms (words_of r.tape.now) × (c.orders_words-words.result ≡ taken_of (draws ms (words_of r.tape.now)))
-settled c = let k =
-    let levels' : let r = c.args in levels_of (state_of r.c r.m.now) r.q ≡ keep (filled c.grown-next.result) (down (suc c.running-run.result.top)) = let r = c.args in levels-are r.c r.m.now r.q c.running-run.result c.grown-next.result c.running-run.ensures (c.grown-next.ensures.0 (shape_of r.c.shape) refl) in
-    let counted' : let r = c.args in Counts (orders_bounds (levels_of (state_of r.c r.m.now) r.q)) (words_of r.tape.now) c.orders_words-words.result = rw (levels') c.orders_words-words.ensures in (counted').settled (omega (arith, c.words.ensures, c.if-words.false)) in (k.0, sym k.1)
+-- the words that their orders take were lent
+settled : (c : In-Some) → let r = c.args in let ms = orders_bounds (levels_of (state_of r.c r.m.now) r.q) in Enough ms (words_of r.tape.now) × (c.in-Some.words ≡ taken_of (draws ms (words_of r.tape.now)))
+settled c =
+    let r = c.args in
+    let e = levels-are r.c r.m.now r.q c.running-run.result c.grown-next.result c.running-run.ensures (c.grown-next.ensures.0 (shape_of r.c.shape) refl) in
+    rw e (c.in-Some.ensures.0, sym c.in-Some.ensures.1)
 
 -- what the written levels hold
 held : (c : After-filled_slots-limit) → let r = c.args in c.filled_slots-limit.result / 2 ≡ capacity (levels_of (state_of r.c r.m.now) r.q)
@@ -56,7 +52,7 @@ unfolding command sends
 returns-then-buffer-c c =
     let r = c.args in
     let ls = levels_of (state_of r.c r.m.now) r.q in
-    rw c.refused.ensures (refuses r.c r.m.now r.tape.now r.buffer.now (rebuild_of r.q ls) c.requires 15 (other-buffer r.c r.m.now r.tape.now r.buffer.now (rebuild_of r.q ls) c.requires r.q (get_or ls 0 0) 0 refl refl c.if-buffer-c.true) (λ e. omega arith))
+    refuses r.c r.m.now r.tape.now r.buffer.now (rebuild_of r.q ls) c.requires 15 (other-buffer r.c r.m.now r.tape.now r.buffer.now (rebuild_of r.q ls) c.requires r.q (get_or ls 0 0) 0 refl refl c.if-buffer-c.true) (λ e. omega arith)
 
 pub grown-next-requires : goal.grown-next-requires
 grown-next-requires c =
@@ -64,13 +60,13 @@ grown-next-requires c =
     let f = c.running-run.ensures in
     (omega (arith, f.level), omega (arith, c.requires.usable.room.levels), run-together r.c r.m.now r.q c.running-run.result f)
 
-pub returns-then-words : goal.returns-then-words
+pub returns-in_default : goal.returns-in_default
 unfolding command sends step_bounds
-returns-then-words c =
+returns-in_default c =
     let r = c.args in
     let ls = levels_of (state_of r.c r.m.now) r.q in
-    let few = (counted (goal.at.returns-then-words c).After-orders_words-words).ended (omega (arith, c.words.ensures, c.if-words.true)) in
-    rw c.refused-then-words.ensures (refuses r.c r.m.now r.tape.now r.buffer.now (rebuild_of r.q ls) c.requires 3 (few_words r.c r.m.now r.tape.now r.buffer.now (rebuild_of r.q ls) c.requires r.q (get_or ls 0 0) 0 refl refl c.if-buffer-c.false few) (λ e. omega arith))
+    let few : draws (orders_bounds ls) (words_of r.tape.now) ≡ none = rw (levels (goal.at.returns-in_default c).After-grown-next) c.in_default.ensures in
+    refuses r.c r.m.now r.tape.now r.buffer.now (rebuild_of r.q ls) c.requires 3 (few_words r.c r.m.now r.tape.now r.buffer.now (rebuild_of r.q ls) c.requires r.q (get_or ls 0 0) 0 refl refl c.if-buffer-c.false few) (λ e. omega arith)
 
 pub planned-p-requires : goal.planned-p-requires
 planned-p-requires c = let p = c.requires in (p.usable, p.inside.0, c.running-run.ensures, levels (goal.at.planned-p-requires c).After-grown-next)
@@ -90,7 +86,7 @@ returns-then-limit-n c =
     let ls = levels_of s r.q in
     let g = c.gathered-n in
     let no = room-no s r.q _ g.result _ g.ensures (held (goal.at.returns-then-limit-n c).After-filled_slots-limit) c.if-limit-n.true in
-    rw c.refused-then-limit-n.ensures (refuses r.c r.m.now r.tape.now r.buffer.now (rebuild_of r.q ls) c.requires 2 (no_room r.c r.m.now r.tape.now r.buffer.now (rebuild_of r.q ls) c.requires r.q (get_or ls 0 0) 0 refl refl c.if-buffer-c.false (settled (goal.at.returns-then-limit-n c).Else-words).0 no) (λ e. omega arith))
+    refuses r.c r.m.now r.tape.now r.buffer.now (rebuild_of r.q ls) c.requires 2 (no_room r.c r.m.now r.tape.now r.buffer.now (rebuild_of r.q ls) c.requires r.q (get_or ls 0 0) 0 refl refl c.if-buffer-c.false (settled (goal.at.returns-then-limit-n c).In-Some).0 no) (λ e. omega arith)
 
 pub slice_bounds-list-end : goal.slice_bounds-list-end
 slice_bounds-list-end c = omega (arith, held (goal.at.slice_bounds-list-end c).After-filled_slots-limit, room (goal.at.slice_bounds-list-end c).After-filled_slots-limit, c.if-limit-n.false)
@@ -103,4 +99,4 @@ send_rebuild-requires c =
     let p = c.requires in
     let g = c.gathered-n in
     let all = g.ensures.all (omega (arith, c.if-limit-n.false)) in
-    (p, c.planned-p.ensures, all, omega (arith, slice_bounds-send_rebuild-end c, held (goal.at.send_rebuild-requires c).After-filled_slots-limit, c.if-limit-n.false), (settled (goal.at.send_rebuild-requires c).Else-words).0, (settled (goal.at.send_rebuild-requires c).Else-words).1, omega (arith, c.if-buffer-c.false))
+    (p, c.planned-p.ensures, all, omega (arith, slice_bounds-send_rebuild-end c, held (goal.at.send_rebuild-requires c).After-filled_slots-limit, c.if-limit-n.false), (settled (goal.at.send_rebuild-requires c).In-Some).0, (settled (goal.at.send_rebuild-requires c).In-Some).1, omega (arith, c.if-buffer-c.false))

@@ -1,4 +1,5 @@
-use mathlib.Core.Path.{◌≡◌, ap}
+use mathlib.Core.Path.{◌≡◌, refl, ap}
+use native.Mathlib.Omega.{arith}
 use Prim.Native.Nat.{suc, ◌<◌}
 use Rattle.lists.specs.All.{All}
 use Rattle.lists.specs.Distinct.{NoDup}
@@ -10,7 +11,7 @@ use Rattle.rules.proofs.Laws.Rebuilt.{gathered-in}
 use Rattle.client.specs.declared.Client.{Client}
 use Rattle.client.specs.View.{state_of, view}
 use Rattle.tape.specs.Tape.{words_of}
-use Rattle.sending.specs.Plans.{gathered-once}
+use Rattle.sending.specs.Plans.{longest-stays, gathered-once}
 use Rattle.sending.specs.Sent.{rebuilt-stands}
 use Rattle.sending.proofs.write_levels.Goals as goal
 
@@ -24,6 +25,13 @@ rebuild_tables-requires c =
     let blocks : All (λ b. b < s.shape.N) r.list.now = rw c.requires.3 (gathered-in s r.q) in
     let enough : Enough (orders_bounds (keep (filled r.p.next) (down (suc r.p.top)))) (words_of r.tape.now) = rw (← p.levels) c.requires.4 in
     (c.requires.0.room, c.requires.1, p.level, once, blocks, enough)
+
+pub leave_first-d-requires : goal.leave_first-d-requires
+leave_first-d-requires c =
+    let r = c.args in
+    let u = c.requires.0 in
+    let b = c.rebuild_tables in
+    ((rw b.auto.m u.room, omega (arith, u.counts.waiting, u.places)), longest-stays r.c r.m.now b.new.m r.q _ b.ensures.state refl refl r.p.first c.requires.2.first)
 
 pub returns : goal.returns
 returns c =

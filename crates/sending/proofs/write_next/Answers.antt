@@ -18,7 +18,7 @@ pub returns-then-buffer-c : goal.returns-then-buffer-c
 unfolding command sends
 returns-then-buffer-c c =
     let r = c.args in
-    rw c.refused.ensures (λ tape. refuses r.c r.m.now tape r.buffer.now (write_next r.q r.t r.i) c.requires 15 (other-buffer r.c r.m.now tape r.buffer.now (write_next r.q r.t r.i) c.requires r.q r.t r.i refl refl c.if-buffer-c.true) (λ e. omega arith))
+    λ tape. refuses r.c r.m.now tape r.buffer.now (write_next r.q r.t r.i) c.requires 15 (other-buffer r.c r.m.now tape r.buffer.now (write_next r.q r.t r.i) c.requires r.q r.t r.i refl refl c.if-buffer-c.true) (λ e. omega arith)
 
 pub returns : goal.returns
 unfolding command sends possible step_bounds draws is_none taken_of

@@ -1,4 +1,5 @@
-use mathlib.Core.Path.{◌≡◌, sym, ◌∙◌}
+use mathlib.Core.Path.{◌≡◌, refl, sym, ◌∙◌}
+use Rattle.contract.specs.Answers.{refusal-some}
 use mathlib.Core.Bool.{true}
 use Prim.Native.Nat.{◌*◌}
 use native.Mathlib.Omega.{arith}
@@ -6,7 +7,7 @@ use Rattle.rules.specs.Shape.{within}
 use Rattle.memory.specs.Fits.{shape_of}
 use Rattle.tape.specs.Tape.{length-words}
 use Rattle.session.specs.Session.{serves}
-use Rattle.session.specs.Laws.{left_le, left-whole, meets-small}
+use Rattle.session.specs.Laws.{left_le, left-whole}
 use Rattle.session.specs.OpenLine.{bounds, opens-out, opens-large, opens-no, opens-yes, opens-taken}
 use Rattle.session.proofs.open_line.Goals as goal
 use Rattle.session.proofs.open_line.Goals.{Else-not-is_within, Else-not-serves}
@@ -40,18 +41,15 @@ slice_bounds-open-count c = left_le c.args.s c.args.tape.now c.requires.0
 pub slice_bounds-open-start : goal.slice_bounds-open-start
 slice_bounds-open-start c = omega (arith, left_le c.args.s c.args.tape.now c.requires.0)
 
-pub refuse-requires-then-r-ne0 : goal.refuse-requires-then-r-ne0
-refuse-requires-then-r-ne0 c = (meets-small _ _ _ _ _ _ _ _ _ c.open-r.ensures, omega (arith, c.requires.3))
-
-pub returns-then-r-ne0 : goal.returns-then-r-ne0
-returns-then-r-ne0 c =
-    let p = c.refuse-then-r-ne0 in
-    opens-no c.args.s c.args.memory.now c.args.tape.now _ c.requires.0 (left-whole (c.args.s.taken * 2) c.args.tape.now) c.requires.1 _ (bounded (goal.at.returns-then-r-ne0 c).Else-not-is_within) (roomy (goal.at.returns-then-r-ne0 c).Else-not-serves) _ _ c.open-r.ensures c.if-r-ne0.true _ p.ensures.0 _ _ _ p.ensures.1
+pub returns-in-Err : goal.returns-in-Err
+returns-in-Err c =
+    let p = c.refuse-in-Err in
+    opens-no c.args.s c.args.memory.now c.args.tape.now _ c.requires.0 (left-whole (c.args.s.taken * 2) c.args.tape.now) (omega arith) _ (bounded (goal.at.returns-in-Err c).Else-not-is_within) (roomy (goal.at.returns-in-Err c).Else-not-serves) _ _ c.in-Err.ensures (refusal-some c.in-Err.e) _ p.ensures.0 _ _ _ p.ensures.1
 
 pub later-requires : goal.later-requires
 later-requires c =
-    omega (arith, opens-taken c.args.s c.args.memory.now c.args.tape.now _ c.requires.0 (left-whole (c.args.s.taken * 2) c.args.tape.now) c.requires.1 _ (bounded (goal.at.later-requires c).Else-not-is_within) (roomy (goal.at.later-requires c).Else-not-serves) _ _ c.open-r.ensures, length-words c.args.tape.now, c.requires.2)
+    omega (arith, opens-taken c.args.s c.args.memory.now c.args.tape.now _ c.requires.0 (left-whole (c.args.s.taken * 2) c.args.tape.now) (omega arith) _ (bounded (goal.at.later-requires c).Else-not-is_within) (roomy (goal.at.later-requires c).Else-not-serves) _ _ c.in-Ok.ensures, length-words c.args.tape.now, c.requires.1)
 
-pub returns : goal.returns
-returns c =
-    opens-yes c.args.s c.args.memory.now c.args.tape.now _ c.requires.0 (left-whole (c.args.s.taken * 2) c.args.tape.now) c.requires.1 _ (bounded (goal.at.returns c).Else-not-is_within) (roomy (goal.at.returns c).Else-not-serves) _ _ c.open-r.ensures (omega (arith, c.if-r-ne0.false)) _ c.later.ensures _ _ _ c.number-k.ensures
+pub returns-in-Ok : goal.returns-in-Ok
+returns-in-Ok c =
+    opens-yes c.args.s c.args.memory.now c.args.tape.now _ c.requires.0 (left-whole (c.args.s.taken * 2) c.args.tape.now) (omega arith) _ (bounded (goal.at.returns-in-Ok c).Else-not-is_within) (roomy (goal.at.returns-in-Ok c).Else-not-serves) _ _ c.in-Ok.ensures refl _ c.later.ensures _ _ _ c.number-k.ensures

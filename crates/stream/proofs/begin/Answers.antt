@@ -1,20 +1,19 @@
-use Rattle.std.proofs.Common.{◌≡◌, refl, ◌*◌, ◌/◌, ◌≤◌, length, take, sym, ◌∙◌, arith}
-use Rattle.std.proofs.Math.Option.{none, some}
+use Rattle.std.specs.Prelude.{None, Some}
+use Rattle.std.proofs.Common.{◌≡◌, refl, ◌*◌, ◌/◌, ◌≤◌, length, take, sym, arith}
 use Rattle.std.proofs.lemmas.Result.{IfOk-weaker}
 use Rattle.tape.specs.Tape.{words_of}
 use Rattle.lines.specs.Lines.{tape_of}
-use Rattle.lines.specs.Stored.{words-in, words-out}
 use Rattle.session.specs.Answers.{fresh-served}
 use Rattle.stream.specs.Laws.{words-first}
 use Rattle.stream.proofs.begin.Goals as goal
 
-pub returns-then-k-le-WORDS-clause-begun : goal.returns-then-k-le-WORDS-clause-begun
-returns-then-k-le-WORDS-clause-begun g c =
+pub returns-in-Some-clause-begun : goal.returns-in-Some-clause-begun
+returns-in-Some-clause-begun g c =
     let p = c.requires.0 in
-    let n = c.read_tape-k.result in
-    let t = c.read_tape-k.new.tape in
-    let few : n ≤ length t / 2 = omega arith in
-    let is : tape_of c.args.line.now ≡ some (take n (words_of t)) = sym c.read_tape-k.ensures ∙ words-in n t few in
+    let n = c.in-Some.k in
+    let t = c.read_tape.new.tape in
+    let few : n ≤ length t / 2 = omega (arith, c.in-Some.ensures.within) in
+    let is : tape_of c.args.line.now ≡ Some (take n (words_of t)) = sym c.in-Some.ensures.words in
     let new = c.start-t.ensures in
     record {
       ready = record { served = rw new (fresh-served (take (n * 2) t)); tape = omega arith; from = p.from; to = p.to; len = p.len; at = p.at };
@@ -31,9 +30,7 @@ respond-requires g c =
 
 pub returns-clause-begun : goal.returns-clause-begun
 returns-clause-begun g c =
-    let n = c.read_tape-k.result in
-    let t = c.read_tape-k.new.tape in
-    let no : tape_of c.args.line.now ≡ none = sym c.read_tape-k.ensures ∙ words-out n t (omega arith) in
+    let no : tape_of c.args.line.now ≡ None = sym c.in_default.ensures.words in
     IfOk-weaker c.respond.result _ _ (λ r e. record {
       ready = e.ready;
       size = e.size;

@@ -1,9 +1,6 @@
-use Rattle.std.proofs.Common.{◌≡◌, ◌-◌, ◌*◌, ◌/◌, ◌≤◌, length, drop}
+use Rattle.std.proofs.Common.{◌≡◌, ◌-◌, ◌*◌, ◌/◌, length, drop}
 use Rattle.rules.specs.Form.Sums.{sums_right, summed}
 use Rattle.sums.proofs.is_summed.Given as goal
 
 abbrev pub invariant-loop-k : goal.invariant-loop-k
-invariant-loop-k l = (l.n ≡ length l.form / 512) × (l.k ≤ l.n) × (sums_right (l.n - l.k) l.k (drop (l.k * 512) l.form) ≡ summed l.form)
-
-abbrev pub decreases-loop-k : goal.decreases-loop-k
-decreases-loop-k l = l.n - l.k
+invariant-loop-k l = sums_right (length l.form / 512 - l.k) l.k (drop (l.k * 512) l.form) ≡ summed l.form

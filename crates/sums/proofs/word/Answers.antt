@@ -5,4 +5,4 @@ use Rattle.sums.proofs.word.Goals as goal
 pub returns : goal.returns
 returns c =
     let a = c.args in
-    omega (arith, word-is a.body.now a.at c.requires, c.wide.ensures, c.wide-2.ensures, c.wide-3.ensures, c.wide-4.ensures)
+    omega (arith, word-is a.body.now a.at c.requires)

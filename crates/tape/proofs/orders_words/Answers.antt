@@ -4,22 +4,22 @@ use Rattle.tape.specs.Settled.{levels-start, levels-next, levels-end, levels-don
 use Rattle.tape.proofs.orders_words.Goals as goal
 
 pub loop-l-init : goal.loop-l-init
-loop-l-init c = let a = c.args in (omega arith, levels-start a.next a.top (words_of a.t.now))
+loop-l-init c = let a = c.args in levels-start a.next a.top (words_of a.t.now)
 
-pub returns-then-words-k : goal.returns-then-words-k
-returns-then-words-k c =
+pub returns-in_err-k : goal.returns-in_err-k
+returns-in_err-k c =
     let l = c.loop-l in
     let a = c.args in
-    levels-end a.next a.top (words_of a.t.now) l.l l.k _ (omega arith) l.invariant.1 c.level_end-k.ensures (omega arith)
+    rw c.from_residual.ensures (levels-end a.next a.top (words_of a.t.now) l.l l.k (omega arith) l.invariant c.in_err-k.ensures)
 
 pub loop-l-preserved : goal.loop-l-preserved
 loop-l-preserved c =
     let l = c.loop-l in
     let a = c.args in
-    (omega arith, levels-next a.next a.top (words_of a.t.now) l.l l.k _ (omega arith) l.invariant.1 c.level_end-k.ensures (omega arith))
+    levels-next a.next a.top (words_of a.t.now) l.l l.k (omega arith) l.invariant _ c.in_ok-k.ensures
 
 pub returns : goal.returns
 returns c =
     let l = c.loop-l in
     let a = c.args in
-    levels-done a.next a.top (words_of a.t.now) l.l l.k (omega arith) l.invariant.1
+    levels-done a.next a.top (words_of a.t.now) l.l l.k (omega arith) l.invariant

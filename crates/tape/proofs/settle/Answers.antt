@@ -1,5 +1,4 @@
 use mathlib.Core.Path.{◌≡◌, sym, ◌∙◌}
-use Prim.Native.Nat.{◌-◌}
 use native.Mathlib.Omega.{arith}
 use lib.ListN.{get_or}
 use borrow.Author.Tests.{leb-true, leb-false}
@@ -23,9 +22,9 @@ word-requires c =
 pub returns-then-not-passed : goal.returns-then-not-passed
 returns-then-not-passed c =
     let l = c.loop-i in
-    passing-settled l.invariant.1 (λ h. rw (← looked (goal.at.returns-then-not-passed c).After-word) (leb-false _ _ (sym c.passed.ensures ∙ c.if-not-passed.true)))
+    passing-settled l.invariant (omega arith) (rw (← looked (goal.at.returns-then-not-passed c).After-word) (leb-false _ _ (sym c.passed.ensures ∙ c.if-not-passed.true)))
 
 pub loop-i-preserved : goal.loop-i-preserved
 loop-i-preserved c =
     let l = c.loop-i in
-    (l.invariant.0, passing-more l.invariant.1 (omega arith) (rw (← looked (goal.at.loop-i-preserved c).After-word) (leb-true _ _ (sym c.passed.ensures ∙ c.if-not-passed.false))))
+    passing-more l.invariant (omega arith) (rw (← looked (goal.at.loop-i-preserved c).After-word) (leb-true _ _ (sym c.passed.ensures ∙ c.if-not-passed.false)))

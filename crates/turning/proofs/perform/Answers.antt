@@ -26,18 +26,18 @@ decided c x e =
 pub returns-then-not-shape_fits : goal.returns-then-not-shape_fits
 returns-then-not-shape_fits c =
     let a = c.args in
-    rw c.refused.ensures (not-ready a.c a.m.now a.tape.now a.buffer.now (unready-part a.c a.m.now (rw (← c.shape_fits.ensures) (c.if-not-shape_fits.true))))
+    not-ready a.c a.m.now a.tape.now a.buffer.now (unready-part a.c a.m.now (rw (← c.shape_fits.ensures) (c.if-not-shape_fits.true)))
 
 pub returns-then-not-numbers_fit : goal.returns-then-not-numbers_fit
 returns-then-not-numbers_fit c =
     let r = c.numbers_fit in
     let a = c.args in
-    rw c.refused-then-not-numbers_fit.ensures (not-ready a.c a.m.now a.tape.now a.buffer.now (rw (← r.ensures) (c.if-not-numbers_fit.true)))
+    not-ready a.c a.m.now a.tape.now a.buffer.now (rw (← r.ensures) (c.if-not-numbers_fit.true))
 
 pub returns-then-c : goal.returns-then-c
 returns-then-c c =
     let a = c.args in
-    rw c.refused-then-c.ensures (window-full a.c a.m.now a.tape.now a.buffer.now (begun (goal.at.returns-then-c c).Else-not-numbers_fit) (omega (arith, c.if-c.true)))
+    window-full a.c a.m.now a.tape.now a.buffer.now (begun (goal.at.returns-then-c c).Else-not-numbers_fit) (omega (arith, c.if-c.true))
 
 pub decide-step-requires : goal.decide-step-requires
 decide-step-requires c = let a = c.args in usable a.c a.m.now (begun (goal.at.decide-step-requires c).Else-not-numbers_fit)
@@ -58,10 +58,10 @@ pub returns-in-Idle : goal.returns-in-Idle
 returns-in-Idle c =
     let d = decided (goal.at.returns-in-Idle c).After-decide-step idle (ap (step_of _) c.in-Idle.is) in
     let a = c.args in
-    rw c.refused-in-Idle.ensures (refuses a.c a.m.now a.tape.now a.buffer.now idle d 10 (idle-number a.c a.m.now a.tape.now a.buffer.now idle d refl) (λ e. omega arith))
+    refuses a.c a.m.now a.tape.now a.buffer.now idle d 10 (idle-number a.c a.m.now a.tape.now a.buffer.now idle d refl) (λ e. omega arith)
 
 pub returns-in-NoDummy : goal.returns-in-NoDummy
 returns-in-NoDummy c =
     let d = decided (goal.at.returns-in-NoDummy c).After-decide-step no_dummy (ap (step_of _) c.in-NoDummy.is) in
     let a = c.args in
-    rw c.refused-in-NoDummy.ensures (refuses a.c a.m.now a.tape.now a.buffer.now no_dummy d 2 (lacks-number a.c a.m.now a.tape.now a.buffer.now no_dummy d refl) (λ e. omega arith))
+    refuses a.c a.m.now a.tape.now a.buffer.now no_dummy d 2 (lacks-number a.c a.m.now a.tape.now a.buffer.now no_dummy d refl) (λ e. omega arith)

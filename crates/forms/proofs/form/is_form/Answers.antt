@@ -77,7 +77,7 @@ pub overflow_add-queue-4 : goal.overflow_add-queue-4
 overflow_add-queue-4 c = let b = bounds_of c.shape-h.result (sym c.is_within.ensures ∙ c.if-not-is_within.false) in omega arith
 
 pub has_body-requires : goal.has_body-requires
-has_body-requires c = let b = bounds_of c.shape-h.result (sym c.is_within.ensures ∙ c.if-not-is_within.false) in (c.requires, b, omega arith, omega arith)
+has_body-requires c = let b = bounds_of c.shape-h.result (sym c.is_within.ensures ∙ c.if-not-is_within.false) in (b, omega arith)
 
 pub returns : goal.returns
 returns c =

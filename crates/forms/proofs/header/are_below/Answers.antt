@@ -12,21 +12,21 @@ pub returns-then-bound-number : goal.returns-then-bound-number
 returns-then-bound-number c =
     let l = c.loop-i in
     let a = c.args in
-    let p = out_of_blocks a.form.now in
+    let p = out_of_blocks a.form.bytes.now in
     let big : a.bound ≤ c.number.result = omega arith in
-    sym (sym l.invariant.1 ∙ ap (all (λ x. ltb x a.bound)) (numbers-left p 2 a.n a.a l.i (omega arith)) ∙ all-not a.bound _ _ (rw c.number.ensures.0 at big))
+    sym (sym l.invariant ∙ ap (all (λ x. ltb x a.bound)) (numbers-left p 2 a.n a.a l.i (omega arith)) ∙ all-not a.bound _ _ (rw c.number.ensures.0 at big))
 
 pub loop-i-preserved : goal.loop-i-preserved
 loop-i-preserved c =
     let l = c.loop-i in
     let a = c.args in
-    let p = out_of_blocks a.form.now in
+    let p = out_of_blocks a.form.bytes.now in
     let small : c.number.result < a.bound = omega arith in
-    (omega arith, sym (all_more a.bound _ _ (rw c.number.ensures.0 at small)) ∙ ap (all (λ x. ltb x a.bound)) (sym (numbers-left p 2 a.n a.a l.i (omega arith))) ∙ l.invariant.1)
+    sym (all_more a.bound _ _ (rw c.number.ensures.0 at small)) ∙ ap (all (λ x. ltb x a.bound)) (sym (numbers-left p 2 a.n a.a l.i (omega arith))) ∙ l.invariant
 
 pub returns : goal.returns
 returns c =
     let l = c.loop-i in
     let a = c.args in
-    let p = out_of_blocks a.form.now in
-    sym (sym l.invariant.1 ∙ ap (all (λ x. ltb x a.bound)) (numbers-none p 2 a.n (a.a + l.i * 2) l.i (omega arith)) ∙ all_none (λ x. ltb x a.bound))
+    let p = out_of_blocks a.form.bytes.now in
+    sym (sym l.invariant ∙ ap (all (λ x. ltb x a.bound)) (numbers-none p 2 a.n (a.a + l.i * 2) l.i (omega arith)) ∙ all_none (λ x. ltb x a.bound))

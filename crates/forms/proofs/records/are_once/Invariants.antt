@@ -8,7 +8,4 @@ use Rattle.forms.specs.Records.{numbers_by}
 use Rattle.forms.proofs.records.are_once.Given as goal
 
 abbrev pub invariant-loop-i : goal.invariant-loop-i
-invariant-loop-i l = (l.i ≤ l.n) × (l.at ≤ l.from + l.i * 516) × (length l.seen ≡ length l.initial.seen) × (fresh_in (λ x. ltb x l.bound) l.seen (numbers_by (out_of_blocks l.form) l.step (l.n - l.i) l.at) ≡ fresh_in (λ x. ltb x l.bound) l.initial.seen (numbers_by (out_of_blocks l.form) l.step l.n l.from))
-
-abbrev pub decreases-loop-i : goal.decreases-loop-i
-decreases-loop-i l = l.n - l.i
+invariant-loop-i l = (l.at ≤ l.from + l._i * 516) × (length l.seen ≡ length l.initial.seen) × (fresh_in (λ x. ltb x l.bound) l.seen (numbers_by (out_of_blocks l.form.bytes.now) l.step (l.n - l._i) l.at) ≡ fresh_in (λ x. ltb x l.bound) l.initial.seen (numbers_by (out_of_blocks l.form.bytes.now) l.step l.n l.from))

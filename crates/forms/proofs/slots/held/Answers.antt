@@ -7,11 +7,10 @@ pub loop-i-preserved : goal.loop-i-preserved
 loop-i-preserved c =
     let l = c.loop-i in
     let a = c.args in
-    let w = c.wide-count.ensures in
-    (omega arith, omega arith, omega (arith, held-left a.seen.now a.c a.n l.i (omega arith), w.0, l.invariant.2))
+    (omega arith, omega (arith, held-left a.seen.now a.c a.n l.i (omega arith), l.invariant.1))
 
 pub returns : goal.returns
 returns c =
     let l = c.loop-i in
     let a = c.args in
-    omega (arith, l.invariant.2, held_none a.seen.now (a.c + l.i) a.n l.i (omega arith))
+    omega (arith, l.invariant.1, held_none a.seen.now (a.c + l.i) a.n l.i (omega arith))

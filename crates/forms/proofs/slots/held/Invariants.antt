@@ -4,7 +4,4 @@ use Rattle.forms.specs.Levels.{held_in}
 use Rattle.forms.proofs.slots.held.Given as goal
 
 abbrev pub invariant-loop-i : goal.invariant-loop-i
-invariant-loop-i l = (l.i ≤ l.n) × (l.count ≤ l.i * 255) × (l.count + held_in l.seen (l.c + l.i) (l.n - l.i) ≡ held_in l.seen l.c l.n)
-
-abbrev pub decreases-loop-i : goal.decreases-loop-i
-decreases-loop-i l = l.n - l.i
+invariant-loop-i l = (l.count ≤ l.i * 255) × (l.count + held_in l.seen (l.c + l.i) (l.n - l.i) ≡ held_in l.seen l.c l.n)

@@ -1,5 +1,5 @@
 use mathlib.Core.Path.{◌≡◌}
-use Prim.Native.Nat.{◌+◌, ◌-◌, ◌*◌, ◌≤◌, ◌<◌}
+use Prim.Native.Nat.{◌+◌, ◌-◌, ◌*◌, ◌≤◌}
 use Rattle.lists.specs.Search.{count}
 use Rattle.rules.specs.Form.Numbers.{each}
 use Rattle.rules.specs.Form.Sums.{out_of_blocks}
@@ -10,8 +10,5 @@ use Rattle.forms.proofs.slots.partition.Given as goal
 
 abbrev pub invariant-loop-l : goal.invariant-loop-l
 invariant-loop-l l =
-    (l.l ≤ l.h.l) × (0 < l.at) × (l.at ≤ l.from + l.l * 512)
-    × (passed (shape_of l.h) (out_of_blocks l.form) l.seen (each (key_at l.q l.c) (count l.l (l.h.l - l.l))) l.at ≡ passed (shape_of l.h) (out_of_blocks l.form) l.seen (keys_of l.h.l (counter_in (out_of_blocks l.form) l.h.p) l.q) l.from)
-
-abbrev pub decreases-loop-l : goal.decreases-loop-l
-decreases-loop-l l = l.h.l - l.l
+    (l.at ≤ l.from + l.l * 512)
+    × (passed (shape_of l.h) (out_of_blocks l.form.bytes.now) l.seen (each (key_at l.q l.c) (count l.l (l.h.l - l.l))) l.at ≡ passed (shape_of l.h) (out_of_blocks l.form.bytes.now) l.seen (keys_of l.h.l (counter_in (out_of_blocks l.form.bytes.now) l.h.p) l.q) l.from)

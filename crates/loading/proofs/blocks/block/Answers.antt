@@ -14,29 +14,29 @@ use Rattle.loading.proofs.blocks.block.Goals as goal
 pub returns-then-l-ge-WAITING : goal.returns-then-l-ge-WAITING
 returns-then-l-ge-WAITING c =
     let a = c.args in
-    none-put (shape_of a.h) (out_of_blocks a.form.now) a.b a.at c.number-q.result c.byte-l.result c.number-q.ensures.0 c.byte-l.ensures.0
-    (tables_of (shape_of a.h) a.m.now) _ _ c.set_partition.ensures (omega arith) c.byte-l.ensures.1 c.set_place.ensures
+    none-put (shape_of a.h) (out_of_blocks a.form.bytes.now) a.b a.at c.number-q.result c.byte-l.result c.number-q.ensures.0 c.byte-l.ensures.0
+    (tables_of (shape_of a.h) a.m.now) _ _ c.set.ensures (omega arith) c.byte-l.ensures.1 c.set-then-l-ge-WAITING.ensures
 
 pub pow2-requires : goal.pow2-requires
 pow2-requires c =
     let a = c.args in
-    omega (arith, c.requires.1.levels, (slot-in (shape_of a.h) (out_of_blocks a.form.now) a.at c.number-q.result c.byte-l.result (get_or (out_of_blocks a.form.now) (a.at + 3) 0) (counter_in (out_of_blocks a.form.now) a.h.p) c.number-q.ensures.0 c.byte-l.ensures.0 refl (omega arith) c.requires.4).1)
+    omega (arith, c.requires.0.levels, (slot-in (shape_of a.h) (out_of_blocks a.form.bytes.now) a.at c.number-q.result c.byte-l.result (get_or (out_of_blocks a.form.bytes.now) (a.at + 3) 0) (counter_in (out_of_blocks a.form.bytes.now) a.h.p) c.number-q.ensures.0 c.byte-l.ensures.0 refl (omega arith) c.requires.3).1)
 
-pub set_place-requires-2 : goal.set_place-requires-2
-set_place-requires-2 c =
+pub set-requires-2 : goal.set-requires-2
+set-requires-2 c =
     let a = c.args in
-    omega (arith, few-slots c.byte-l.result (omega (arith, c.requires.1.levels, (slot-in (shape_of a.h) (out_of_blocks a.form.now) a.at c.number-q.result c.byte-l.result c.byte.result (counter_in (out_of_blocks a.form.now) a.h.p) c.number-q.ensures.0 c.byte-l.ensures.0 c.byte.ensures.0 (omega arith) c.requires.4).1)), c.pow2.ensures.0, c.byte.ensures.1)
+    omega (arith, few-slots c.byte-l.result (omega (arith, c.requires.0.levels, (slot-in (shape_of a.h) (out_of_blocks a.form.bytes.now) a.at c.number-q.result c.byte-l.result c.byte.result (counter_in (out_of_blocks a.form.bytes.now) a.h.p) c.number-q.ensures.0 c.byte-l.ensures.0 c.byte.ensures.0 (omega arith) c.requires.3).1)), c.pow2.ensures.0, c.byte.ensures.1)
 
 pub cell_of-requires : goal.cell_of-requires
 cell_of-requires c =
     let a = c.args in
-    let f = c.requires.1 in
-    let s = slot-in (shape_of a.h) (out_of_blocks a.form.now) a.at c.number-q.result c.byte-l.result c.byte.result (counter_in (out_of_blocks a.form.now) a.h.p) c.number-q.ensures.0 c.byte-l.ensures.0 c.byte.ensures.0 (omega arith) c.requires.4 in
+    let f = c.requires.0 in
+    let s = slot-in (shape_of a.h) (out_of_blocks a.form.bytes.now) a.at c.number-q.result c.byte-l.result c.byte.result (counter_in (out_of_blocks a.form.bytes.now) a.h.p) c.number-q.ensures.0 c.byte-l.ensures.0 c.byte.ensures.0 (omega arith) c.requires.3 in
     (f.levels, f.partitions, f.cells, s.0, rw c.pow2.ensures.0 (offset-lt a.h.l c.byte-l.result c.byte.result s.1 s.2))
 
 pub returns : goal.returns
 returns c =
     let a = c.args in
-    slot-put (shape_of a.h) (out_of_blocks a.form.now) a.b a.at c.number-q.result c.byte-l.result c.number-q.ensures.0 c.byte-l.ensures.0
-    (tables_of (shape_of a.h) a.m.now) _ _ c.set_partition.ensures c.byte.result c.byte.ensures.0 (omega arith)
-    _ _ _ (ap (λ n. n + c.byte.result) c.pow2.ensures.0) c.cell_of.ensures.0 c.set_place-2.ensures c.set_holds.ensures
+    slot-put (shape_of a.h) (out_of_blocks a.form.bytes.now) a.b a.at c.number-q.result c.byte-l.result c.number-q.ensures.0 c.byte-l.ensures.0
+    (tables_of (shape_of a.h) a.m.now) _ _ c.set.ensures c.byte.result c.byte.ensures.0 (omega arith)
+    _ _ _ (ap (λ n. n + c.byte.result) c.pow2.ensures.0) c.cell_of.ensures.0 c.set-2.ensures c.set-3.ensures

@@ -16,5 +16,5 @@ loop-i-preserved c =
     let a = c.args in
     let e = l.i + c.inside.result in
     let n : length (take (e - l.i) (drop l.i l.dst)) ≡ e - l.i = omega (arith, length-take (e - l.i) (drop l.i l.dst), length-drop l.i l.dst) in
-    let v = c.piece.ensures ∙ ap (λ j. bytes_at (out_of_blocks a.form.now) j (a.k + l.i)) n in
-    (omega arith, refl, omega arith, more-there (out_of_blocks a.form.now) a.k l.i e l.dst _ (omega arith) (omega arith) l.invariant.3 v)
+    let v = c.piece.ensures ∙ ap (λ j. bytes_at (out_of_blocks a.form.bytes.now) j (a.k + l.i)) n in
+    (omega arith, refl, omega arith, more-there (out_of_blocks a.form.bytes.now) a.k l.i e l.dst _ (omega arith) (omega arith) l.invariant.3 v)

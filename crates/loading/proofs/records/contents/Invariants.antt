@@ -6,7 +6,7 @@ use Rattle.forms.specs.At.{bytes_at}
 use Rattle.loading.proofs.records.contents.Given as goal
 
 abbrev pub invariant-loop-i : goal.invariant-loop-i
-invariant-loop-i l = (l.i ≤ l.n) × (l.n ≡ length l.initial.dst) × (length l.dst ≡ l.n) × (take l.i l.dst ≡ bytes_at (out_of_blocks l.form) l.i l.k)
+invariant-loop-i l = (l.i ≤ l.n) × (l.n ≡ length l.initial.dst) × (length l.dst ≡ l.n) × (take l.i l.dst ≡ bytes_at (out_of_blocks l.form.bytes.now) l.i l.k)
 
 abbrev pub decreases-loop-i : goal.decreases-loop-i
 decreases-loop-i l = l.n - l.i

@@ -15,11 +15,10 @@ use Rattle.loading.proofs.records.waiters.Goals as goal
 pub loop-i-init : goal.loop-i-init
 loop-i-init c =
     let a = c.args in
-    let p = out_of_blocks a.form.now in (
-      omega arith,
+    let p = out_of_blocks a.form.bytes.now in (
       refl,
       omega arith,
-      subst (All (InStore a.h.n)) (sym (records-all p a.h.b a.n a.from)) c.requires.5,
+      subst (All (InStore a.h.n)) (sym (records-all p a.h.b a.n a.from)) c.requires.4,
       ap (λ rs. put_records rs (tables_of (shape_of a.h) a.m.now)) (records-all p a.h.b a.n a.from),
     )
 
@@ -27,23 +26,22 @@ pub waiter-requires : goal.waiter-requires
 waiter-requires c =
     let l = c.loop-i in
     let a = c.args in
-    let f = c.requires.1 in
-    let step = stride-le a.n l.i (4 + a.h.b) (omega arith) in
-    (c.requires.0, rw l.invariant.1 f, omega (arith, step, times-le a.n (4 + a.h.b) c.requires.3 (omega (arith, f.bytes))), omega (arith, step, c.requires.4), (all-next _ _ (records-left (out_of_blocks a.form.now) a.h.b a.n l.i l.at (omega arith)) l.invariant.3).0)
+    let f = c.requires.0 in
+    let step = stride-le a.n l._i (4 + a.h.b) (omega arith) in
+    (rw l.invariant.0 f, omega (arith, step, times-le a.n (4 + a.h.b) c.requires.2 (omega (arith, f.bytes))), omega (arith, step, c.requires.3), (all-next _ _ (records-left (out_of_blocks a.form.bytes.now) a.h.b a.n l._i l.at (omega arith)) l.invariant.2).0)
 
 pub loop-i-preserved : goal.loop-i-preserved
 loop-i-preserved c =
     let l = c.loop-i in
     let a = c.args in
-    let p = out_of_blocks a.form.now in
+    let p = out_of_blocks a.form.bytes.now in
     let t = tables_of (shape_of a.h) l.m in
-    let left = records-left p a.h.b a.n l.i l.at (omega arith) in
-    let rest = records_left p a.h.b a.n (l.i + 1) (l.at + (4 + a.h.b)) in (
+    let left = records-left p a.h.b a.n l._i l.at (omega arith) in
+    let rest = records_left p a.h.b a.n (l._i + 1) (l.at + (4 + a.h.b)) in (
       omega arith,
       omega arith,
-      omega arith,
-      (all-next _ rest left l.invariant.3).1,
-      ap (put_records rest) c.waiter.ensures ∙ records-put (waiter_at p a.h.b l.at) rest t ∙ sym (ap (λ rs. put_records rs t) left) ∙ l.invariant.4,
+      (all-next _ rest left l.invariant.2).1,
+      ap (put_records rest) c.waiter.ensures ∙ records-put (waiter_at p a.h.b l.at) rest t ∙ sym (ap (λ rs. put_records rs t) left) ∙ l.invariant.3,
     )
 
 pub returns : goal.returns
@@ -51,4 +49,4 @@ returns c =
     let l = c.loop-i in
     let a = c.args in
     let t = tables_of (shape_of a.h) l.m in
-    sym (ap (λ rs. put_records rs t) (records-none (out_of_blocks a.form.now) a.h.b a.n l.i l.at (omega arith)) ∙ no-records t) ∙ l.invariant.4
+    sym (ap (λ rs. put_records rs t) (records-none (out_of_blocks a.form.bytes.now) a.h.b a.n l._i l.at (omega arith)) ∙ no-records t) ∙ l.invariant.3

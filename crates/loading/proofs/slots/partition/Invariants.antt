@@ -11,7 +11,4 @@ use Rattle.loading.specs.Levels.{Leads}
 use Rattle.loading.proofs.slots.partition.Given as goal
 
 abbrev pub invariant-loop-l : goal.invariant-loop-l
-invariant-loop-l l = (l.l ≤ l.h.l) × (length l.m ≡ length l.initial.m) × (l.at ≤ l.from + l.l * 512) × Leads (shape_of l.h) (out_of_blocks l.form) (each (key_at l.q l.c) (count l.l (l.h.l - l.l))) l.at (tables_of (shape_of l.h) l.m) (each (key_at l.q l.c) (below l.h.l)) l.from (tables_of (shape_of l.h) l.initial.m)
-
-abbrev pub decreases-loop-l : goal.decreases-loop-l
-decreases-loop-l l = l.h.l - l.l
+invariant-loop-l l = (length l.m ≡ length l.initial.m) × (l.at ≤ l.from + l.l * 512) × Leads (shape_of l.h) (out_of_blocks l.form.bytes.now) (each (key_at l.q l.c) (count l.l (l.h.l - l.l))) l.at (tables_of (shape_of l.h) l.m) (each (key_at l.q l.c) (below l.h.l)) l.from (tables_of (shape_of l.h) l.initial.m)

@@ -11,21 +11,21 @@ use Rattle.loading.proofs.slots.partitions.Goals as goal
 pub loop-q-init : goal.loop-q-init
 loop-q-init c =
     let a = c.args in
-    let p = out_of_blocks a.form.now in
-    (omega arith, refl, omega arith, leads-all (shape_of a.h) p (keys_of a.h.l (counter_in p a.h.p)) a.h.p a.from (tables_of (shape_of a.h) a.m.now))
+    let p = out_of_blocks a.form.bytes.now in
+    (refl, omega arith, leads-all (shape_of a.h) p (keys_of a.h.l (counter_in p a.h.p)) a.h.p a.from (tables_of (shape_of a.h) a.m.now))
 
 pub loop-q-preserved : goal.loop-q-preserved
 loop-q-preserved c =
     let l = c.loop-q in
     let a = c.args in
-    let p = out_of_blocks a.form.now in
+    let p = out_of_blocks a.form.bytes.now in
     let r = c.partition-at.ensures in
-    (omega arith, omega arith, omega (arith, r.1), leads-next (shape_of a.h) p (keys_of a.h.l (counter_in p a.h.p)) a.h.p l.q _ l.at _ a.from _ _ _ (omega arith) r.0 r.2 l.invariant.3)
+    (omega arith, omega (arith, r.1), leads-next (shape_of a.h) p (keys_of a.h.l (counter_in p a.h.p)) a.h.p l.q _ l.at _ a.from _ _ _ (omega arith) r.0 r.2 l.invariant.2)
 
 pub returns : goal.returns
 returns c =
     let l = c.loop-q in
     let a = c.args in
-    let p = out_of_blocks a.form.now in
-    let r = leads-end (shape_of a.h) p (keys_of a.h.l (counter_in p a.h.p)) a.h.p l.q _ l.at a.from _ _ (omega arith) l.invariant.3 in
-    (r.0, omega (arith, c.requires.1.partitions), r.1)
+    let p = out_of_blocks a.form.bytes.now in
+    let r = leads-end (shape_of a.h) p (keys_of a.h.l (counter_in p a.h.p)) a.h.p l.q _ l.at a.from _ _ (omega arith) l.invariant.2 in
+    (r.0, omega (arith, c.requires.0.partitions), r.1)

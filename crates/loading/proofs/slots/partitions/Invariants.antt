@@ -12,7 +12,4 @@ use Rattle.loading.specs.Levels.{Leads}
 use Rattle.loading.proofs.slots.partitions.Given as goal
 
 abbrev pub invariant-loop-q : goal.invariant-loop-q
-invariant-loop-q l = (l.q ≤ l.h.p) × (length l.m ≡ length l.initial.m) × (l.at ≤ l.from + l.q * 4096) × Leads (shape_of l.h) (out_of_blocks l.form) (each (keys_of l.h.l (counter_in (out_of_blocks l.form) l.h.p)) (count l.q (l.h.p - l.q))) l.at (tables_of (shape_of l.h) l.m) (each (keys_of l.h.l (counter_in (out_of_blocks l.form) l.h.p)) (below l.h.p)) l.from (tables_of (shape_of l.h) l.initial.m)
-
-abbrev pub decreases-loop-q : goal.decreases-loop-q
-decreases-loop-q l = l.h.p - l.q
+invariant-loop-q l = (length l.m ≡ length l.initial.m) × (l.at ≤ l.from + l.q * 4096) × Leads (shape_of l.h) (out_of_blocks l.form.bytes.now) (each (keys_of l.h.l (counter_in (out_of_blocks l.form.bytes.now) l.h.p)) (count l.q (l.h.p - l.q))) l.at (tables_of (shape_of l.h) l.m) (each (keys_of l.h.l (counter_in (out_of_blocks l.form.bytes.now) l.h.p)) (below l.h.p)) l.from (tables_of (shape_of l.h) l.initial.m)

@@ -1,26 +1,35 @@
+use contract.BorrowLft.{⊑_meet, ⊑_static}
 use mathlib.Core.Path.{◌≡◌, ap, sym, ◌∙◌}
 use mathlib.Core.List.{◌∷◌, map}
-use Prim.Native.Nat.{◌+◌, ◌-◌}
+use Prim.Native.Nat.{◌+◌, ◌-◌, ◌<◌, ◌≤◌}
+use native.Mathlib.Omega.{arith}
+use lib.ListN.{get_or}
+use mir.Val.{Fits}
+use mir.Syntax.{w64}
+use Rattle.std.proofs.Common.{of_calls}
 use Rattle.rules.specs.Form.Sums.{out_of_blocks}
-use Rattle.memory.specs.declared.tables.Table.TheVariants.{Mark}
 use Rattle.forms.specs.At.{bytes_at}
 use Rattle.forms.specs.Levels.{bytes_left, bytes-none}
-use Rattle.loading.specs.Laid.{laid-step, laid_end}
-use native.Mathlib.Omega.{arith}
 use Rattle.loading.proofs.tables.marks.Goals as goal
 
-pub loop-i-preserved : goal.loop-i-preserved
-loop-i-preserved c =
-    let l = c.loop-i in
-    let a = c.args in
-    let p = out_of_blocks a.form.now in
-    let e : a.c + (l.i + 1) ≡ a.c + l.i + 1 = omega arith in
-    let v = c.turned-x.ensures.0 ∙ ap (λ x. 1 - x) c.byte.ensures.0 in
-    let b = ap (map (λ x. 1 - x)) (bytes_left p a.n a.a l.i (omega arith)) ∙ ap (λ w. w ∷ map (λ x. 1 - x) (bytes_at p (a.n - (l.i + 1)) (a.a + (l.i + 1)))) (sym v) in
-    (omega arith, omega arith, laid-step Mark (a.c + l.i) (a.c + (l.i + 1)) _ (map (λ x. 1 - x) (bytes_at p (a.n - (l.i + 1)) (a.a + (l.i + 1)))) (map (λ x. 1 - x) (bytes_at p (a.n - l.i) (a.a + l.i))) _ _ _ e b c.set_mark.ensures l.invariant.2)
-
-pub returns : goal.returns
-returns c =
-    let l = c.loop-i in
-    let a = c.args in
-    laid_end Mark (a.c + l.i) (map (λ x. 1 - x) (bytes_at (out_of_blocks a.form.now) (a.n - l.i) (a.a + l.i))) _ _ (ap (map (λ x. 1 - x)) (bytes-none (out_of_blocks a.form.now) a.n (a.a + l.i) l.i (omega arith))) l.invariant.2
+pub lay-requires : goal.lay-requires
+lay-requires c = λ ks w.
+    let p = out_of_blocks c.args.form.bytes.now in
+    let n = c.args.n in
+    let a = c.args.a in (
+      search (⊑_meet, ⊑_static, w.0, w.1.0) depth 12,
+      (
+        c.requires.0,
+        omega arith,
+        record {
+          may = λ i l.
+              let low : a + i < 4294967296 = omega arith in
+              let fits : Fits w64 (a + i) = omega arith in
+              search (of_calls, low, fits);
+          next = λ i x l e.
+              let v : (x ≡ 1 - get_or p (a + i) 0) × (x ≤ 1) = search (of_calls, e) in
+              (ap (map (λ y. 1 - y)) (bytes_left p n a i l) ∙ ap (λ y. y ∷ map (λ z. 1 - z) (bytes_at p (n - (i + 1)) (a + (i + 1)))) (sym v.0), omega (arith, v.1));
+          end = ap (map (λ x. 1 - x)) (bytes-none p n (a + n) n (omega arith));
+        },
+      ),
+    )

@@ -1,25 +1,35 @@
+use contract.BorrowLft.{⊑_meet, ⊑_static}
 use mathlib.Core.Path.{◌≡◌, ap, sym, ◌∙◌}
 use mathlib.Core.List.{◌∷◌}
-use Prim.Native.Nat.{◌+◌, ◌-◌}
+use Prim.Native.Nat.{◌+◌, ◌-◌, ◌<◌}
+use native.Mathlib.Omega.{arith}
+use lib.ListN.{get_or}
+use mir.Val.{Fits}
+use mir.Syntax.{w64}
+use Rattle.std.proofs.Common.{of_calls}
 use Rattle.rules.specs.Form.Sums.{out_of_blocks}
-use Rattle.memory.specs.declared.tables.Table.TheVariants.{Order}
 use Rattle.forms.specs.At.{bytes_at}
 use Rattle.forms.specs.Levels.{bytes_left, bytes-none}
-use Rattle.loading.specs.Laid.{laid-step, laid_end}
-use native.Mathlib.Omega.{arith}
 use Rattle.loading.proofs.tables.order.Goals as goal
 
-pub loop-i-preserved : goal.loop-i-preserved
-loop-i-preserved c =
-    let l = c.loop-i in
-    let a = c.args in
-    let p = out_of_blocks a.form.now in
-    let e : a.c + (l.i + 1) ≡ a.c + l.i + 1 = omega arith in
-    let b = bytes_left p a.n a.a l.i (omega arith) ∙ ap (λ v. v ∷ bytes_at p (a.n - (l.i + 1)) (a.a + (l.i + 1))) (sym c.byte-x.ensures.0) in
-    (omega arith, omega arith, laid-step Order (a.c + l.i) (a.c + (l.i + 1)) _ (bytes_at p (a.n - (l.i + 1)) (a.a + (l.i + 1))) (bytes_at p (a.n - l.i) (a.a + l.i)) _ _ _ e b c.set_order.ensures l.invariant.2)
-
-pub returns : goal.returns
-returns c =
-    let l = c.loop-i in
-    let a = c.args in
-    laid_end Order (a.c + l.i) (bytes_at (out_of_blocks a.form.now) (a.n - l.i) (a.a + l.i)) _ _ (bytes-none (out_of_blocks a.form.now) a.n (a.a + l.i) l.i (omega arith)) l.invariant.2
+pub lay-requires : goal.lay-requires
+lay-requires c = λ ks w.
+    let p = out_of_blocks c.args.form.bytes.now in
+    let n = c.args.n in
+    let a = c.args.a in (
+      search (⊑_meet, ⊑_static, w.0, w.1.0) depth 12,
+      (
+        c.requires.0,
+        omega arith,
+        record {
+          may = λ i l.
+              let low : a + i < 4294967296 = omega arith in
+              let fits : Fits w64 (a + i) = omega arith in
+              search (of_calls, low, fits);
+          next = λ i x l e.
+              let v : (x ≡ get_or p (a + i) 0) × (x < 256) = search (of_calls, e) in
+              (bytes_left p n a i l ∙ ap (λ y. y ∷ bytes_at p (n - (i + 1)) (a + (i + 1))) (sym v.0), omega (arith, v.1));
+          end = bytes-none p n (a + n) n (omega arith);
+        },
+      ),
+    )

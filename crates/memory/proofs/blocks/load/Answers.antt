@@ -14,7 +14,7 @@ returns c =
     let size = c.args.h.b in
     let m = c.args.m.now in
     let e : s.result + size - s.result ≡ size = omega arith in
-    c.copy.ensures
+    c.copy_from_slice.ensures.after
     ∙ ap (λ (k : ℕ). take k (drop s.result m)) e
     ∙ ap (λ (k : ℕ). take size (drop k m)) s.ensures
     ∙ sym (block-is (shape_of c.args.h) m c.args.b c.requires.1)

@@ -15,4 +15,4 @@ returns c =
     let m = c.args.m.now in
     let v = c.args.src.now in
     let l : length v ≡ s.result + h.B - s.result = omega arith in
-    rw (c.copy.ensures, part-put s.result (s.result + h.B) m v l, s.ensures) (set-blocks h m c.requires.0.long c.args.b c.requires.1 v c.requires.2)
+    rw (c.copy_from_slice.ensures.after, part-put s.result (s.result + h.B) m v l, s.ensures) (set-blocks h m c.requires.0.long c.args.b c.requires.1 v c.requires.2)

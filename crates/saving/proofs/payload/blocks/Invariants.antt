@@ -1,14 +1,7 @@
-use Prim.Native.Nat.{◌-◌, ◌≤◌}
-use Rattle.lists.specs.Search.{below}
-use Rattle.rules.specs.Form.Numbers.{each}
-use Rattle.lists.specs.Written.{Written}
 use Rattle.rules.specs.Form.Payload.{block_bytes}
 use Rattle.client.specs.View.{state_of}
 use Rattle.saving.specs.Parts.{width_of}
 use Rattle.saving.proofs.payload.blocks.Given as goal
 
-abbrev pub invariant-loop-i : goal.invariant-loop-i
-invariant-loop-i l = (l.i ≤ l.n) × Written l.initial.buffer l.at (each (block_bytes (width_of l.c.shape) (state_of l.c l.m)) (below l.i)) l.buffer l.k
-
-abbrev pub decreases-loop-i : goal.decreases-loop-i
-decreases-loop-i l = l.n - l.i
+abbrev pub ghost-put_each : goal.ghost-put_each
+ghost-put_each a = block_bytes (width_of a.put.0.now.shape) (state_of a.put.0.now a.put.1.now)

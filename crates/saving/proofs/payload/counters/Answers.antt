@@ -1,22 +1,24 @@
-use mathlib.Core.Path.{ap, sym}
+use contract.BorrowLft.{⊑_meet, ⊑_static}
+use Prim.Native.Nat.{◌<◌}
 use native.Mathlib.Omega.{arith}
-use Rattle.lists.specs.Search.{below, count}
-use Rattle.rules.specs.Form.Numbers.{little, each}
-use Rattle.lists.specs.Written.{nothing, same_text}
-use Rattle.client.specs.Readings.{counter-is}
-use Rattle.saving.specs.Parts.{counter_in, room, grown}
+use Rattle.std.proofs.Common.{of_calls}
+use Rattle.rules.specs.Form.Numbers.{little}
+use Rattle.client.specs.View.{state_of, view}
 use Rattle.saving.proofs.payload.counters.Goals as goal
 
-pub loop-i-init : goal.loop-i-init
-unfolding each below count
-loop-i-init c = (omega arith, nothing _ _)
+pub put_each-requires : goal.put_each-requires
+unfolding little state_of view
+put_each-requires c = λ ks w. (
+  search (⊑_meet, ⊑_static, w.0, w.1.0) depth 12,
+  (
+    record {
+      may = λ i b k l r. let few : i < 64 = omega (arith, c.requires.0.partitions) in search (of_calls, c.requires.0, few, r);
+      does = λ i b k l r q d e. search (of_calls, e);
+    },
+    c.requires.1,
+  ),
+)
 
-pub number-k-requires : goal.number-k-requires
-unfolding little
-number-k-requires c =
-    omega (arith, room (counter_in c.args.c c.args.m.now) c.loop-i.i c.args.c.shape.p c.loop-i.invariant.1 (omega arith) c.requires.1)
-
-pub loop-i-preserved : goal.loop-i-preserved
-loop-i-preserved c =
-    let l = c.loop-i in
-    (omega arith, grown (counter_in c.args.c c.args.m.now) l.i c.args.c.shape.p l.invariant.1 (same_text (ap (little 2) (sym (counter-is c.args.c c.args.m.now l.i c.counter.result c.counter.ensures))) c.number-k.ensures))
+pub returns : goal.returns
+unfolding state_of view
+returns c = c.put_each.ensures

@@ -1,12 +1,8 @@
-use Prim.Native.Nat.{◌-◌, ◌≤◌}
-use Rattle.lists.specs.Search.{below}
-use Rattle.rules.specs.Form.Numbers.{each}
-use Rattle.lists.specs.Written.{Written}
-use Rattle.saving.specs.Parts.{counter_in}
+use Prim.Native.Nat.{◌^◌}
+use Rattle.rules.specs.Form.Numbers.{little}
+use Rattle.memory.specs.Tables.{tables_of}
+use Rattle.memory.specs.Fits.{shape_of, fit}
 use Rattle.saving.proofs.payload.counters.Given as goal
 
-abbrev pub invariant-loop-i : goal.invariant-loop-i
-invariant-loop-i l = (l.i ≤ l.n) × Written l.initial.buffer l.at (each (counter_in l.c l.m) (below l.i)) l.buffer l.k
-
-abbrev pub decreases-loop-i : goal.decreases-loop-i
-decreases-loop-i l = l.n - l.i
+abbrev pub ghost-put_each : goal.ghost-put_each
+ghost-put_each a = λ i. little 2 (fit (2 ^ a.put.0.now.l) ((tables_of (shape_of a.put.0.now) a.put.1.now).counter i))

@@ -1,21 +1,19 @@
-use mathlib.Core.Path.{ap}
+use contract.BorrowLft.{⊑_meet, ⊑_static}
+use Prim.Native.Nat.{◌<◌}
 use native.Mathlib.Omega.{arith}
-use Rattle.lists.specs.Search.{below, count}
-use Rattle.rules.specs.Form.Numbers.{little, each}
-use Rattle.lists.specs.Written.{nothing, same_text}
-use Rattle.saving.specs.Parts.{job_in, room, grown}
+use Rattle.std.proofs.Common.{of_calls}
+use Rattle.rules.specs.Form.Numbers.{little}
 use Rattle.saving.proofs.payload.jobs.Goals as goal
 
-pub loop-i-init : goal.loop-i-init
-unfolding each below count
-loop-i-init c = (omega arith, nothing _ _)
-
-pub number-k-requires : goal.number-k-requires
+pub put_each-requires : goal.put_each-requires
 unfolding little
-number-k-requires c =
-    omega (arith, room (job_in c.args.c c.args.m.now) c.loop-i.i c.args.c.jobs c.loop-i.invariant.1 (omega arith) c.requires.2)
-
-pub loop-i-preserved : goal.loop-i-preserved
-loop-i-preserved c =
-    let l = c.loop-i in
-    (omega arith, grown (job_in c.args.c c.args.m.now) l.i c.args.c.jobs l.invariant.1 (same_text (ap (little 2) c.job.ensures) c.number-k.ensures))
+put_each-requires c = λ ks w. (
+  search (⊑_meet, ⊑_static, w.0, w.1.0) depth 12,
+  (
+    record {
+      may = λ i b k l r. let few : i < 64 = omega arith in search (of_calls, c.requires.0, few, r);
+      does = λ i b k l r q d e. search (of_calls, e);
+    },
+    c.requires.2,
+  ),
+)

@@ -1,29 +1,24 @@
+use contract.BorrowLft.{⊑_meet, ⊑_static}
 use mathlib.Core.Path.{sym}
-use native.Mathlib.Omega.{arith}
-use Rattle.lists.specs.Search.{below, count}
-use Rattle.rules.specs.Form.Numbers.{each}
-use Rattle.lists.specs.Written.{nothing}
+use Rattle.std.proofs.Common.{of_calls}
 use Rattle.client.specs.View.{state_of, view}
 use Rattle.client.specs.Readings.{counter-is}
-use Rattle.saving.specs.Parts.{width_of, level_in, partition_in, room, grown, all_of}
+use Rattle.saving.specs.Parts.{partition_in}
 use Rattle.saving.proofs.payload.partition.Goals as goal
 
-pub loop-i-init : goal.loop-i-init
-unfolding each below count
-loop-i-init c = (omega arith, nothing _ _)
-
-pub level-k-requires : goal.level-k-requires
+pub put_each-requires : goal.put_each-requires
 unfolding partition_in state_of view
-level-k-requires c =
-    (c.requires.0, c.requires.1, omega arith, sym (counter-is c.args.c c.args.m.now c.args.q c.counter-counter.result c.counter-counter.ensures), room (level_in (width_of c.args.c.shape) (state_of c.args.c c.args.m.now) c.args.q) c.loop-i.i c.args.c.shape.l c.loop-i.invariant.1 (omega arith) c.requires.2)
-
-pub loop-i-preserved : goal.loop-i-preserved
-loop-i-preserved c =
-    let l = c.loop-i in
-    (omega arith, grown (level_in (width_of c.args.c.shape) (state_of c.args.c c.args.m.now) c.args.q) l.i c.args.c.shape.l l.invariant.1 c.level-k.ensures)
+put_each-requires c = λ ks w. (
+  search (⊑_meet, ⊑_static, w.0, w.1.0, w.1.1.0, w.1.1.1.0) depth 12,
+  (
+    record {
+      may = λ i b k l r. let e = sym (counter-is c.args.c c.args.m.now c.args.q c.get-counter.result c.get-counter.ensures) in search (of_calls, c.requires.0, c.requires.1, l, e, r);
+      does = λ i b k l r q d e. search (of_calls, e);
+    },
+    c.requires.2,
+  ),
+)
 
 pub returns : goal.returns
 unfolding partition_in state_of view
-returns c =
-    let l = c.loop-i in
-    all_of (level_in (width_of c.args.c.shape) (state_of c.args.c c.args.m.now) c.args.q) l.i c.args.c.shape.l l.invariant.1 (omega arith)
+returns c = c.put_each.ensures

@@ -1,13 +1,8 @@
-use Prim.Native.Nat.{◌-◌, ◌≤◌}
-use Rattle.lists.specs.Search.{below}
-use Rattle.rules.specs.Form.Numbers.{each}
-use Rattle.lists.specs.Written.{Written}
-use Rattle.client.specs.View.{state_of}
-use Rattle.saving.specs.Parts.{mark_in}
+use Prim.Native.Nat.{◌+◌, ◌-◌}
+use Rattle.rules.specs.Form.Numbers.{little}
+use Rattle.memory.specs.Tables.{tables_of}
+use Rattle.memory.specs.Fits.{shape_of, fit}
 use Rattle.saving.proofs.payload.read_marks.Given as goal
 
-abbrev pub invariant-loop-i : goal.invariant-loop-i
-invariant-loop-i l = (l.i ≤ l.n) × Written l.initial.buffer l.at (each (mark_in (state_of l.c l.m) l.q l.l) (below l.i)) l.buffer l.k
-
-abbrev pub decreases-loop-i : goal.decreases-loop-i
-decreases-loop-i l = l.n - l.i
+abbrev pub ghost-put_each : goal.ghost-put_each
+ghost-put_each a = λ i. little 1 (1 - fit 2 ((tables_of (shape_of a.put.0.now) a.put.1.now).mark (a.put.2.now + i)))

@@ -1,19 +1,17 @@
+use contract.BorrowLft.{⊑_meet, ⊑_static}
+use Prim.Native.Nat.{◌<◌}
 use native.Mathlib.Omega.{arith}
-use Rattle.lists.specs.Search.{below, count}
-use Rattle.rules.specs.Form.Numbers.{each}
-use Rattle.lists.specs.Written.{nothing}
-use Rattle.saving.specs.Parts.{waiter_in, room, grown}
+use Rattle.std.proofs.Common.{of_calls}
 use Rattle.saving.proofs.payload.waiters.Goals as goal
 
-pub loop-i-init : goal.loop-i-init
-unfolding each below count
-loop-i-init c = (omega arith, nothing _ _)
-
-pub waiter-k-requires : goal.waiter-k-requires
-waiter-k-requires c =
-    (c.requires.0, omega arith, room (waiter_in c.args.c c.args.m.now) c.loop-i.i c.args.c.waiting c.loop-i.invariant.1 (omega arith) c.requires.2)
-
-pub loop-i-preserved : goal.loop-i-preserved
-loop-i-preserved c =
-    let l = c.loop-i in
-    (omega arith, grown (waiter_in c.args.c c.args.m.now) l.i c.args.c.waiting l.invariant.1 c.waiter-k.ensures)
+pub put_each-requires : goal.put_each-requires
+put_each-requires c = λ ks w. (
+  search (⊑_meet, ⊑_static, w.0, w.1.0) depth 12,
+  (
+    record {
+      may = λ i b k l r. let few : i < c.args.c.shape.n = omega arith in search (of_calls, c.requires.0, few, r);
+      does = λ i b k l r q d e. search (of_calls, e);
+    },
+    c.requires.2,
+  ),
+)

@@ -1,5 +1,5 @@
 use mathlib.Core.Path.{◌≡◌}
-use Prim.Native.Nat.{◌-◌, ◌*◌, ◌≤◌}
+use Prim.Native.Nat.{◌*◌, ◌≤◌}
 use lib.ListN.{length}
 use Rattle.lists.specs.Search.{below}
 use Rattle.rules.specs.Form.Numbers.{each}
@@ -9,7 +9,4 @@ use Rattle.saving.specs.Parts.{width_of}
 use Rattle.saving.proofs.sizes.blocks.Given as goal
 
 abbrev pub invariant-loop-i : goal.invariant-loop-i
-invariant-loop-i l = (l.i ≤ l.n) × (l.k ≡ length (each (block_bytes (width_of l.c.shape) (state_of l.c l.m)) (below l.i))) × (l.k ≤ 4 * l.i)
-
-abbrev pub decreases-loop-i : goal.decreases-loop-i
-decreases-loop-i l = l.n - l.i
+invariant-loop-i l = (l.k ≡ length (each (block_bytes (width_of l.c.shape) (state_of l.c l.m)) (below l.i))) × (l.k ≤ 4 * l.i)

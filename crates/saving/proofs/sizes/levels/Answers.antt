@@ -10,13 +10,13 @@ use Rattle.client.specs.Readings.{counter-is}
 use Rattle.saving.specs.Parts.{width_of, partition_in}
 use Rattle.saving.specs.Sizes.{each-grows, partition-size}
 use Rattle.saving.proofs.sizes.levels.Goals as goal
-use Rattle.saving.proofs.sizes.levels.Goals.{After-counter}
+use Rattle.saving.proofs.sizes.levels.Goals.{After-get}
 
 -- a counter is below 2^L, and that is at most 256
-low : (c : After-counter) → (c.counter.result < 2 ^ c.args.c.shape.l) × (c.counter.result < 256)
+low : (c : After-get) → (c.get.result < 2 ^ c.args.c.shape.l) × (c.get.result < 256)
 low c =
     let f = fit-lt (2 ^ c.args.c.shape.l) ((tables_of (shape_of c.args.c.shape) c.args.m.now).counter c.loop-i.i) (pow_pos c.args.c.shape.l) in
-    (omega (arith, c.counter.ensures, f), omega (arith, c.counter.ensures, f, pow_mono {i = c.args.c.shape.l} {j = 8} c.requires.levels))
+    (omega (arith, c.get.ensures, f), omega (arith, c.get.ensures, f, pow_mono {i = c.args.c.shape.l} {j = 8} c.requires.levels))
 
 pub loop-i-init : goal.loop-i-init
 unfolding each below count
@@ -34,5 +34,5 @@ loop-i-preserved c =
     let a = c.args in
     let i = c.loop-i.i in
     let s = state_of a.c a.m.now in
-    let e = counter-is a.c a.m.now i c.counter.result c.counter.ensures in
+    let e = counter-is a.c a.m.now i c.get.result c.get.ensures in
     omega (arith, low c, each-grows (partition_in (width_of a.c.shape) s) i, partition-size 1 s i (rw e (low c).0), e)

@@ -1,0 +1,2 @@
+-- A refused call
+pub mod Refused
