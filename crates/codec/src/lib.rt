@@ -1,14 +1,14 @@
 // The client's state as 76 bytes, and an answer as one number.
 #![tactic(auto)]
 
-ghost use Rattle.std.specs.Prelude.{◌≡◌, ◌*◌, ◌%◌, ◌≤◌, ◌<◌, eqb, false, if◌then◌else◌};
+ghost use Rattle.std.specs.Prelude.{◌≡◌, ◌*◌, ◌%◌, ◌≤◌, ◌<◌, IfOk, eqb, false, if◌then◌else◌};
 ghost use Rattle.lists.specs.Tables.{put as put_at};
 ghost use Rattle.memory.specs.Words.{word_at};
-ghost use Rattle.contract.specs.Answers.{accepted_as};
+ghost use Rattle.contract.specs.Answers.{accepted_as, answered};
 ghost use Rattle.codec.specs.Codec.{client_of, with_six, with_shape, with_asked, with_turn, with_completion, with_found, with_progress, with_rest, Small, packed};
 
 use client::{Client, READ, Request};
-use contract::Accepted;
+use contract::{Accepted, Refusal};
 use memory::Shape;
 
 // The bytes of a state.
@@ -186,11 +186,15 @@ pub fn set_found(s: &mut [u8; STATE], found: usize, awaits: usize)
 }
 
 // From the lowest bit on: the number in 5 bits, the kind in 2, the partition in 6, the level in 4, the slot in 11 and where a block was found in 4;
-// the words taken in the upper 32. An accepted call's number is 0; a refusal has its number alone, and is packed by its conversion.
-pub fn pack(r: Accepted) -> u64
-    requires { Small (accepted_as r) }
-    ensures { result ≡ packed (accepted_as r) }
+// the words taken in the upper 32. An accepted call's number is 0; a refusal has its number alone.
+pub fn pack(r: Result<Accepted, Refusal>) -> u64
+    requires { IfOk r (λ a. Small (accepted_as a)) }
+    ensures { (c : Client) → result ≡ packed (answered c r) }
 {
+    let r = match r {
+        Ok(r) => r,
+        Err(e) => return u64::from(e),
+    };
     let low = 32 * r.kind
         + 128 * r.partition
         + 8192 * r.level

@@ -179,6 +179,6 @@ pub fn completion(
 ) -> Result<Accepted, Refusal>
     ensures { Meets c (state_of c m.old) (completion_of (cmd kind partition level slot) bytes.now) m.old [] [] (answered c result) m.new [] }
 {
-    let r = perform(c, m, kind, partition, level, slot, bytes)?;
-    Ok(releasing::settle(r, m))
+    let r = perform(c, m, kind, partition, level, slot, bytes);
+    releasing::settle(r, m)
 }

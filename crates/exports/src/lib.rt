@@ -35,13 +35,10 @@ fn hand_back(state: &mut [u8; STATE], r: Result<Accepted, Refusal>) -> u64
     requires { IfOk r (λ a. Small (accepted_as a)) }
     ensures { (c : Client) → HandedBack (with_rest (answered c r).client) (answered c r) result state.old state.new }
 {
-    match r {
-        Ok(r) => {
-            codec::encode_rest(state, r.client);
-            codec::pack(r)
-        }
-        Err(e) => u64::from(e),
+    if let Ok(a) = r {
+        codec::encode_rest(state, a.client);
     }
+    codec::pack(r)
 }
 
 // A held request that nothing holds any longer is released, in the bytes of the state: then its numbers need not be kept while the call does the rest.
@@ -62,15 +59,15 @@ fn hand_back_turn(state: &mut [u8; STATE], memory: &[u8], r: Result<Accepted, Re
     ensures { (c : Client) → HandedBackReleased (with_turn (answered c r).kind (answered c r).client) (answered c r) memory.now result state.old state.new }
 {
     match r {
-        Ok(r) => {
-            codec::encode_turn(state, r.client, r.kind);
+        Ok(a) => {
+            codec::encode_turn(state, a.client, a.kind);
             if !codec::is_held(state) {
                 return codec::pack(r);
             }
             release(state, memory);
             codec::pack(r)
         }
-        Err(e) => u64::from(e),
+        Err(_) => codec::pack(r),
     }
 }
 
@@ -85,15 +82,15 @@ fn hand_back_completion(
     ensures { (c : Client) → HandedBackReleased (with_completion kind (answered c r).client) (answered c r) memory.now result state.old state.new }
 {
     match r {
-        Ok(r) => {
-            codec::encode_completion(state, r.client, kind);
+        Ok(a) => {
+            codec::encode_completion(state, a.client, kind);
             if !codec::is_held(state) {
                 return codec::pack(r);
             }
             release(state, memory);
             codec::pack(r)
         }
-        Err(e) => u64::from(e),
+        Err(_) => codec::pack(r),
     }
 }
 
@@ -130,15 +127,10 @@ fn hand_back_opened(state: &mut [u8; STATE], r: Result<Accepted, Refusal>) -> u6
     ensures { HandedBackOpened (answered cleared_client r) result state.old state.new }
 {
     match r {
-        Ok(r) => {
-            codec::encode(state, r.client);
-            codec::pack(r)
-        }
-        Err(e) => {
-            memory::blocks::zeros(state);
-            u64::from(e)
-        }
+        Ok(a) => codec::encode(state, a.client),
+        Err(_) => memory::blocks::zeros(state),
     }
+    codec::pack(r)
 }
 
 // The answer of a save and of a page has their length where another call's has the words taken.
@@ -147,8 +139,8 @@ fn tell(r: Result<usize, Refusal>, c: Client) -> u64
     ensures { result ≡ packed (answered_length c r) }
 {
     match r {
-        Ok(n) => codec::pack(Accepted::new(c, n)),
-        Err(e) => u64::from(e),
+        Ok(n) => codec::pack(Ok(Accepted::new(c, n))),
+        Err(e) => codec::pack(Err(e)),
     }
 }
 

@@ -1,7 +1,8 @@
 -- A turn and a completion first do what docs/RULES.md says of them, and then a request that no job holds any longer is released: what they promise between the two.
-use Rattle.std.specs.Prelude.{◌≡◌, true, List, ℕ, length, drop, leb}
+use Rattle.std.specs.Prelude.{◌≡◌, true, Result, Ok, Err, IfOk, List, ℕ, length, drop, leb}
 use Rattle.std.proofs.Math.Path.{refl, ap}
 use Rattle.std.proofs.Common.{sym, ◌∙◌, subst, arith, le-leb}
+use Rattle.std.proofs.Math.Decide.{ℕ_discrete}
 use Rattle.lists.specs.Tests.{and-true}
 use Rattle.rules.specs.State.{State, found_number}
 use Rattle.rules.specs.Draws.{draws}
@@ -18,9 +19,10 @@ use Rattle.client.specs.Moves.{Room}
 use Rattle.client.specs.View.{state_of}
 use Rattle.tape.specs.Tape.{words_of}
 use Rattle.contract.specs.declared.Accepted.{Accepted}
-use Rattle.contract.specs.Answers.{Answer, accepted_as}
+use Rattle.contract.specs.declared.Refusal.{Refusal}
+use Rattle.contract.specs.Answers.{Answer, answered}
 use Rattle.contract.specs.Meets.{Meets, meets-yes, call_of, command_of, handed_to, reported, unasked}
-use Rattle.releasing.specs.Released.{Released}
+use Rattle.releasing.specs.Released.{Releasable, releasable, Released}
 
 -- the same answer with another client
 abbrev pub with_client : Client → Answer → Answer
@@ -72,13 +74,23 @@ module _ (c : Client) (s : State) (a : Ask) (m tape b : List ℕ) (r : Answer) (
         tail = rw shape p.tail;
       })
 
--- the answer x, of which a request that is released is all that the answer r lacks
-pub record Settled (r : Accepted) (m : List ℕ) (x : Accepted) : Type 0 where
-  pub answer : accepted_as x ≡ with_client x.client (accepted_as r)
-  pub released : Released r.client m x.client
+-- an accepted one leaves what a release asks for
+pub performed-releasable : (c : Client) (s : State) (a : Ask) (m tape b : List ℕ) (r : Result Accepted Refusal) (m' b' : List ℕ) → Performs c s a m tape b (answered c r) m' b' → IfOk r (λ x. Releasable x.client m')
+performed-releasable c s a m tape b (Ok x) m' b' p = releasable x.client m' (p.accepted refl).ready
+performed-releasable c s a m tape b (Err e) m' b' p = tt
 
-pub settled-meets : (c : Client) (s : State) (a : Ask) (m tape b : List ℕ) (r x : Accepted) (m' b' : List ℕ) → Performs c s a m tape b (accepted_as r) m' b' → Settled r m' x → Meets c s a m tape b (accepted_as x) m' b'
-settled-meets c s a m tape b r x m' b' p k =
-    let f = k.released in
-    let e = p.accepted refl in
-    rw k.answer (released-meets c s a m tape b (accepted_as r) m' b' e refl x.client f.state (λ y. f.idle y ∙ e.idle (ap (λ (q : Client). q.request.kind) (sym f.found) ∙ y)))
+-- the answer x, of which a request that is released is all that the answer r lacks
+pub record Settled (r : Answer) (m : List ℕ) (x : Answer) : Type 0 where
+  pub answer : x ≡ with_client x.client r
+  pub accepted : r.number ≡ 0 → Released r.client m x.client
+  pub refused : (r.number ≡ 0 → ⊥) → x.client ≡ r.client
+
+pub settled-meets : (c : Client) (s : State) (a : Ask) (m tape b : List ℕ) (r x : Answer) (m' b' : List ℕ) → Performs c s a m tape b r m' b' → Settled r m' x → Meets c s a m tape b x m' b'
+settled-meets c s a m tape b r x m' b' p k = rw k.answer (go (ℕ_discrete r.number 0))
+  where
+    go : Dec (r.number ≡ 0) → Meets c s a m tape b (with_client x.client r) m' b'
+    go (yes z) =
+        let f = k.accepted z in
+        let e = p.accepted z in
+        released-meets c s a m tape b r m' b' e z x.client f.state (λ y. f.idle y ∙ e.idle (ap (λ (q : Client). q.request.kind) (sym f.found) ∙ y))
+    go (no n) = rw (k.refused n) (p.refused n)

@@ -1,18 +1,19 @@
 // A held request that nothing holds any longer is released: the place of its block is looked up.
 #![tactic(auto)]
 
-ghost use Rattle.std.specs.Prelude.{◌≡◌, suc, ◌<◌, ◌≤◌};
+ghost use Rattle.std.specs.Prelude.{◌≡◌, suc, ◌<◌, ◌≤◌, IfOk};
 ghost use Rattle.rules.specs.State.{found_number};
 ghost use Rattle.rules.specs.Blocks.{look_up};
 ghost use Rattle.rules.specs.Jobs.{queued};
 ghost use Rattle.rules.specs.Request.{undrawn_only, held_for};
 ghost use Rattle.client.specs.View.{state_of};
 ghost use Rattle.client.specs.Moves.{Room};
+ghost use Rattle.contract.specs.Answers.{answered};
 ghost use Rattle.releasing.specs.Performs.{Settled};
 ghost use Rattle.releasing.specs.Released.{Releasable, Released};
 
 use client::Client;
-use contract::Accepted;
+use contract::{Accepted, Refusal};
 use memory::tables::{self, Table};
 
 // Where the request's block is found, as the number that the request carries (`found` of Request): 1 for nowhere, 2 for the cache, and from 3 on the levels.
@@ -81,11 +82,12 @@ pub fn release(c: Client, m: &[u8]) -> Client
     c.with_request(r.at_found(found, c.out))
 }
 
-// The answer to an accepted call, whose client is released now.
-pub fn settle(mut r: Accepted, m: &[u8]) -> Accepted
-    requires { Releasable r.client m.now }
-    ensures { Settled r m.now result }
+// The answer to a call: a refused one is handed on as it is, and the client of an accepted one is released now.
+pub fn settle(r: Result<Accepted, Refusal>, m: &[u8]) -> Result<Accepted, Refusal>
+    requires { IfOk r (λ a. Releasable a.client m.now) }
+    ensures { (c : Client) → Settled (answered c r) m.now (answered c result) }
 {
-    r.client = release(r.client, m);
-    r
+    let mut a = r?;
+    a.client = release(a.client, m);
+    Ok(a)
 }

@@ -38,6 +38,6 @@ pub fn perform(c: Client, m: &mut [u8], tape: &[u8], buffer: &mut [u8]) -> Resul
 pub fn turn(c: Client, m: &mut [u8], tape: &[u8], buffer: &mut [u8]) -> Result<Accepted, Refusal>
     ensures { Meets c (state_of c m.old) turn_of m.old tape.now buffer.old (answered c result) m.new buffer.new }
 {
-    let r = perform(c, m, tape, buffer)?;
-    Ok(releasing::settle(r, m))
+    let r = perform(c, m, tape, buffer);
+    releasing::settle(r, m)
 }
