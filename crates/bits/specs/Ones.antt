@@ -22,7 +22,7 @@ zeros-of-complement (suc k) n h =
     go false q e w = let ne = eqb-false (n % 2) 1 q in let z : e ≡ 1 = omega arith in rw (z, q, trailing_ones)
 
 -- fewer bits: the same, up to their number
-ones-fewer : (j k c : ℕ) → j ≤ k → trailing_ones k c < j → trailing_ones j c ≡ trailing_ones k c
+pub ones-fewer : (j k c : ℕ) → j ≤ k → trailing_ones k c < j → trailing_ones j c ≡ trailing_ones k c
 unfolding trailing_ones
 ones-fewer zero k c l h = absurd (omega arith)
 ones-fewer (suc j) zero c l h = absurd (omega arith)
@@ -35,7 +35,7 @@ ones-fewer (suc j) (suc k) c l h = go (eqb (c % 2) 1) refl (λ x. ones-fewer j k
         b ∙ ap suc (ih (omega (arith, a))) ∙ sym a
     go false q ih = rw (q, trailing_ones)
 
-ones-all : (j k c : ℕ) → j ≤ k → j ≤ trailing_ones k c → trailing_ones j c ≡ j
+pub ones-all : (j k c : ℕ) → j ≤ k → j ≤ trailing_ones k c → trailing_ones j c ≡ j
 unfolding trailing_ones
 ones-all zero k c l h = refl
 ones-all (suc j) zero c l h = absurd (omega arith)

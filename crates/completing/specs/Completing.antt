@@ -1,13 +1,13 @@
 -- Completion: its questions, and what the command that is found comes to.
-use Rattle.std.specs.Prelude.{◌≡◌, Bool, true, false, not, ◌&&◌, ◌⊎◌, ℕ, zero, suc, ◌+◌, ◌-◌, ◌^◌, ◌≤◌, ◌<◌, length, eqb, ltb, if◌then◌else◌}
+use Rattle.std.specs.Prelude.{◌≡◌, Bool, true, false, not, ◌&&◌, ◌⊎◌, ℕ, zero, suc, ◌+◌, ◌-◌, ◌^◌, ◌≤◌, ◌<◌, length, eqb, leb, ltb, if◌then◌else◌}
 use Rattle.std.proofs.Math.Path.{refl, ap, sym}
 use Rattle.std.proofs.Common.{◌∙◌, subst, inl, inr, arith, pow_pos}
 use Rattle.std.proofs.Math.Bool.{true≢false}
 use mathlib.Core.List.{List, [], ◌∷◌}
 use Rattle.std.proofs.Math.Option.{Option, some, map}
 use Rattle.std.specs.Int.Bits.{bit_and}
-use borrow.Author.Tests.{eqb-true, eq-eqb, ne_eqb}
-use Rattle.lists.specs.Tests.{and_l, and_r, or-true}
+use borrow.Author.Tests.{eqb-true, eq-eqb, ne_eqb, leb-true}
+use Rattle.lists.specs.Tests.{and_l, and_r, or-true, between}
 use Rattle.lists.specs.Search.{any, keep, without, first_left, below, count}
 use Rattle.lists.specs.All.{All, nil, cons}
 use Rattle.lists.specs.Tables.{put}
@@ -142,8 +142,12 @@ pub record Completes (c : Client) (m : List ℕ) (d : Command) (bs : List ℕ) (
   pub long : length bs ≡ wanted c d
 
 -- what the search for it asks
-pub begins : (c : Client) (m : List ℕ) → ready (state_of c m) (length m) ≡ true → Room c m × (c.out ≤ 32)
-begins c m e = let u = usable c m e in (u.room, omega (arith, u.counts.out, u.window))
+pub begins : (c : Client) (m : List ℕ) (kind : ℕ) → (ready (state_of c m) (length m) && is_kind kind) ≡ true → Room c m × (c.out ≤ 32) × (1 ≤ kind) × (kind ≤ 2)
+unfolding is_kind between
+begins c m kind e =
+    let u = usable c m (and_l (ready (state_of c m) (length m)) (is_kind kind) e) in
+    let k = and_r (ready (state_of c m) (length m)) (is_kind kind) e in
+    (u.room, omega (arith, u.counts.out, u.window), leb-true 1 kind (and_l (leb 1 kind) (leb kind 2) k), leb-true kind 2 (and_r (leb 1 kind) (leb kind 2) k))
 
 pub completes : (c : Client) (m : List ℕ) (d : Command) (bs : List ℕ) (j : ℕ) → (ready (state_of c m) (length m) && is_kind d.kind) ≡ true → OutstandingAt d (state_of c m).outstanding j → length bs ≡ wanted c d → Completes c m d bs j
 unfolding state_of view

@@ -130,6 +130,10 @@ module _ (p : List ℕ) where
   unfolding below
   size-records w = ap (λ k. records_w w + k) (size-by h.B (wait_count (blocks_w w)) 0 (records_w w))
 
+  number-at-one : (form_at p).number ≡ number_at p 1 0
+  unfolding form_at
+  number-at-one = refl
+
   -- ---- Yes to all, from the facts, and back
 
   abbrev n : ℕ

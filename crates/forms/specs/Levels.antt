@@ -100,3 +100,9 @@ held-left seen c n i l =
 pub held_none : (seen : List ℕ) (c n i : ℕ) → n ≤ i → held_in seen c (n - i) ≡ 0
 unfolding held_in
 held_none seen c n i l = let e : n - i ≡ 0 = omega arith in ap (held_in seen c) e
+
+pub held_all : (seen : List ℕ) (c n : ℕ) → held_in seen (c + 0) (n - 0) ≡ held_in seen c n
+held_all seen c n =
+    let e : n - 0 ≡ n = omega arith in
+    let d : c + 0 ≡ c = omega arith in
+    ap (held_in seen (c + 0)) e ∙ ap (λ k. held_in seen k n) d

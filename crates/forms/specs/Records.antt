@@ -25,6 +25,9 @@ module _ (p : List ℕ) (step : ℕ) where
   unfolding numbers_by
   by-none n a i l = let e : n - i ≡ 0 = omega arith in ap (λ k. numbers_by p step k a) e
 
+  pub by_all : (n a : ℕ) → numbers_by p step (n - 0) a ≡ numbers_by p step n a
+  by_all n a = let e : n - 0 ≡ n = omega arith in ap (λ k. numbers_by p step k a) e
+
 module _ (p : List ℕ) (B : ℕ) where
   names-from : (b n a : ℕ) → names_of (each_at (λ _. waiter_at p B) (λ _ _. 4 + B) (count b n) a) ≡ numbers_by p (4 + B) n a
   unfolding each_at count numbers_by waiter_at

@@ -1,5 +1,5 @@
 -- The gathered blocks as an ascending list that grows by insertion.
-use Rattle.std.specs.Prelude.{◌≡◌, refl, true, false, List, [], ◌∷◌, ◌++◌, map, ℕ, zero, suc, ◌-◌, ◌≤◌, ◌<◌, length, take, eqb, ltb}
+use Rattle.std.specs.Prelude.{◌≡◌, refl, true, false, List, [], ◌∷◌, ◌++◌, map, ℕ, zero, suc, ◌-◌, ◌≤◌, ◌<◌, length, take, get_or, eqb, ltb}
 use Rattle.std.proofs.Common.{ap, arith}
 use Rattle.lists.specs.All.{All}
 use Rattle.lists.specs.Search.{keep, below}
@@ -27,6 +27,16 @@ pub added-block : (e : ℕ) (l : List ℕ) → (e ≡ 0 → ⊥) → inserted (e
 unfolding added
 added-block zero l h = absurd (h refl)
 added-block (suc b) l h = ap (λ x. inserted x l) (omega arith)
+
+-- x belongs at place i of l: those before it are less, and those from there on are not
+pub record Spot (x : ℕ) (l : List ℕ) (i : ℕ) : Type 0 where
+  pub less : (j : ℕ) → j < i → get_or l j 0 < x
+  pub others : (j : ℕ) → i ≤ j → j < length l → x ≤ get_or l j 0
+
+-- the entries i to k - 1 of l are moved up by one in l', and those before them are as they were
+pub record Shifted (l l' : List ℕ) (i k : ℕ) : Type 0 where
+  pub kept : (j : ℕ) → j < i → get_or l' j 0 ≡ get_or l j 0
+  pub moved : (j : ℕ) → i < j → j ≤ k → get_or l' j 0 ≡ get_or l (j - 1) 0
 
 -- what a slot holds
 unfoldable pub slot_at : State → ℕ → ℕ → ℕ → ℕ

@@ -1,13 +1,14 @@
 -- Insertion into an ascending list, by places.
-use Rattle.std.specs.Prelude.{◌≡◌, List, [], ◌∷◌, ℕ, zero, suc, ◌+◌, ◌-◌, ◌≤◌, ◌<◌, length, take, get_or, set}
+use Rattle.std.specs.Prelude.{◌≡◌, true, false, ◌&&◌, List, [], ◌∷◌, ℕ, zero, suc, ◌+◌, ◌-◌, ◌≤◌, ◌<◌, length, take, get_or, set, eqb, ltb}
 use Rattle.std.proofs.Math.Path.{refl}
-use Rattle.std.proofs.Common.{ap, sym, ◌∙◌, arith, length-set, length-take-le, get_or-take, get_or-set_same, get_or-set_other, ext_get_or}
+use Rattle.std.proofs.Common.{ap, sym, ◌∙◌, true≢false, arith, length-set, length-take-le, get_or-take, get_or-set_same, get_or-set_other, ext_get_or}
 use Rattle.std.proofs.Math.Decide.{ℕ_discrete, dec_lt}
-use borrow.Author.Tests.{lt-ltb, le-ltb, eq-eqb, ne_eqb}
+use borrow.Author.Tests.{ltb-true, eqb-true, lt-ltb, le-ltb, eq-eqb, ne_eqb}
+use Rattle.lists.specs.Tests.{and_l, and_r, and-true, and-false}
 use Rattle.lists.specs.Distinct.{mem-at}
 use Rattle.lists.specs.Members.{all-mem}
 use Rattle.lists.specs.Places.{insert_at, get-insert, length-insert}
-use Rattle.gather.specs.Gathered.{Ascending, inserted}
+use Rattle.gather.specs.Gathered.{Ascending, inserted, Spot, Shifted}
 
 -- how insertion computes
 module _ (x y : ℕ) (ys : List ℕ) where
@@ -22,11 +23,6 @@ module _ (x y : ℕ) (ys : List ℕ) where
   pub inserted-behind : y < x → inserted x (y ∷ ys) ≡ y ∷ inserted x ys
   unfolding inserted
   inserted-behind h = rw (le-ltb x y (omega arith), ne_eqb x y (λ e. omega arith), inserted)
-
--- x belongs at place i of l: those before it are less, and those from there on are not
-record Spot (x : ℕ) (l : List ℕ) (i : ℕ) : Type 0 where
-  less : (j : ℕ) → j < i → get_or l j 0 < x
-  others : (j : ℕ) → i ≤ j → j < length l → x ≤ get_or l j 0
 
 rest : (x y : ℕ) (ys : List ℕ) (i : ℕ) → Spot x (y ∷ ys) (suc i) → Spot x ys i
 rest x y ys i s = record { less = λ j l. s.less (suc j) (omega arith); others = λ j l k. s.others (suc j) (omega arith) (omega arith) }
@@ -75,23 +71,33 @@ ascending-le l a i j h k = go (ℕ_discrete i j)
     go (yes e) = rw e (omega arith)
     go (no n) = omega (arith, ascending-at l i j a (omega arith) k)
 
--- The first k entries of a list, which ascend
-module _ (l : List ℕ) (k x i : ℕ) (long : k < length l) (a : Ascending (take k l)) where
+-- what a search of an ascending list finds is where x belongs
+pub spot-found : (x : ℕ) (l : List ℕ) (i : ℕ) → Ascending l → i < length l → get_or l i 0 ≡ x → Spot x l i
+spot-found x l i a h e = record {
+  less = λ j u. omega (arith, ascending-at l j i a u h);
+  others = λ j u v. omega (arith, ascending-le l a i j u v);
+}
+
+-- The first k entries of a list
+module _ (l : List ℕ) (k x i : ℕ) (long : k < length l) (h : i ≤ k) where
   short : length (take k l) ≡ k
   short = length-take-le k l (omega arith)
 
   -- x is there
-  pub there : i < length (take k l) → get_or (take k l) i 0 ≡ x → take k l ≡ inserted x (take k l)
-  there h e = sym (inserted-there x (take k l) i (record { less = λ j u. omega (arith, ascending-at (take k l) j i a u h); others = λ j u v. omega (arith, ascending-le (take k l) a i j u v) }) h e)
+  pub there : Spot x (take k l) i → (ltb i k && eqb (get_or l i 0) x) ≡ true → take k l ≡ inserted x (take k l)
+  there s t =
+      let u = ltb-true i k (and_l (ltb i k) (eqb (get_or l i 0) x) t) in
+      let e = eqb-true (get_or l i 0) x (and_r (ltb i k) (eqb (get_or l i 0) x) t) in
+      sym (inserted-there x (take k l) i s (omega (arith, short)) (get_or-take k l i 0 u ∙ e))
 
   -- x is stored where it belongs, once the others are moved up
-  pub stored : (l' : List ℕ) → length l' ≡ length l → ((j d : ℕ) → j < i + 1 → get_or l' j d ≡ get_or l j d) → ((j d : ℕ) → i + 1 ≤ j → j < i + 1 + (k - i) → get_or l' j d ≡ get_or l (i + (j - (i + 1))) d)
-      → i ≤ length (take k l) → ((j : ℕ) → j < i → get_or (take k l) j 0 < x) → ((j : ℕ) → i ≤ j → j < length (take k l) → x < get_or (take k l) j 0) → take (k + 1) (set l' i x) ≡ inserted x (take k l)
-  stored l' n kept moved h less more =
-      ext_get_or 0 _ _ same (λ j u. at j (omega (arith, size))) ∙ sym (inserted_new x (take k l) i (record { less = less; others = λ j u v. omega (arith, more j u v) }) h new)
+  pub stored : (l' : List ℕ) → length l' ≡ length l → Shifted l l' i k → Spot x (take k l) i → (ltb i k && eqb (get_or l i 0) x) ≡ false → take (k + 1) (set l' i x) ≡ inserted x (take k l)
+  stored l' e f s t = ext_get_or 0 _ _ same (λ j u. at j (omega (arith, size))) ∙ sym (inserted_new x (take k l) i s (omega (arith, short)) new)
     where
       new : i < length (take k l) → get_or (take k l) i 0 ≡ x → ⊥
-      new u q = omega (arith, more i (omega arith) u)
+      new u q =
+          let v : i < k = omega (arith, short) in
+          true≢false (sym (and-true (lt-ltb i k v) (eq-eqb (get_or l i 0) x (sym (get_or-take k l i 0 v) ∙ q))) ∙ t)
 
       size : length (take (k + 1) (set l' i x)) ≡ k + 1
       size = length-take-le (k + 1) (set l' i x) (omega (arith, length-set l' i x))
@@ -101,12 +107,23 @@ module _ (l : List ℕ) (k x i : ℕ) (long : k < length l) (a : Ascending (take
 
       go : (j : ℕ) → j < k + 1 → Dec (j ≡ i) → Dec (j < i) → get_or (set l' i x) j 0 ≡ get_or (insert_at i x (take k l)) j 0
       go j u (yes q) d = rw q (get_or-set_same l' i x 0 (omega arith) ∙ sym (get-insert i x (take k l) (omega (arith, short))))
-      go j u (no q) (yes d) = get_or-set_other l' i j x 0 q ∙ kept j 0 (omega arith) ∙ sym (insert-less i x (take k l) j d h ∙ get_or-take k l j 0 (omega (arith, short)))
+      go j u (no q) (yes d) = get_or-set_other l' i j x 0 q ∙ f.kept j d ∙ sym (insert-less i x (take k l) j d (omega (arith, short)) ∙ get_or-take k l j 0 (omega arith))
       go zero u (no q) (no d) = absurd (omega arith)
-      go (suc j) u (no q) (no d) = get_or-set_other l' i (suc j) x 0 q ∙ moved (suc j) 0 (omega arith) (omega (arith, short)) ∙ ap (λ n. get_or l n 0) back ∙ sym (insert-more i x (take k l) j (omega arith) (omega (arith, short)) ∙ get_or-take k l j 0 (omega arith))
+      go (suc j) u (no q) (no d) = get_or-set_other l' i (suc j) x 0 q ∙ f.moved (suc j) (omega arith) (omega arith) ∙ ap (λ n. get_or l n 0) back ∙ sym (insert-more i x (take k l) j (omega arith) (omega (arith, short)) ∙ get_or-take k l j 0 (omega arith))
         where
-          back : i + (suc j - (i + 1)) ≡ j
+          back : suc j - 1 ≡ j
           back = omega arith
 
       at : (j : ℕ) → j < k + 1 → get_or (take (k + 1) (set l' i x)) j 0 ≡ get_or (insert_at i x (take k l)) j 0
       at j u = get_or-take (k + 1) (set l' i x) j 0 u ∙ go j u (ℕ_discrete j i) (dec_lt j i)
+
+  -- whether the entry at place i is x, as insertion asks it
+  pub is-there : i < k → get_or (take k l) i 0 ≡ x → (ltb i k && eqb (get_or l i 0) x) ≡ true
+  is-there u e = and-true (lt-ltb i k u) (eq-eqb (get_or l i 0) x (sym (get_or-take k l i 0 u) ∙ e))
+
+  pub is-not : (i < k → x < get_or (take k l) i 0) → (ltb i k && eqb (get_or l i 0) x) ≡ false
+  is-not f = go (dec_lt i k)
+    where
+      go : Dec (i < k) → (ltb i k && eqb (get_or l i 0) x) ≡ false
+      go (yes u) = and-false (ltb i k) (ne_eqb (get_or l i 0) x (λ e. omega (arith, f u, get_or-take k l i 0 u)))
+      go (no n) = rw (le-ltb i k (omega arith))

@@ -1,6 +1,7 @@
 -- The fields of a line, by the places where they end.
 use Rattle.std.specs.Prelude.{◌≡◌, refl, Bool, true, false, List, [], ◌∷◌, ◌++◌, ℕ, zero, suc, ◌+◌, ◌-◌, ◌≤◌, ◌<◌, length, get_or, take, drop, eqb}
 use Rattle.std.proofs.Common.{ap, sym, ◌∙◌, add-one, arith, length-drop, drop_of_length-le, drop-cons, get_or-drop, drop-drop, eq-eqb, ne_eqb, eqb-true}
+use Rattle.std.proofs.Math.Decide.{dec_lt}
 use Rattle.std.proofs.lemmas.Bool.{eqb-false}
 use Rattle.lists.specs.Search.{any, member}
 use Rattle.lines.specs.Lines.{Line, malformed, front, fields, letter, others, bare}
@@ -36,6 +37,14 @@ cut l a e u h out blank =
           (λ k. get_or-drop a l (e - a) 0 ∙ ap (λ n. get_or l n 0) s ∙ blank (omega (arith, length-drop a l)))
           ∙ ap (λ r. take (e - a) (drop a l) ∷ after r) (drop-drop (e - a) a l ∙ ap (λ n. drop n l) s);
     }
+
+-- one byte more without a blank
+pub clear-more : (l : List ℕ) (a e : ℕ) → ((i : ℕ) → a ≤ i → i < e → get_or l i 0 ≡ 32 → ⊥) → (get_or l e 0 ≡ 32 → ⊥) → (i : ℕ) → a ≤ i → i < e + 1 → get_or l i 0 ≡ 32 → ⊥
+clear-more l a e f g i u h p = go (dec_lt i e)
+  where
+    go : Dec (i < e) → ⊥
+    go (yes k) = f i u k p
+    go (no k) = let q : i ≡ e = omega arith in g (rw q at p)
 
 -- behind a blank a field starts
 pub after-blank : (l : List ℕ) (k : ℕ) → k < length l → after (drop k l) ≡ fields (drop (k + 1) l)

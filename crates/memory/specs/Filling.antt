@@ -10,7 +10,7 @@ use Rattle.memory.specs.Tables.{tables_of, table_at, with_table, table-own}
 use Rattle.memory.specs.Stored.{table-with, table-again}
 
 -- one entry more
-fill-more : (a n v : ℕ) (f : ℕ → ℕ) → put (a + n) v (put_all a (replicate n v) f) ≡ put_all a (replicate (n + 1) v) f
+pub fill-more : (a n v : ℕ) (f : ℕ → ℕ) → put (a + n) v (put_all a (replicate n v) f) ≡ put_all a (replicate (n + 1) v) f
 fill-more a n v f =
     let e : length (replicate n v) ≡ n = length-replicate n v in
     rw (← replicate-append-replicate n 1 v) (ap (λ k. put (a + k) v (put_all a (replicate n v) f)) (sym e) ∙ put-more a (replicate n v) f v)

@@ -6,7 +6,7 @@ use Rattle.std.proofs.Math.Bool.{true, false}
 use Rattle.std.proofs.Math.Option.{none, some}
 use Rattle.std.proofs.Math.Dec.{leb}
 use borrow.Author.Tests.{eqb-true, ne_eqb, leb-true, ltb-true}
-use Rattle.lists.specs.Tests.{and_l, and-false}
+use Rattle.lists.specs.Tests.{and_l, and_r, and-false, between}
 use Rattle.lists.specs.Search.{is_none, member}
 use Rattle.lists.specs.Tables.{put, put-own}
 use Rattle.rules.specs.State as R
@@ -101,19 +101,22 @@ module _ (c : Client) (m : List ℕ) where
     pub usable : Usable c m
     pub shape : within (shape_of c.shape) ≡ true
     pub block : b < c.shape.n
+    pub some : 1 ≤ k
     pub size : length bs ≡ bytes_of (shape_of c.shape) k
     pub words : 2 ≤ length (words_of tape)
 
   pub request-passed : (k b : ℕ) (bs tape : List ℕ) → number (state_of c m) (call_of (request k b bs) m tape []) ≡ 0 → Asked k b bs tape
-  unfolding questions bounds
+  unfolding questions bounds is_kind between
   request-passed k b bs tape e =
       let y = accepted-passed (state_of c m) (call_of (request k b bs) m tape []) e in
-      let ready' = and_l (ready (state_of c m) (length m)) (is_kind k) y.0 in
+      let ready' = and_l (ready (state_of c m) (length m)) (leb 1 k && leb k 2) y.0 in
+      let kind = and_r (ready (state_of c m) (length m)) (leb 1 k && leb k 2) y.0 in
       let size = eqb-true (length bs) (bytes_of (state_of c m).shape k) y.1.1.1.0 in
       record {
         usable = usable c m ready';
         shape = shape-within ready';
         block = let l = ltb-true b (state_of c m).shape.N y.1.1.0 in rw shape_is at l;
+        some = leb-true 1 k (and_l (leb 1 k) (leb k 2) kind);
         size = rw shape_is at size;
         words = leb-true 2 (length (words_of tape)) (sym (draws-enough (c.shape.p ∷ c.shape.p ∷ []) (words_of tape) (straight c tape (shape-within ready'))) ∙ (rw shape_is at y.1.1.1.1.1.1.0));
       }

@@ -1,7 +1,7 @@
 -- The questions of a save, and the form that it hands out.
 use Rattle.std.specs.Prelude.{◌≡◌, Bool, ◌&&◌, List, [], ◌∷◌, ◌++◌, ℕ, ◌+◌, ◌-◌, ◌*◌, ◌≤◌, eqb, length, take, drop, if◌then◌else◌}
 use Rattle.std.proofs.Math.Path.{refl}
-use Rattle.std.proofs.Common.{ap, sym, ◌∙◌, true≢false, arith, drop-drop, eq-eqb, ne_eqb}
+use Rattle.std.proofs.Common.{ap, sym, ◌∙◌, true≢false, mul-le-mul, arith, drop-drop, eq-eqb, ne_eqb}
 use Rattle.std.proofs.Math.Bool.{true, false}
 use Rattle.std.proofs.Math.Option.{Option, none, some}
 use Rattle.std.proofs.Math.Decide.{ℕ_discrete}
@@ -31,6 +31,13 @@ RoomFor h = (h.n ≤ 4096) × (h.p ≤ 64) × (h.l ≤ 8) × (h.b ≤ 512) × (s
 -- the number by the first two questions
 unfoldable pub first_questions : State → ℕ → ℕ → ℕ
 first_questions s memory buffer = first_no ((ready s memory && leb (longest s.shape) buffer, 2) ∷ (at_rest s, 16) ∷ [])
+
+-- the two products of the longest form are small
+pub products-small : (h : Numbers) (x : ℕ) → RoomFor h → x ≡ slots h.l → (h.p * (x - 2) ≤ 32768) × ((7 + h.b) * h.n ≤ 2125824)
+products-small h x r e =
+    let stride : x - 2 ≤ 512 = omega (arith, r.4) in
+    let size : 7 + h.b ≤ 519 = omega (arith, r.3) in
+    (mul-le-mul r.1 stride, mul-le-mul size r.0)
 
 -- ---- At rest
 

@@ -2,6 +2,7 @@
 use Rattle.std.specs.Prelude.{◌≡◌, refl, Bool, true, false, Option, Some, None, IfSome, Result, Ok, Err, IfOk, OnErr, List, [], ◌∷◌, ◌++◌, ℕ, zero, suc, ◌+◌, ◌-◌, ◌*◌, ◌^◌, ◌≤◌, ◌<◌, length, take, drop, if◌then◌else◌}
 use Rattle.std.proofs.Common.{sym, ap, ◌∙◌, subst, arith, append_assoc, append-nil, take-append-drop, length-append, length-take-le, length-drop, true≢false, eq-eqb, eqb-true}
 use Rattle.std.proofs.lemmas.List.{take-append-le}
+use Rattle.std.proofs.Math.Seq.{take-nil}
 use Rattle.std.specs.Io.KnownBytes.{Appends, Consumes, Keeps, IsAtEnd}
 use Rattle.client.specs.View.{state_of}
 use Rattle.report.specs.Page.{shown}
@@ -156,6 +157,10 @@ module _ (host : List ℕ) (r : State) (memory out : List ℕ) (u u' w w' : Opti
       read = h.read;
       sent = (part.0, subst (λ t. Appends w w'' (take part.0 t)) page-is (appends-then w w' w'' [] _ h.sent part.1));
     }
+
+-- nothing of the answers was written
+pub page-unwritten : (host : List ℕ) (u u' w w' : Option (List ℕ)) → Broken host true u u' w w' → PageBroken host u u' w w'
+page-unwritten host u u' w w' b = record { input = b.input; rest = b.rest; read = b.read; sent = (0, subst (Appends w w') (take-nil b.sent.0) b.sent.1) }
 
 -- ---- The start, and a turn
 

@@ -17,9 +17,9 @@ use Rattle.session.specs.Answers.{kept, fresh, fresh_kept, Served}
 use Rattle.session.specs.TurnLine.{no_words}
 use Rattle.stream.specs.declared.State.{State}
 use Rattle.stream.specs.declared.Brought.TheVariants.{Whole, Part, TooLong}
-use Rattle.output.specs.Output.{total, holds-none}
+use Rattle.output.specs.Output.{out_room, total, total_most, holds-none}
 use Rattle.stream.specs.Stream.{line_room, Ready, Plain, Ended, Goes, Past, Buffers, buffers, Stays, Responds, Begun, Refilled}
-use Rattle.output.specs.Printed.{cut, printed}
+use Rattle.output.specs.Printed.{cut, printed, Due}
 use Rattle.output.specs.Paged.{paged, PageDue}
 use Rattle.stream.specs.History.{given, behind_text, Follows, coming, kept_in, waiting, History, Turned, Followed, Prints, Pages}
 use Rattle.stream.specs.Laws.{most, waits-behind}
@@ -233,7 +233,19 @@ history-start s chunk line b new tape going first len at gone = record {
   over = λ z. absurd (true≢false (sym z ∙ going));
 }
 
+-- what the buffer holds may be handed over
+pub history-due : (host past : List ℕ) (s : State) (chunk line : List ℕ) (b : Buffers) → History host past s chunk line b → s.output.at ≤ out_room → total s.output ≤ total_most → Due b.out s.output
+history-due host past s chunk line b h room count = record { room = room; count = count; host = host; input = past; holds = h.text }
+
+-- the session that is kept has the state that was left
+pub history-followed : (host past : List ℕ) (s : State) (chunk line : List ℕ) (b : Buffers) (quiet : Bool) → History host past s chunk line b → s.output.silent ≡ quiet → s.output.at ≤ out_room → total s.output ≤ total_most
+    → Followed host quiet s b.memory b.out
+history-followed host past s chunk line b quiet h silent room count = record { input = past; text = h.text; state = ap (λ (k : S.Session). k.state) (sym h.session); silent = silent; room = room; count = count }
+
 module _ (host : List ℕ) (quiet : Bool) (r : State) (memory out : List ℕ) (f : Followed host quiet r memory out) where
+  pub followed-due : Due out r.output
+  followed-due = record { room = f.room; count = f.count; host = host; input = f.input; holds = f.text }
+
   -- what left and what is in the buffer is all that was printed
   pub followed-prints : (n : ℕ) → n ≡ total r.output → Prints host n
   followed-prints n e = record { input = f.input; all = e ∙ sym f.text.all }

@@ -60,7 +60,9 @@ returns-then-not-numbers_fit c =
     no-ready a.c a.m.now (cmd a.kind a.partition a.level a.slot) a.bytes.now (ap (λ t. t && is_kind a.kind) (sym c.numbers_fit.ensures ∙ c.if-not-numbers_fit.true))
 
 pub find-found-requires : goal.find-found-requires
-find-found-requires c = begins c.args.c c.args.m.now (sym c.numbers_fit.ensures ∙ c.if-not-numbers_fit.false)
+find-found-requires c =
+    let b = begins c.args.c c.args.m.now (kind_number c.in-Ok.kind) (begun (goal.at.find-found-requires c).Else-not-numbers_fit) in
+    (b.0, b.1)
 
 pub returns-in_default-found : goal.returns-in_default-found
 returns-in_default-found c =
