@@ -12,14 +12,17 @@ use Rattle.lists.specs.Members.{nodup-keep, nodup-below}
 use Rattle.lists.specs.Search.{keep}
 use Rattle.lists.specs.Tests.{and_l}
 use Rattle.rules.specs.State.{State}
+use Rattle.rules.specs.Draws.{draws}
 use Rattle.rules.specs.Levels.{filled, top_level, down, written_levels}
 use Rattle.rules.specs.Jobs.{joined, top_of, levels_of, capacity, slot_count}
 use Rattle.rules.specs.Request.{is_front, is_source}
 use Rattle.rules.specs.Blocks.{blocks_in}
 use Rattle.rules.specs.Rebuild.{chosen, gather_from, gathered}
 use Rattle.rules.specs.Turn.{rebuild}
+use Rattle.rules.specs.Run.{taken_of}
 use Rattle.rules.specs.Questions.{possible}
 use Rattle.rules.proofs.Laws.Bits.{slots-capacity}
+use Rattle.rules.proofs.Laws.Drawn.{taken-lent}
 use Rattle.rules.proofs.Laws.Grown.{written-top, written-few}
 use Rattle.rules.specs.Laws.Decided.{Front}
 use Rattle.memory.specs.Fits.{shape_of}
@@ -145,3 +148,7 @@ room-yes s q l e h = le-leb (length (gathered s q)) (capacity (levels_of s q)) (
 pub room-no : (s : State) (q n r : ℕ) (l : List ℕ) → Gathers (gathered s q) n r l → n ≡ capacity (levels_of s q) → n < r → possible s (rebuild q (levels_of s q)) ≡ false
 unfolding possible
 room-no s q n r l g e h = lt-leb (length (gathered s q)) (capacity (levels_of s q)) (omega (arith, g.more h))
+
+-- draws take no more words than were lent: by this a test for fewer of them would be proved to answer no (must-fail/commands_and_words has a wrong one)
+pub words_lent : (ms ws : List ℕ) (n : ℕ) → taken_of (draws ms ws) ≡ n → length ws < n → ⊥
+words_lent ms ws n e l = omega (arith, e, l, taken-lent ms ws)
